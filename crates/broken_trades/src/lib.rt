@@ -1,0 +1,15 @@
+//! The match numbers of broken trades.
+//!
+//! A break removes every trade with its match number, wherever it stands in the file, so all that
+//! is kept of the breaks is the set of their numbers.
+#![tactic(auto)]
+
+pub mod breaks;
+
+pub use breaks::Breaks;
+
+/// Why a call refused: a growth found no memory.
+pub type OutOfMemory = std::alloc::AllocError;
+
+#[cfg(test)]
+mod tests;

@@ -1,0 +1,4 @@
+pub mod Laws
+pub mod Pieces
+pub mod Readings
+pub mod Walks

@@ -1,0 +1,170 @@
+-- The cursor's walk: one step of it, and that it reads the bytes.
+use Rattle.std.proofs.Common.{◌≡◌, ℕ, zero, suc, ◌+◌, ◌*◌, ◌/◌, ◌%◌, ◌<◌, ◌≤◌, ◌^◌, ◌&&◌, Bool, true, false, List, ◌⊎◌, [], ◌∷◌, ◌++◌, length, take, drop, slice_index, Option, Some, None, refl, sym, ap, ◌∙◌, subst, append_assoc, arith, length-drop, nat_le, if◌then◌else◌}
+use Rattle.std.specs.Option.{option_map_or}
+use Rattle.std.proofs.lemmas.Bool.{leb-true, le-leb}
+use Rattle.std.proofs.lemmas.List.{length-append, take-append-drop, length-take-le, get_or-drop}
+use Rattle.std.proofs.lemmas.List.Elements.{All-cons, All-nil}
+use Rattle.byteorder.specs.Endian.{big_number}
+use Rattle.day_file.specs.Frames.{PlacedBody, frame_of, spelling, StandAt, IsShort, IsStuck, StandsFor, IsTruncatedAt, IsWhole}
+use Rattle.day_file.specs.Walk.{first_length, walk}
+use Rattle.day_file.proofs.Readings.{IsReading, IsReading-whole, IsReading-truncated, same_reading, reading_ends, IsStuck-nil, length_told}
+
+-- ---- the first frame
+
+picked : (p q : Bool) (n size : ℕ) → (if p && q then Some n else None) ≡ Some size → (p ≡ true) × (q ≡ true) × (n ≡ size)
+picked true true n size e = (refl, refl, cc)
+picked true false n size e = absurd (cc)
+picked false q n size e = absurd (cc)
+
+-- where a whole frame stands, its length is in the first two bytes, and its body follows
+pub record HasFirst (bytes : List ℕ) (size : ℕ) : Type 0 where
+  pub told : big_number 2 (take 2 bytes) ≡ size
+  pub prefix : 2 ≤ length bytes
+  pub body : size ≤ length (drop 2 bytes)
+
+pub first_length-some : (bytes : List ℕ) (size : ℕ) → first_length bytes ≡ Some size → HasFirst bytes size
+first_length-some bytes size e =
+    let n = big_number 2 (take 2 bytes) in
+    let p = picked (nat_le 2 (length bytes)) (nat_le n (length (drop 2 bytes))) n size e in
+    record {
+      told = p.2;
+      prefix = leb-true _ _ p.0;
+      body = subst (λ k. k ≤ length (drop 2 bytes)) p.2 (leb-true _ _ p.1);
+    }
+
+picks : (p q : Bool) (n size : ℕ) → p ≡ true → q ≡ true → n ≡ size → (if p && q then Some n else None) ≡ Some size
+picks true true n size a b e = ap Some e
+picks true false n size a b e = absurd (cc)
+picks false q n size a b e = absurd (cc)
+
+pub first_length-is : (bytes : List ℕ) (size : ℕ) → HasFirst bytes size → first_length bytes ≡ Some size
+first_length-is bytes size h =
+    let n = big_number 2 (take 2 bytes) in
+    let after = drop 2 bytes in
+    picks (nat_le 2 (length bytes)) (nat_le n (length after)) n size (le-leb _ _ h.prefix) (le-leb _ _ (subst (λ k. k ≤ length after) (sym h.told) h.body)) h.told
+
+same_map_or : (f g : ℕ → List PlacedBody) (o : Option ℕ) → ((x : ℕ) → o ≡ Some x → f x ≡ g x) → option_map_or f o [] ≡ option_map_or g o []
+same_map_or f g None h = refl
+same_map_or f g (Some x) h = h x refl
+
+-- more steps than there are bytes find no more
+walk-enough : (m n place : ℕ) (bytes : List ℕ) → length bytes ≤ m → length bytes ≤ n → walk m place bytes ≡ walk n place bytes
+walk-enough zero zero place bytes p q = refl
+walk-enough zero (suc n) place [] p q = refl
+walk-enough zero (suc n) place (b ∷ bytes) p q = absurd (omega arith)
+walk-enough (suc m) zero place [] p q = refl
+walk-enough (suc m) zero place (b ∷ bytes) p q = absurd (omega arith)
+walk-enough (suc m) (suc n) place bytes p q =
+    same_map_or _ _ (first_length bytes) (λ size e.
+    let h = first_length-some bytes size e in
+    let after = drop 2 bytes in
+    let shorter : length (drop size after) + 2 ≤ length bytes = omega (arith, length-drop size after, length-drop 2 bytes, h.prefix) in
+    ap (λ later. record { place = place; body = take size after } ∷ later) (walk-enough m n (place + (2 + size)) (drop size after) (omega arith) (omega arith)))
+
+at_some : (f : ℕ → List PlacedBody) (o : Option ℕ) (x : ℕ) → o ≡ Some x → option_map_or f o [] ≡ f x
+at_some f o x e = ap (λ p. option_map_or f p []) e
+
+walk_step : (most place : ℕ) (bytes : List ℕ) (size : ℕ) → length bytes ≤ most → HasFirst bytes size →
+    walk most place bytes ≡ record { place = place; body = take size (drop 2 bytes) } ∷ walk (length (drop size (drop 2 bytes))) (place + (2 + size)) (drop size (drop 2 bytes))
+walk_step zero place bytes size p h = absurd (omega (arith, h.prefix))
+walk_step (suc most) place bytes size p h =
+    let after = drop 2 bytes in
+    at_some _ (first_length bytes) size (first_length-is bytes size h)
+    ∙ ap (λ later. record { place = place; body = take size after } ∷ later) (walk-enough most (length (drop size after)) (place + (2 + size)) (drop size after) (omega (arith, length-drop size after, length-drop 2 bytes, h.prefix)) (omega arith))
+
+-- the walk over bytes with a whole frame at their head
+pub walk_more : (place : ℕ) (bytes : List ℕ) (size : ℕ) → HasFirst bytes size →
+    walk (length bytes) place bytes ≡ record { place = place; body = take size (drop 2 bytes) } ∷ walk (length (drop size (drop 2 bytes))) (place + (2 + size)) (drop size (drop 2 bytes))
+walk_more place bytes size h = walk_step (length bytes) place bytes size (omega arith) h
+
+-- ---- what the walk reads
+
+-- each is a byte
+abbrev pub AreBytes : List ℕ → Type 0
+AreBytes bytes = (k : ℕ) → slice_index bytes k < 256
+
+two_bytes : (high low n : ℕ) → high < 256 → low < 256 → high * 256 + (low * 1 + 0) ≡ n → (high ≡ n / 256 % 256) × (low ≡ n % 256) × (n < 2 ^ 16)
+two_bytes high low n p q e = (omega arith, omega arith, omega arith)
+
+-- where the cursor finds a body, a frame stands
+frame_found : (bytes : List ℕ) (size : ℕ) → AreBytes bytes → HasFirst bytes size →
+    (bytes ≡ frame_of (take size (drop 2 bytes)) ++ drop size (drop 2 bytes)) × IsShort (take size (drop 2 bytes))
+frame_found [] size b h = absurd (omega (arith, h.prefix))
+frame_found (high ∷ []) size b h = absurd (omega (arith, h.prefix))
+frame_found (high ∷ low ∷ after) size b h =
+    let n : length (take size after) ≡ size = length-take-le size after h.body in
+    let p = two_bytes high low (length (take size after)) (b 0) (b 1) (h.told ∙ sym n) in
+    let rest : after ≡ take size after ++ drop size after = sym (take-append-drop size after) in
+    (λ i. p.0 i ∷ p.1 i ∷ rest i, p.2)
+
+-- where the cursor finds none, none stands
+stuck_at : (bytes : List ℕ) → first_length bytes ≡ None → IsStuck bytes
+stuck_at bytes none body rest h e =
+    let found : first_length bytes ≡ Some (length body) = ap first_length e ∙ first_length-is (frame_of body ++ rest) (length body) (record {
+      told = length_told body rest h;
+      prefix = omega arith;
+      body = omega (arith, length-append body rest);
+    }) in
+    absurd (cc)
+
+reading_more : (place next : ℕ) (bytes body after : List ℕ) (frames : List PlacedBody) (rest : List ℕ) → bytes ≡ frame_of body ++ after → IsShort body
+    → next ≡ place + length (frame_of body) → IsReading next after frames rest → IsReading place bytes (record { place = place; body = body } ∷ frames) rest
+reading_more place next bytes body after frames rest e h n r = record {
+  places = (refl, subst (λ q. StandAt q frames) n r.places);
+  short = All-cons (λ frame. IsShort frame.body) _ frames h r.short;
+  split = e ∙ ap (λ l. frame_of body ++ l) r.split ∙ sym (append_assoc (frame_of body) (spelling frames) rest);
+  stuck = r.stuck;
+}
+
+reads_by : (place : ℕ) (bytes : List ℕ) (f : ℕ → List PlacedBody) (o : Option ℕ) → first_length bytes ≡ o
+    → ((size : ℕ) → HasFirst bytes size → (rest : List ℕ) × IsReading place bytes (f size) rest)
+    → (rest : List ℕ) × IsReading place bytes (option_map_or f o []) rest
+reads_by place bytes f None e more = (bytes, record { places = tt; short = All-nil _; split = refl; stuck = stuck_at bytes e })
+reads_by place bytes f (Some size) e more = more size (first_length-some bytes size e)
+
+-- the walk over bytes reads them
+pub walk_reads : (most place : ℕ) (bytes : List ℕ) → length bytes ≤ most → AreBytes bytes → (rest : List ℕ) × IsReading place bytes (walk most place bytes) rest
+walk_reads zero place [] p b = ([], record { places = tt; short = All-nil _; split = refl; stuck = IsStuck-nil })
+walk_reads zero place (x ∷ xs) p b = absurd (omega arith)
+walk_reads (suc most) place bytes p b =
+    reads_by place bytes _ (first_length bytes) refl (λ size h.
+    let after = drop 2 bytes in
+    let left = drop size after in
+    let found = frame_found bytes size b h in
+    let fits : length left ≤ most = omega (arith, length-drop size after, length-drop 2 bytes, h.prefix) in
+    let n : length (take size after) ≡ size = length-take-le size after h.body in
+    let later = walk_reads most (place + (2 + size)) left fits (λ k. rw (get_or-drop size after k 0, get_or-drop 2 bytes (size + k) 0) (b (2 + (size + k)))) in
+    (later.0, reading_more place (place + (2 + size)) bytes (take size after) left _ later.0 found.0 found.1 (omega (arith, n)) later.1))
+
+-- one call of `next` that found a whole frame
+pub walk_next : (place size : ℕ) (bytes prefix after body rest : List ℕ) → 2 ≤ length bytes → prefix ≡ take 2 bytes → after ≡ drop 2 bytes
+    → size ≡ big_number 2 prefix → size ≤ length after → body ≡ take size after → rest ≡ drop size after → length body ≡ size
+    → walk (length bytes) place bytes ≡ record { place = place; body = body } ∷ walk (length rest) (place + (2 + length body)) rest
+walk_next place size bytes prefix after body rest two p a told fits b r n =
+    let first : HasFirst bytes size = record {
+      told = ap (big_number 2) (sym p) ∙ sym told;
+      prefix = two;
+      body = subst (λ l. size ≤ length l) a fits;
+    } in
+    let bodies : take size (drop 2 bytes) ≡ body = ap (take size) (sym a) ∙ sym b in
+    let rests : drop size (drop 2 bytes) ≡ rest = ap (drop size) (sym a) ∙ sym r in
+    walk_more place bytes size first ∙ (λ i. record { place = place; body = bodies i } ∷ walk (length (rests i)) (place + (2 + sym n i)) (rests i))
+
+-- ---- the walk over a whole file
+
+pub walk_whole : (bytes : List ℕ) (all : List PlacedBody) → AreBytes bytes → StandsFor all bytes → walk (length bytes) 0 bytes ≡ all
+walk_whole bytes all b s =
+    let r = walk_reads (length bytes) 0 bytes (omega arith) b in
+    (same_reading 0 bytes _ all r.0 [] r.1 (IsReading-whole bytes all s)).0
+
+pub walk_truncated : (bytes : List ℕ) (place : ℕ) → AreBytes bytes → IsTruncatedAt bytes place → StandsFor (walk (length bytes) 0 bytes) (take place bytes)
+walk_truncated bytes place b t =
+    let r = walk_reads (length bytes) 0 bytes (omega arith) b in
+    let e = (same_reading 0 bytes _ t.front.0 r.0 (drop place bytes) r.1 (IsReading-truncated bytes place t.front.0 t t.front.1)).0 in
+    subst (λ frames. StandsFor frames (take place bytes)) (sym e) t.front.1
+
+-- bytes are whole frames, or truncated at a place
+pub whole_or_truncated : (bytes : List ℕ) → AreBytes bytes → IsWhole bytes ⊎ ((place : ℕ) × IsTruncatedAt bytes place)
+whole_or_truncated bytes b =
+    let r = walk_reads (length bytes) 0 bytes (omega arith) b in
+    reading_ends bytes _ r.0 r.1

@@ -1,0 +1,4 @@
+pub mod Counted
+pub mod Frames
+pub mod Placed
+pub mod Walk

@@ -1,0 +1,29 @@
+//! A day file of TotalView-ITCH messages: its frames, and reading it from a source of bytes.
+//!
+//! In a day file each message stands after its length, two bytes, the high one first, which does
+//! not count itself. A length with its body is a frame, and so is a length of 0 alone.
+#![tactic(auto)]
+
+mod counted;
+mod day;
+mod frame;
+mod law;
+mod reading;
+mod source;
+#[cfg(test)]
+mod tests;
+mod truncated;
+
+pub use counted::Counted;
+pub use day::{DayFile, frames};
+pub use frame::{Frame, Frames, append_frame};
+pub use law::one_reading;
+pub use reading::{ReadFault, read_day};
+pub use source::{DeviceFailed, Source};
+pub use truncated::{Truncated, check};
+
+/// A refused growth, number 90.
+pub type OutOfMemory = std::alloc::AllocError;
+
+/// The most bytes that a day file has: 2 to the 36th.
+pub const LONGEST_FILE: u64 = 68_719_476_736;

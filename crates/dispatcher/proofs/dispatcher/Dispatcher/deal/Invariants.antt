@@ -1,0 +1,15 @@
+use Rattle.std.proofs.Common.{◌≡◌, [], All, length, map}
+use Rattle.std.specs.List.{range_with_len}
+use Rattle.dispatcher.specs.Rule.{view_from}
+use Rattle.dispatcher.specs.Seats.{identity, number, IsSeatOf, IsUnused}
+use Rattle.dispatcher.proofs.dispatcher.Dispatcher.deal.Given as goal
+
+abbrev pub invariant-loop-index : goal.invariant-loop-index
+invariant-loop-index g l = record {
+  rest_own : l.rest.table_id ≡ identity l.self;
+  rest : l.rest.me ≡ (view_from l.index l.self.seats, []);
+  count : length l.list.items ≡ l.index;
+  numbers : map number l.list.items ≡ range_with_len 0 l.index;
+  own : All (IsSeatOf l.self) l.list.items;
+  unused : All IsUnused l.list.items;
+}

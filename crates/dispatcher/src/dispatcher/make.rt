@@ -1,0 +1,79 @@
+//! A new dispatcher, and its seats.
+ghost use Rattle.std.specs.Prelude.{◌≡◌, ℕ, ◌+◌, ◌-◌, ◌<◌, ◌≤◌, [], All, length, map, IfOk};
+ghost use Rattle.std.specs.List.{range_with_len};
+ghost use Rattle.dispatcher.specs.Rule.{unused_view, everyone, view_from};
+ghost use Rattle.dispatcher.specs.Seats.{identity, tasks_of, seats_of, number, IsSeatOf, IsUnused};
+
+use super::Dispatcher;
+use crate::OutOfMemory;
+use crate::rule::{Deals, Size, View};
+use crate::seat::Seat;
+use atomic_table::Table;
+use std::alloc::Allocator;
+
+impl<A: Allocator + Clone> Dispatcher<A> {
+    /// A dispatcher of 1 to 4,096 tasks and its 1 to 256 seats, by number. Nothing is claimed or marked yet. Refused
+    /// where there is no memory for a word for each task and one more, or for the list of seats.
+    pub fn new(
+        alloc: A,
+        tasks: u32,
+        seats: u32,
+    ) -> Result<(Dispatcher<A>, Vec<Seat, A>), OutOfMemory>
+        requires tasks { (0 < tasks) × (tasks ≤ 4096) }
+        requires seats { (0 < seats) × (seats ≤ 256) }
+        ensures tasks { IfOk result (λ r. tasks_of r.0 ≡ tasks) }
+        ensures seats { IfOk result (λ r. seats_of r.0 ≡ seats) }
+        ensures count { IfOk result (λ r. length r.1.items ≡ seats) }
+        ensures numbers { IfOk result (λ r. map number r.1.items ≡ range_with_len 0 seats) }
+        ensures own { IfOk result (λ r. All (IsSeatOf r.0) r.1.items) }
+        ensures unused { IfOk result (λ r. All IsUnused r.1.items) }
+    {
+        let words = vec![in alloc.clone()?; 0u64; tasks as usize + 1]?;
+        let size = Size { tasks, seats };
+        let (table, everyone) = Table::of_words(alloc.clone()?, words.as_slice(), &size)?;
+        let dispatcher = Dispatcher {
+            table,
+            tasks,
+            seats,
+            alloc: alloc.clone()?,
+        };
+        let list = dispatcher.deal(alloc, everyone)?;
+        Ok((dispatcher, list))
+    }
+
+    // The seat that stands for everyone gives each number to a seat of its own.
+    fn deal(
+        &self,
+        alloc: A,
+        mut rest: atomic_table::Seat<(), View>,
+    ) -> Result<Vec<Seat, A>, OutOfMemory>
+        requires own { rest.table_id ≡ identity self.now }
+        requires everyone { rest.me ≡ (unused_view (range_with_len 0 (seats_of self.now)), []) }
+        ensures count { IfOk result (λ list. length list.items ≡ seats_of self.now) }
+        ensures numbers { IfOk result (λ list.
+            map number list.items ≡ range_with_len 0 (seats_of self.now)) }
+        ensures own { IfOk result (λ list. All (IsSeatOf self.now) list.items) }
+        ensures unused { IfOk result (λ list. All IsUnused list.items) }
+    {
+        let mut list = Vec::new(alloc);
+        for index in 0..self.seats {
+            let seat = self.next_seat(&mut rest, index);
+            list.push(seat)?;
+        }
+        Ok(list)
+    }
+
+    fn next_seat(&self, rest: &mut atomic_table::Seat<(), View>, index: u32) -> Seat
+        requires own { rest.old.table_id ≡ identity self.now }
+        requires index { index < seats_of self.now }
+        requires rest { rest.old.me ≡ (view_from index (seats_of self.now), []) }
+        ensures rest_own { rest.new.table_id ≡ identity self.now }
+        ensures rest { rest.new.me ≡ (view_from (index + 1) (seats_of self.now), []) }
+        ensures own { IsSeatOf self.now result }
+        ensures number { number result ≡ index }
+        ensures unused { IsUnused result }
+    {
+        let inner = self.table.shared.split_seat::<Deals>(rest);
+        Seat { inner }
+    }
+}

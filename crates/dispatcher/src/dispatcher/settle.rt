@@ -1,0 +1,97 @@
+//! The end of a dispatcher: what all its seats did.
+ghost use Rattle.std.specs.Prelude.{◌≡◌, ℕ, ◌+◌, ◌*◌, ◌<◌, ◌≤◌, ◌==◌, ◌↔◌, [], length, false, All, IsPermutation, slice_index, slice_index_or, vec_len, IfOk, IfErr, IsTrue};
+ghost use Rattle.std.specs.List.{range_with_len};
+ghost use Rattle.std.specs.Mem.Slots.{slots_items, slots_len, IsFull};
+ghost use Rattle.dispatcher.specs.Seats.{identity, tasks_of, seats_of, home, all_claims, IsSeatOf, GivenAtMostTwice, flag_of, SomeMarked, SomeSaw, HasAllBut};
+
+use super::Dispatcher;
+use crate::OutOfMemory;
+use crate::rule::{EachOnce, Gathers, Size, View};
+use crate::seat::Seat;
+use crate::tally::{Marks, SettleRefused, Tally};
+use atomic_table::{Closed, Shared};
+use std::alloc::Allocator;
+
+impl<A: Allocator + Clone> Dispatcher<A> {
+    /// Ends the dispatcher, with all its seats in any order. It takes memory for the marks first, a byte a task, and is
+    /// refused where there is none, before anything changed.
+    pub fn settle(self, seats: Vec<Seat, A>) -> Result<Tally<A>, SettleRefused<A>>
+        requires own { All (IsSeatOf self) seats.items }
+        requires all { length seats.items ≡ seats_of self }
+
+        // The claims of the seats together are the numbers from 0 on, each once.
+        ensures claims { IfOk result (λ t.
+            IsPermutation (all_claims seats.items) (range_with_len 0 t.claims)) }
+        ensures few { IfOk result (λ t. t.claims ≤ 2 * tasks_of self + seats_of self) }
+        ensures twice { IfOk result (λ _. GivenAtMostTwice (tasks_of self) seats.items) }
+
+        // A flag for each task, which is set exactly where some seat marked the task.
+        ensures flags { IfOk result (λ t. length t.marks ≡ tasks_of self) }
+        ensures marks { IfOk result (λ t. (task : ℕ)
+            → IsTrue (flag_of t.marks task) ↔ SomeMarked seats.items task) }
+        ensures seen { IfOk result (λ t. (task : ℕ)
+            → SomeSaw seats.items task → IsTrue (flag_of t.marks task)) }
+
+        ensures dispatcher_back { IfErr result (λ r. r.dispatcher ≡ self) }
+        ensures seats_back { IfErr result (λ r. r.seats ≡ seats) }
+    {
+        let Ok(mut flags) = unmarked(&self.alloc, self.tasks) else {
+            return Err(SettleRefused {
+                dispatcher: self,
+                seats,
+            });
+        };
+        let Dispatcher {
+            table,
+            tasks: _,
+            seats: _,
+            alloc: _,
+        } = self;
+        let all = gather(&table.shared, seats);
+        let closed = table.close_with(all);
+        let count = closed.word(0);
+        read_marks(&closed, &mut flags);
+        closed.free();
+        Ok(Tally {
+            claims: count,
+            marks: Marks { flags },
+        })
+    }
+}
+
+fn unmarked<A: Allocator + Clone>(alloc: &A, tasks: u32) -> Result<Vec<bool, A>, OutOfMemory>
+    ensures { IfOk result (λ flags. length flags.items ≡ tasks) }
+{
+    vec![in alloc.clone()?; false; tasks as usize]
+}
+
+// One seat that stands for all.
+fn gather<A: Allocator>(
+    shared: &Shared<(), View, Size, EachOnce>,
+    mut seats: Vec<Seat, A>,
+) -> atomic_table::Seat<(), View>
+    requires own { All (λ s. home s ≡ shared.now.table_id) seats.items }
+    requires some { (0 < length seats.items) × (0 < shared.now.table_id.words) }
+    ensures own { (result.table_id ≡ shared.now.table_id) × (result.me.1 ≡ []) }
+    ensures all { HasAllBut result.me.0 [] seats.items }
+{
+    let Seat { inner: mut all } = seats.pop().unwrap();
+    while let Some(seat) = seats.pop() {
+        let Seat { inner } = seat;
+        shared.join_seat::<Gathers>(&mut all, inner);
+    }
+    all
+}
+
+fn read_marks<A: Allocator>(closed: &Closed<(), A>, flags: &mut Vec<bool, A>)
+    requires full { IsFull closed.now.words }
+    requires words { slots_len closed.now.words ≡ vec_len flags.old + 1 }
+    ensures len { length flags.new.items ≡ length flags.old.items }
+    ensures flags { (t : ℕ) → t < length flags.old.items
+        → slice_index_or flags.new.items t false
+        ≡ (slice_index (slots_items closed.now.words) (t + 1) == 1) }
+{
+    for task in 0..flags.len() {
+        flags[task] = closed.word(task + 1) == 1;
+    }
+}

@@ -1,0 +1,28 @@
+use Rattle.std.proofs.Common.{◌≡◌, ◌∷◌, ◌++◌, refl, sym, ap, ◌∙◌, subst}
+use Rattle.std.specs.List.Sorted.{IsStrictlySortedBy}
+use Rattle.std.specs.Ordering.{nat_cmp}
+use Rattle.day_file.specs.Frames.{PlacedBody}
+use Rattle.day_file.specs.Placed.{placed_body}
+use Rattle.day_file.proofs.Laws.{places_rise}
+use Rattle.executor.specs.Messages.{first_wrong}
+use Rattle.executor.specs.Rows.{Adds}
+use Rattle.executor.specs.declared.answer.DayFault.TheVariants.{WrongLength}
+use Rattle.executor.proofs.Collecting.{collects, right_length, wrong_first}
+use Rattle.executor.proofs.answering.collect.Goals as goal
+
+pub loop-frame-preserved : goal.loop-frame-preserved
+loop-frame-preserved g c =
+    let adds = subst (λ message. Adds c.in-Some.frame.place message c.loop-frame.rows c.add.new.self) c.in-Ok.ensures.message c.in_ok-add-in-Ok.ensures.adds in
+    collects c.into_iter-frame-iterator.result c.loop-frame.frame-iterator (placed_body c.in-Some.frame) c.next.new.self c.loop-frame.rows c.add.new.self
+    c.loop-frame.invariant c.in-Some.ensures.steps (right_length _ c.in-Ok.ensures.fault.1) adds (c.in_ok-add-in-Ok.ensures.fit c.loop-frame.invariant.fit)
+
+pub returns-in-Err : goal.returns-in-Err
+returns-in-Err g c all stands =
+    let whole = c.frames-frame-items.ensures.whole all stands in
+    let started = c.into_iter-frame-iterator.ensures.into_iter_gives in
+    let begun : all ≡ c.into_iter-frame-iterator.result = cc in
+    let split : all ≡ c.loop-frame.invariant.front ++ placed_body c.in-Some.frame ∷ c.next.new.self =
+    begun ∙ c.loop-frame.invariant.split ∙ ap (λ l. c.loop-frame.invariant.front ++ l) c.in-Some.ensures.steps in
+    let rise = subst (IsStrictlySortedBy (λ (a b : PlacedBody). nat_cmp a.place b.place)) split (places_rise 0 all stands.places) in
+    let first = wrong_first c.loop-frame.invariant.front (placed_body c.in-Some.frame) c.next.new.self c.loop-frame.invariant.none (c.in-Err.ensures.fault.0 refl) rise in
+    (placed_body c.in-Some.frame, ap first_wrong split ∙ first, ap (λ f. WrongLength c.in-Some.frame.place f.kind f.length f.wanted) c.in-Err.ensures.told)

@@ -1,0 +1,6 @@
+pub mod Messages
+pub mod Answers
+pub mod Words
+pub mod Runs
+pub mod Rows
+pub mod Steps

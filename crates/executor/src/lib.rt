@@ -1,0 +1,22 @@
+//! Answers a query over a whole day file: the text that it asks for, or the file's one fault.
+#![tactic(auto)]
+
+mod answer;
+mod answering;
+mod query;
+mod rows;
+mod running;
+mod settings;
+mod sink;
+
+pub use answer::{Answer, DayFault, Text};
+pub use day_file::{Counted, DayFile, DeviceFailed, LONGEST_FILE, Source};
+pub use answering::plain;
+pub use query::{Query, QueryFault, What, parse};
+pub use running::{RunFault, run};
+pub use settings::{Crew, Settings};
+pub use sink::{CountedSink, Sink, WriteFailed, deliver};
+
+/// A growth was refused.
+pub type OutOfMemory = std::alloc::AllocError;
+

@@ -1,0 +1,58 @@
+-- What contracts see of a piece and of a gathering.
+use Rattle.std.specs.Prelude.{◌≡◌, ℕ, ◌<◌, List, Bool, true, false, Option, Some, None, length, slice_get, refl}
+use Rattle.std.specs.Ordering.{nat_cmp}
+use Rattle.std.specs.FinSet.{FinSet, contains}
+use Rattle.std.specs.FinSet as set
+use Rattle.std.specs.Coded.{Coded, code_by, coded×, coded_ℕ, coded_list}
+
+-- the number of a task, and the input that it was run on
+pub record PieceView (A : Type 0) : Type 0 where
+  pub number : ℕ
+  pub input : A
+
+-- the inputs of all tasks, in order, and the tasks that are covered
+pub record GatheringView (A : Type 0) : Type 0 where
+  pub inputs : List A
+  pub covered : FinSet nat_cmp
+
+module _ {A : Type 0} where
+  abbrev pub piece_code : Coded A → Coded (PieceView A)
+  piece_code a =
+      code_by
+      (ℕ × A)
+      (coded× coded_ℕ a)
+      (λ p. (p.number, p.input))
+      (λ q. record { number = q.0; input = q.1 })
+      (λ _. refl)
+
+  abbrev pub gathering_code : Coded A → Coded (GatheringView A)
+  gathering_code a =
+      code_by
+      (List A × FinSet nat_cmp)
+      (coded× (coded_list a) (set.code coded_ℕ))
+      (λ g. (g.inputs, g.covered))
+      (λ q. record { inputs = q.0; covered = q.1 })
+      (λ _. refl)
+
+  -- the input is equal to the one that is there
+  abbrev pub is_equal_to : (A → A → Bool) → A → Option A → Bool
+  is_equal_to eq input None = false
+  is_equal_to eq input (Some own) = eq input own
+
+  -- the piece was run on an input equal to the one that the list has at its number
+  abbrev pub belongs : (A → A → Bool) → List A → PieceView A → Bool
+  belongs eq inputs piece = is_equal_to eq piece.input (slice_get inputs piece.number)
+
+  -- each task is covered
+  abbrev pub IsComplete : GatheringView A → Type 0
+  IsComplete g = (t : ℕ) → t < length g.inputs → contains g.covered t ≡ true
+
+  -- the least task that is not covered
+  pub record IsFirstMissing (g : GatheringView A) (t : ℕ) : Type 0 where
+    pub in_range : t < length g.inputs
+    pub missing : contains g.covered t ≡ false
+    pub least : (u : ℕ) → u < t → contains g.covered u ≡ true
+
+  -- what merging leaves: the inputs of the first, and the tasks that either covers
+  abbrev pub merged : GatheringView A → GatheringView A → GatheringView A
+  merged a b = record { inputs = a.inputs; covered = set.union a.covered b.covered }

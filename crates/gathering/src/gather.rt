@@ -1,0 +1,200 @@
+//! The pieces of some tasks, and their total.
+ghost use Rattle.std.specs.Prelude.{◌≡◌, ◌↔◌, ◌<◌, ℕ, Bool, true, false, List, IsTrue, IsErr, IfOk, IfErr, OnOk, OnErr, MatchOption, length, get_or, is_some, None, if◌then◌else◌};
+ghost use Rattle.std.specs.Arc.{arc_value};
+ghost use Rattle.std.specs.FinSet as set;
+ghost use Rattle.gathering.specs.Adding.{same_inputs};
+ghost use Rattle.gathering.specs.Kept.{IsKept};
+ghost use Rattle.gathering.specs.Refused.{IsRefusedFor, handed_back};
+ghost use Rattle.gathering.specs.Views.{belongs, merged, IsComplete, IsFirstMissing};
+
+use crate::inputs::Inputs;
+use crate::piece::Piece;
+use crate::places::{empty_places, first_empty, unite};
+use crate::work::{OutOfMemory, Work};
+use std::alloc::Global;
+use std::marker::Model;
+use std::sync::Arc;
+
+/// The pieces of some tasks of a list of inputs, in whatever order they came.
+///
+/// Contracts see the inputs and the set of the tasks that are covered.
+#[derive(Drop)]
+pub struct Gathering<W: Work> {
+    alloc: Global,
+    inputs: Arc<Inputs<W>, Global>,
+    places: Vec<Option<Piece<W>>>,
+}
+
+impl<W: Work> Model for Gathering<W> {
+    ghost use Rattle.std.specs.Arc.{arc_value};
+    ghost use Rattle.gathering.specs.Views.{GatheringView, gathering_code};
+    ghost use Rattle.gathering.specs.Kept.{filled, IsKept};
+
+    ghost Value = { GatheringView W.Input };
+
+    ghost coded = { gathering_code W.Input.code };
+
+    ghost view = { λ a. record { inputs = arc_value a.inputs; covered = filled a.places.items } };
+
+    ghost invariant = { λ a. IsKept W.Input.eq (arc_value a.inputs) a.places.items };
+}
+
+/// How a piece was filed.
+#[derive(Clone, Copy, Debug, PartialEq, Eq)]
+pub enum Filed {
+    /// Its task was not covered before.
+    New,
+    /// Its task was covered before, and the piece was dropped.
+    Again,
+}
+
+/// A piece of other work, refused by `file` (30).
+#[derive(Drop)]
+pub struct Stranger<W: Work> {
+    pub piece: Piece<W>,
+}
+
+/// A gathering over other inputs, refused by `merge` (31).
+#[derive(Drop)]
+pub struct OtherInputs<W: Work> {
+    pub other: Gathering<W>,
+}
+
+/// Why there is no total.
+#[derive(Drop)]
+pub enum TotalRefused<W: Work> {
+    /// A task is missing (32).
+    Missing { gathering: Gathering<W> },
+    /// No task is missing, and a growth was refused (90).
+    Memory { gathering: Gathering<W> },
+}
+
+impl<W: Work> Gathering<W> {
+    /// No task is covered, and there is room for each piece: filing and merging take no memory.
+    pub fn new(alloc: Global, inputs: Arc<Inputs<W>, Global>) -> Result<Self, OutOfMemory>
+        ensures inputs { IfOk result (λ made. made.inputs ≡ arc_value inputs) }
+        ensures covered { IfOk result (λ made. made.covered ≡ set.empty) }
+    {
+        let count = inputs.count();
+        let places = empty_places(alloc, count)?;
+        Ok(Gathering {
+            alloc,
+            inputs,
+            places,
+        })
+    }
+
+    /// Keeps a piece whose task is not covered yet, and drops one whose task is.
+    ///
+    /// A piece is refused where its number is not below the count of inputs, or where the input that it was run on is
+    /// not equal to the one of that number. It is handed back.
+    pub fn file(&mut self, piece: Piece<W>) -> Result<Filed, Stranger<W>>
+        ensures stranger { IsErr result ↔ (belongs W.Input.eq self.old.inputs piece ≡ false) }
+        ensures handed_back { IfErr result (λ stranger. stranger.piece ≡ piece) }
+        ensures filed { IfOk result (λ filed. filed
+            ≡ (if set.contains self.old.covered piece.number then Filed.Again else Filed.New)) }
+        ensures again { set.contains self.old.covered piece.number ≡ true
+            → self.new.covered ≡ self.old.covered }
+        ensures covered { OnOk result (self.new.covered ≡ set.insert self.old.covered piece.number) }
+        ensures inputs { self.new.inputs ≡ self.old.inputs }
+        ensures err { OnErr result (self.new ≡ self.old) }
+    {
+        if !is_own(&self.inputs, &piece) {
+            return Err(Stranger { piece });
+        }
+        let number = piece.number();
+        if self.covers(number) {
+            return Ok(Filed::Again);
+        }
+        self.places[number as usize] = Some(piece);
+        Ok(Filed::New)
+    }
+
+    /// Covers from now on what either covers.
+    ///
+    /// The other is refused where its inputs are not as many as these and equal to them, one by one. It is handed back.
+    pub fn merge(&mut self, other: Gathering<W>) -> Result<(), OtherInputs<W>>
+        ensures other_inputs { IsErr result
+            ↔ (same_inputs W.Input.eq self.old.inputs other.inputs ≡ false) }
+        ensures handed_back { IfErr result (λ refused. refused.other ≡ other) }
+        ensures merged { OnOk result (self.new ≡ merged self.old other) }
+        ensures inputs { self.new.inputs ≡ self.old.inputs }
+        ensures err { OnErr result (self.new ≡ self.old) }
+    {
+        if !self.inputs.same(&other.inputs) {
+            return Err(OtherInputs { other });
+        }
+        let Gathering {
+            alloc: _,
+            inputs,
+            places,
+        } = other;
+        drop(inputs);
+        unite(&mut self.places, places);
+        Ok(())
+    }
+
+    /// Whether a task is covered; false past the last task.
+    pub fn covers(&self, task: u32) -> bool
+        ensures covered { result ≡ set.contains self.now.covered task }
+        ensures in_range { IsTrue result → task < length self.now.inputs }
+    {
+        let at = task as usize;
+        at < self.places.len() && self.places[at].is_some()
+    }
+
+    /// The least task that is not covered.
+    pub fn first_missing(&self) -> Option<u32>
+        ensures { MatchOption result (IsComplete self.now) (λ task. IsFirstMissing self.now task) }
+    {
+        first_empty(&self.places, self.inputs.count())
+    }
+
+    /// The total of all inputs, in order. It adds what the pieces brought, and runs no task.
+    ///
+    /// It is refused where a task is missing, or else a growth was refused. The gathering is handed back.
+    pub fn total(self) -> Result<W::Total, TotalRefused<W>>
+        ensures complete { OnOk result (IsComplete self) }
+        ensures total { IfOk result (λ total. total ≡ W.total_of self.inputs) }
+        ensures refused { IfErr result (λ refused. IsRefusedFor self refused) }
+        ensures handed_back { IfErr result (λ refused. handed_back refused ≡ self) }
+    {
+        if self.first_missing().is_some() {
+            return Err(TotalRefused::Missing { gathering: self });
+        }
+        match add_up(self.alloc, &self.inputs, &self.places) {
+            Ok(total) => Ok(total),
+            Err(_) => Err(TotalRefused::Memory { gathering: self }),
+        }
+    }
+}
+
+/// Whether the piece was run on an input equal to the one of its number.
+fn is_own<W: Work>(inputs: &Inputs<W>, piece: &Piece<W>) -> bool
+    ensures own { result ≡ belongs W.Input.eq inputs.now piece.now }
+    ensures in_range { result ≡ true → piece.now.number < length inputs.now }
+{
+    let number = piece.number();
+    number < inputs.count() && **piece.input() == **inputs.input(number)
+}
+
+/// Adds the outputs of all pieces in order.
+fn add_up<W: Work>(
+    alloc: Global,
+    inputs: &Inputs<W>,
+    places: &Vec<Option<Piece<W>>>,
+) -> Result<W::Total, OutOfMemory>
+    requires kept { IsKept W.Input.eq inputs.now places.now.items }
+    requires complete { (k : ℕ) → k < length places.now.items
+        → is_some (get_or places.now.items k None) ≡ true }
+    ensures { IfOk result (λ total. total ≡ W.total_of inputs.now) }
+{
+    let mut total = W::empty(alloc);
+    for number in 0..inputs.count() {
+        let Some(piece) = &places[number as usize] else {
+            unreachable!()
+        };
+        W::add(&mut total, piece.output())?;
+    }
+    Ok(total)
+}

@@ -1,0 +1,37 @@
+//! Laws of merging and of equal inputs. Each is the contract of a function that does nothing.
+ghost use Rattle.std.specs.Prelude.{◌≡◌, ℕ, List, true, Some, map, slice_get};
+ghost use Rattle.gathering.specs.Adding.{same_inputs};
+ghost use Rattle.gathering.specs.Laws.{AreAlike};
+ghost use Rattle.gathering.specs.Views.{GatheringView, IsFirstMissing, belongs, merged};
+
+use crate::work::Work;
+
+/// Merging is commutative, associative and idempotent, over what `merge` leaves.
+///
+/// Where inputs are equal and not identical, what is left in either order is alike: equal inputs one by one, the same
+/// tasks covered, and so one total and one first missing task.
+pub fn merge_is_a_join<W: Work>()
+    ensures commutative { (a b : GatheringView W.Input) → a.inputs ≡ b.inputs
+        → merged a b ≡ merged b a }
+    ensures associative { (a b c : GatheringView W.Input)
+        → merged (merged a b) c ≡ merged a (merged b c) }
+    ensures idempotent { (a : GatheringView W.Input) → merged a a ≡ a }
+
+    ensures either_order { (a b : GatheringView W.Input)
+        → same_inputs W.Input.eq a.inputs b.inputs ≡ true
+        → AreAlike W.Input.eq (merged a b) (merged b a) }
+    ensures one_total { (a b : GatheringView W.Input) → AreAlike W.Input.eq a b
+        → W.total_of a.inputs ≡ W.total_of b.inputs }
+    ensures one_first_missing { (a b : GatheringView W.Input) (t u : ℕ) → AreAlike W.Input.eq a b
+        → IsFirstMissing a t → IsFirstMissing b u → t ≡ u }
+{}
+
+/// A list of inputs is the same as itself, its own pieces belong to it, and equal inputs have equal values.
+pub fn own_inputs_belong<W: Work>()
+    ensures itself { (xs : List W.Input) → same_inputs W.Input.eq xs xs ≡ true }
+    ensures own { (xs : List W.Input) (number : ℕ) (input : W.Input)
+        → slice_get xs number ≡ Some input
+        → belongs W.Input.eq xs (record { number = number; input = input }) ≡ true }
+    ensures values { (xs ys : List W.Input) → same_inputs W.Input.eq xs ys ≡ true
+        → map W.value_of xs ≡ map W.value_of ys }
+{}

@@ -1,0 +1,52 @@
+//! Places that hold something or nothing.
+ghost use Rattle.std.specs.Prelude.{◌≡◌, ◌<◌, ◌≤◌, ℕ, true, List, IfOk, MatchOption, length, get_or, is_some, replicate, None};
+ghost use Rattle.gathering.specs.Kept.{either};
+
+use crate::work::OutOfMemory;
+use std::alloc::Global;
+
+/// As many places as asked, all empty.
+pub(crate) fn empty_places<T: Drop>(
+    alloc: Global,
+    count: u32,
+) -> Result<Vec<Option<T>>, OutOfMemory>
+    ensures { IfOk result (λ places. places.items ≡ replicate count None) }
+{
+    let mut places = Vec::with_capacity(alloc, count as usize)?;
+    for made in 0..count {
+        places.push(None)?;
+    }
+    Ok(places)
+}
+
+/// The first place that is empty.
+pub(crate) fn first_empty<T>(places: &Vec<Option<T>>, count: u32) -> Option<u32>
+    requires { length places.now.items ≡ count }
+    ensures { MatchOption result
+        ((k : ℕ) → k < length places.now.items → is_some (get_or places.now.items k None) ≡ true)
+        (λ at. (at < length places.now.items)
+        × (get_or places.now.items at None ≡ None)
+        × ((k : ℕ) → k < at → is_some (get_or places.now.items k None) ≡ true)) }
+{
+    for at in 0..count {
+        if places[at as usize].is_none() {
+            return Some(at);
+        }
+    }
+    None
+}
+
+/// Moves what the others hold into the places that are empty.
+pub(crate) fn unite<T: Drop>(own: &mut Vec<Option<T>>, mut others: Vec<Option<T>>)
+    requires { length own.old.items ≡ length others.items }
+    ensures count { length own.new.items ≡ length own.old.items }
+    ensures places { (k : ℕ) → get_or own.new.items k None
+        ≡ either (get_or own.old.items k None) (get_or others.items k None) }
+{
+    while let Some(other) = others.pop() {
+        let at = others.len();
+        if own[at].is_none() {
+            own[at] = other;
+        }
+    }
+}

@@ -1,0 +1,28 @@
+-- The program's status, and what it does to its devices.
+use Rattle.std.specs.Prelude.{◌≡◌, ℕ, List, Result, Ok, Err, string_bytes}
+use Rattle.executor.specs.Runs.{Ran}
+use Rattle.executor.specs.declared.running.RunFault.{RunFault}
+use Rattle.executor.specs.declared.running.RunFault.TheVariants as fault
+use Rattle.itch_bars.specs.declared.words.Job.{Job}
+
+-- a fault's status
+abbrev pub status_of : RunFault → ℕ
+status_of (fault.Query f) = 2
+status_of fault.ReadFailed = 4
+status_of (fault.TooLong most) = 1
+status_of (fault.Day f) = 1
+status_of (fault.WriteFailed written) = 5
+status_of fault.OutOfMemory = 3
+
+-- an outcome's status
+abbrev pub status_of_outcome : Result (Unit {0}) RunFault → ℕ
+status_of_outcome (Ok done) = 0
+status_of_outcome (Err f) = status_of f
+
+-- the job did to its source and its output what a run of its query does, and this is the status of that
+abbrev pub Did : {S K : Type 0} → (S → S → List ℕ → Type 0) → (S → Type 0) → (K → K → List ℕ → Type 0)
+    → Job → S → S → K → K → ℕ → Type 0
+Did Gave HasEnded Took job before after empty full status =
+    (outcome : Result (Unit {0}) RunFault)
+    × Ran Gave HasEnded Took (string_bytes job.query) job.settings.limit before after empty full outcome
+    × (status ≡ status_of_outcome outcome)

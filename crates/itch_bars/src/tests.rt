@@ -1,0 +1,153 @@
+//! The program's words, statuses and lines.
+use crate::words::{Job, WordsFault, command};
+use crate::work::perform;
+use executor::{Counted, CountedSink, Crew, LONGEST_FILE, Settings};
+use std::alloc::Global;
+use std::process::Abort;
+use std::test::Fail;
+
+/// A directory, an add order and its execution.
+static DAY: &[u8] = b"\x00'R\x00\x07\x00\x00\x00\x00\x00\x00\x00\x00MSFT                        \
+\x00$A\x00\x07\x00\x00\x1f\x1a\xce\xd9\xf0\x00\x00\x00\x00\x00\x00\x00\x00\x01B\x00\x00\x00dMSFT    \x00>\xa3(\
+\x00\x1fE\x00\x07\x00\x00\x1f\x1b\x0at\xba\x05\x00\x00\x00\x00\x00\x00\x00\x01\x00\x00\x00(\x00\x00\x00\x00\x00\x00\x00\x09";
+
+/// A directory, an add order, an empty message, one that is not read, and an add order that lacks its
+/// last byte.
+static SHORT_ADD: &[u8] =
+    b"\x00'R\x00\x07\x00\x00\x00\x00\x00\x00\x00\x00MSFT                        \x00$A\x00\x07\x00\x00\x1f\x1a\xce\xd9\xf0\x00\x00\x00\x00\x00\x00\x00\x00\x01B\x00\x00\x00dMSFT    \x00>\xa3(\x00\x00\x00\x01Z\x00#A\x00\x07\x00\x00\x1f\x1a\xce\xd9\xf0\x00\x00\x00\x00\x00\x00\x00\x00\x01B\x00\x00\x00dMSFT    \x00>\xa3";
+
+/// The job of a query, with the default settings.
+fn job(alloc: Global, query: &str) -> Result<Job, Fail> {
+    let crew = Crew {
+        workers: 4,
+        gatherers: 1,
+    };
+    Ok(Job {
+        file: String::from_str(alloc, "-")?,
+        query: String::from_str(alloc, query)?,
+        settings: Settings {
+            crew,
+            morsel: 16_777_216,
+            limit: LONGEST_FILE,
+        },
+    })
+}
+
+/// What a job writes of a day file, and its status.
+fn performed(alloc: Global, day: &[u8], query: &str) -> Result<(u8, Vec<u8>, Vec<u8>), Fail> {
+    let job = job(alloc, query)?;
+    let mut out = Vec::new(alloc);
+    let mut errors = Vec::new(alloc);
+    let mut sink = CountedSink::of(&mut out);
+    let mut lines = CountedSink::of(&mut errors);
+    let status = perform(
+        &(),
+        alloc,
+        &job,
+        &mut Counted::of(day),
+        &mut sink,
+        &mut lines,
+    );
+    Ok((status, out, errors))
+}
+
+#[test]
+fn statuses_and_lines(rt: HostRuntime) -> Result<(), Fail> {
+    let header = "time,symbol,kind,price,shares,number\n";
+    let sale = "time,symbol,kind,price,shares,number\n09:30:01.000000005,MSFT,E,410.5000,40,9\n";
+    let cases = [
+        (DAY, "sales", 0, sale, ""),
+        (&DAY[..41], "sales", 0, header, ""),
+        (
+            SHORT_ADD,
+            "sales",
+            1,
+            "",
+            "fault: place 84: message A has length 35, not 36\n",
+        ),
+        (
+            &DAY[..80],
+            "sales",
+            1,
+            "",
+            "fault: place 79: message runs past the end\n",
+        ),
+        (
+            &DAY[79..],
+            "sales",
+            1,
+            "",
+            "fault: place 0: order reference 1 is not known\n",
+        ),
+        (DAY, "bars", 2, "", "fault: query byte 0: unknown word\n"),
+        (DAY, "  ", 2, "", "fault: query ends too early\n"),
+    ];
+    for (day, query, status, text, line) in cases {
+        let (found, out, errors) = performed(rt.alloc(), day, query)?;
+        assert_eq!(rt; found, status, "the status of {query}");
+        assert!(rt; out.as_slice() == text.as_bytes(), "the text of {query}");
+        assert!(rt; errors.as_slice() == line.as_bytes(), "the line of {query}");
+    }
+    Ok(())
+}
+
+/// The job of words.
+fn told<R: Abort>(rt: &R, alloc: Global, words: &[&str]) -> Result<Option<Job>, Fail> {
+    let mut given = Vec::new(alloc);
+    for word in words {
+        given.push(String::from_str(alloc, word)?)?;
+    }
+    match command(alloc, given.as_slice()) {
+        Ok(job) => Ok(Some(job)),
+        Err(WordsFault::Wrong { text }) => {
+            assert!(rt; text.as_str().starts_with("error: "), "{text}");
+            Ok(None)
+        }
+        Err(WordsFault::Help { text }) => {
+            assert!(rt; text.as_str().contains("Usage: itch_bars"), "{text}");
+            Ok(None)
+        }
+        Err(WordsFault::Memory) => {
+            assert!(rt; false, "memory");
+            Ok(None)
+        }
+    }
+}
+
+#[test]
+fn words_of_a_job(rt: HostRuntime) -> Result<(), Fail> {
+    let alloc = rt.alloc();
+    let Some(job) = told(&rt, alloc, &["itch_bars", "day", "sales"])? else {
+        return Err(Fail::from("no job"));
+    };
+    assert!(rt; job.file.as_str() == "day" && job.query.as_str() == "sales");
+    assert_eq!(rt; job.settings.crew.workers, 4);
+    assert_eq!(rt; job.settings.morsel, 16_777_216);
+    let words = ["itch_bars", "-", "sales", "--workers", "64", "--morsel=1"];
+    let Some(job) = told(&rt, alloc, &words)? else {
+        return Err(Fail::from("no job"));
+    };
+    assert_eq!(rt; job.settings.crew.workers, 64);
+    assert_eq!(rt; job.settings.morsel, 1);
+    Ok(())
+}
+
+#[test]
+fn wrong_words(rt: HostRuntime) -> Result<(), Fail> {
+    let alloc = rt.alloc();
+    assert!(rt; told(&rt, alloc, &["itch_bars"])?.is_none());
+    assert!(rt; told(&rt, alloc, &["itch_bars", "--help"])?.is_none());
+    for option in [
+        "--workers=0",
+        "--workers=65",
+        "--morsel=0",
+        "--morsel=1073741825",
+        "--gatherers=1",
+    ] {
+        assert!(rt;
+            told(&rt, alloc, &["itch_bars", "-", "sales", option])?.is_none(),
+            "{option}"
+        );
+    }
+    Ok(())
+}

@@ -1,0 +1,24 @@
+//! The message bodies of Nasdaq TotalView-ITCH 5.0 that a day's trades are told by: add order (A,
+//! with attribution F), order executed (E, with price C), order replace (U), trade (P), cross trade
+//! (Q), broken trade (B) and stock directory (R). Numbers are unsigned and big-endian, and alpha
+//! fields are padded on the right with spaces.
+#![tactic(auto)]
+
+mod draft;
+mod fields;
+pub mod header;
+mod law;
+pub mod layout;
+pub mod message;
+mod reading;
+mod writing;
+
+pub use header::Header;
+pub use law::one_body_each;
+pub use layout::LengthFault;
+pub use message::{Add, Broken, Cross, Directory, Executed, ExecutedAt, Message, Replace, Trade};
+pub use reading::read;
+pub use writing::{OutOfMemory, append};
+
+#[cfg(test)]
+mod tests;

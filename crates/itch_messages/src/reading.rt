@@ -1,0 +1,189 @@
+//! Reading a body.
+ghost use Rattle.std.specs.Prelude.{◌≡◌, ◌≤◌, ◌↔◌, Some, true, length, IsErr, IfErr, IfOk};
+ghost use Rattle.itch_messages.specs.Body.{add_of, broken_of, cross_of, directory_of, executed_at_of, executed_of, header_of, replace_of, trade_of};
+ghost use Rattle.itch_messages.specs.Body.{FitsMessage, has_wrong_length, length_fault_of, message_of, message_of_kind};
+ghost use Rattle.itch_messages.specs.Layout.{length_of};
+
+use crate::fields::{text_at, u8_at, u16_at, u32_at, u48_at, u64_at};
+use crate::header::Header;
+use crate::layout::{LengthFault, wanted_length};
+use crate::message::{
+    Add, Broken, Cross, Directory, Executed, ExecutedAt, Message, Replace, Trade,
+};
+
+/// The header of a body.
+#[inline(always)]
+fn header(body: &[u8]) -> Header
+    requires { 11 ≤ length body.now }
+    ensures { result ≡ header_of body.now }
+{
+    Header::of(u16_at(body, 1), u16_at(body, 3), u48_at(body, 5))
+}
+
+/// A body of type A or F.
+#[inline(always)]
+fn add(body: &[u8], attribution: Option<[u8; 4]>) -> Add
+    requires { 36 ≤ length body.now }
+    ensures { result ≡ add_of attribution body.now }
+{
+    Add {
+        header: header(body),
+        order_no: u64_at(body, 11),
+        side: u8_at(body, 19),
+        shares: u32_at(body, 20),
+        stock: text_at(body, 24),
+        price: u32_at(body, 32),
+        attribution,
+    }
+}
+
+/// A body of type E.
+#[inline(always)]
+fn executed(body: &[u8]) -> Executed
+    requires { length body.now ≡ 31 }
+    ensures { result ≡ executed_of body.now }
+{
+    Executed {
+        header: header(body),
+        order_no: u64_at(body, 11),
+        shares: u32_at(body, 19),
+        trade_no: u64_at(body, 23),
+    }
+}
+
+/// A body of type C.
+#[inline(always)]
+fn executed_at(body: &[u8]) -> ExecutedAt
+    requires { length body.now ≡ 36 }
+    ensures { result ≡ executed_at_of body.now }
+{
+    ExecutedAt {
+        header: header(body),
+        order_no: u64_at(body, 11),
+        shares: u32_at(body, 19),
+        trade_no: u64_at(body, 23),
+        printable: u8_at(body, 31),
+        price: u32_at(body, 32),
+    }
+}
+
+/// A body of type U.
+#[inline(always)]
+fn replace(body: &[u8]) -> Replace
+    requires { length body.now ≡ 35 }
+    ensures { result ≡ replace_of body.now }
+{
+    Replace {
+        header: header(body),
+        old_no: u64_at(body, 11),
+        new_no: u64_at(body, 19),
+        shares: u32_at(body, 27),
+        price: u32_at(body, 31),
+    }
+}
+
+/// A body of type P.
+#[inline(always)]
+fn trade(body: &[u8]) -> Trade
+    requires { length body.now ≡ 44 }
+    ensures { result ≡ trade_of body.now }
+{
+    Trade {
+        header: header(body),
+        order_no: u64_at(body, 11),
+        side: u8_at(body, 19),
+        shares: u32_at(body, 20),
+        stock: text_at(body, 24),
+        price: u32_at(body, 32),
+        trade_no: u64_at(body, 36),
+    }
+}
+
+/// A body of type Q.
+#[inline(always)]
+fn cross(body: &[u8]) -> Cross
+    requires { length body.now ≡ 40 }
+    ensures { result ≡ cross_of body.now }
+{
+    Cross {
+        header: header(body),
+        shares: u64_at(body, 11),
+        stock: text_at(body, 19),
+        price: u32_at(body, 27),
+        trade_no: u64_at(body, 31),
+        cross_type: u8_at(body, 39),
+    }
+}
+
+/// A body of type B.
+#[inline(always)]
+fn broken(body: &[u8]) -> Broken
+    requires { length body.now ≡ 19 }
+    ensures { result ≡ broken_of body.now }
+{
+    Broken {
+        header: header(body),
+        trade_no: u64_at(body, 11),
+    }
+}
+
+/// A body of type R.
+#[inline(always)]
+fn directory(body: &[u8]) -> Directory
+    requires { length body.now ≡ 39 }
+    ensures { result ≡ directory_of body.now }
+{
+    Directory {
+        header: header(body),
+        stock: text_at(body, 11),
+        rest: text_at(body, 19),
+    }
+}
+
+/// The message of a body of this type, which has the type's length.
+#[inline(always)]
+#[tactic(auto, unfolding(crate::specs::Body::message_of_kind, crate::specs::Layout::length_of))]
+fn message(kind: u8, body: &[u8]) -> Message
+    requires { length_of kind ≡ Some (length body.now) }
+    ensures { result ≡ message_of_kind kind body.now }
+{
+    match kind {
+        b'A' => Message::Add(add(body, None)),
+        b'F' => Message::Add(add(body, Some(text_at(body, 36)))),
+        b'E' => Message::Executed(executed(body)),
+        b'C' => Message::ExecutedAt(executed_at(body)),
+        b'U' => Message::Replace(replace(body)),
+        b'P' => Message::Trade(trade(body)),
+        b'Q' => Message::Cross(cross(body)),
+        b'B' => Message::Broken(broken(body)),
+        b'R' => Message::Directory(directory(body)),
+        _ => Message::Skipped,
+    }
+}
+
+/// The message that a body stands for, by the table of TotalView-ITCH 5.0, section 1. An empty body
+/// is `Skipped`, and so is a body of another type, at any length. `LengthFault` comes exactly where
+/// the first byte is one of the nine types and the length is not that type's. Side, cross type,
+/// printable, attribution and what follows an R's stock are kept as they are and not tested.
+#[inline(always)]
+pub fn read(body: &[u8]) -> Result<Message, LengthFault>
+    ensures fault { IsErr result ↔ (has_wrong_length body.now ≡ true) }
+    ensures told { IfErr result (λ fault. fault ≡ length_fault_of body.now) }
+    ensures message { IfOk result (λ message. message ≡ message_of body.now) }
+    ensures fits { IfOk result FitsMessage }
+{
+    if body.is_empty() {
+        return Ok(Message::Skipped);
+    }
+    let kind = body[0];
+    let length = body.len();
+    match wanted_length(kind) {
+        None => Ok(Message::Skipped),
+        Some(wanted) if wanted != length => Err(LengthFault {
+            kind,
+            length,
+            wanted,
+        }),
+        Some(_) => Ok(message(kind, body)),
+    }
+}

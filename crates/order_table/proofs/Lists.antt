@@ -1,0 +1,122 @@
+-- Lists that std has no lemmas on: filters under filters, and permutations of what lists are joined from.
+use Rattle.std.proofs.Common.{◌≡◌, ℕ, zero, suc, ◌<◌, Bool, true, false, ◌||◌, cond, List, [], ◌∷◌, ◌++◌, length, get_or, set, swap, Option, Some, None, filter, filter_map, flat_map, option_to_list, IsPermutation, refl, ap, ap₂, ◌∙◌, subst, arith, append_assoc}
+use Rattle.std.specs.List.{list_any, cons_option}
+use Rattle.std.proofs.lemmas.Bool.{both_ways}
+use Rattle.std.proofs.lemmas.List.Elements.{filter-append, filter_map-append}
+use Rattle.std.proofs.lemmas.List.Sorted.{IsPermutation-refl, IsPermutation-keeps, IsPermutation-trans, IsPermutation-append_left, IsPermutation-append_right, IsPermutation-append_comm}
+
+-- ---- one list is another
+
+-- two filters change places where their tests agree on what the other keeps
+pub filters_commute : {X : Type 0} (p r q : X → Bool) → ((x : X) → q x ≡ true → p x ≡ r x) → (xs : List X) → filter p (filter q xs) ≡ filter q (filter r xs)
+filters_commute p r q agree [] = refl
+filters_commute {X} p r q agree (x ∷ xs) = go (q x) refl (r x) refl (filters_commute p r q agree xs)
+  where
+    go : (b : Bool) → q x ≡ b → (c : Bool) → r x ≡ c → filter p (filter q xs) ≡ filter q (filter r xs)
+        → filter p (cond b (x ∷ filter q xs) (filter q xs)) ≡ filter q (cond c (x ∷ filter r xs) (filter r xs))
+    go true e true f h = rw (agree x e ∙ f, e) (ap (λ l. x ∷ l) h)
+    go true e false f h = rw (agree x e ∙ f) h
+    go false e true f h = rw e h
+    go false e false f h = h
+
+pub filter_of_filter : {X : Type 0} (p q : X → Bool) → ((x : X) → p x ≡ true → q x ≡ true) → (xs : List X) → filter p (filter q xs) ≡ filter p xs
+filter_of_filter p q implies [] = refl
+filter_of_filter {X} p q implies (x ∷ xs) = go (q x) refl (p x) refl (filter_of_filter p q implies xs)
+  where
+    go : (b : Bool) → q x ≡ b → (c : Bool) → p x ≡ c → filter p (filter q xs) ≡ filter p xs → filter p (cond b (x ∷ filter q xs) (filter q xs)) ≡ cond c (x ∷ filter p xs) (filter p xs)
+    go true e true f h = rw f (ap (λ l. x ∷ l) h)
+    go true e false f h = rw f h
+    go false e true f h = absurd (both_ways _ e (implies x f))
+    go false e false f h = h
+
+-- where no item outside the filter passes, the filter changes no answer
+pub any_of_filter : {X : Type 0} (p q : X → Bool) → ((x : X) → p x ≡ true → q x ≡ true) → (xs : List X) → list_any p (filter q xs) ≡ list_any p xs
+any_of_filter p q implies [] = refl
+any_of_filter {X} p q implies (x ∷ xs) = go (q x) refl (p x) refl (any_of_filter p q implies xs)
+  where
+    go : (b : Bool) → q x ≡ b → (c : Bool) → p x ≡ c → list_any p (filter q xs) ≡ list_any p xs → list_any p (cond b (x ∷ filter q xs) (filter q xs)) ≡ (c || list_any p xs)
+    go true e true f h = rw f refl
+    go true e false f h = rw f h
+    go false e true f h = absurd (both_ways _ e (implies x f))
+    go false e false f h = h
+
+-- two maps that agree on what a filter keeps
+pub filter_map_on_filter : {X Y : Type 0} (f g : X → Option Y) (q : X → Bool) → ((x : X) → q x ≡ true → f x ≡ g x) → (xs : List X) → filter_map f (filter q xs) ≡ filter_map g (filter q xs)
+filter_map_on_filter f g q agree [] = refl
+filter_map_on_filter {X} {Y} f g q agree (x ∷ xs) = go (q x) refl (filter_map_on_filter f g q agree xs)
+  where
+    go : (b : Bool) → q x ≡ b → filter_map f (filter q xs) ≡ filter_map g (filter q xs) → filter_map f (cond b (x ∷ filter q xs) (filter q xs)) ≡ filter_map g (cond b (x ∷ filter q xs) (filter q xs))
+    go true e h = ap₂ cons_option (agree x e) h
+    go false e h = h
+
+pub filter_map_as_flat_map : {X Y : Type 0} (h : X → Option Y) (xs : List X) → filter_map h xs ≡ flat_map (λ x. option_to_list (h x)) xs
+filter_map_as_flat_map h [] = refl
+filter_map_as_flat_map h (x ∷ xs) =
+    elim (h x) as (λ o. cons_option o (filter_map h xs) ≡ option_to_list o ++ flat_map (λ y. option_to_list (h y)) xs)
+    [ None ↦ filter_map_as_flat_map h xs | Some y ↦ ap (λ l. y ∷ l) (filter_map_as_flat_map h xs) ]
+
+pub filter_as_flat_map : {X : Type 0} (p : X → Bool) (xs : List X) → filter p xs ≡ flat_map (λ x. cond (p x) (x ∷ []) []) xs
+filter_as_flat_map p [] = refl
+filter_as_flat_map p (x ∷ xs) =
+    elim (p x) as (λ b. cond b (x ∷ filter p xs) (filter p xs) ≡ cond b (x ∷ []) [] ++ flat_map (λ y. cond (p y) (y ∷ []) []) xs)
+    [ true ↦ ap (λ l. x ∷ l) (filter_as_flat_map p xs) | false ↦ filter_as_flat_map p xs ]
+
+pub filter-flat_map : {A B : Type 0} (p : B → Bool) (f : A → List B) (xs : List A) → filter p (flat_map f xs) ≡ flat_map (λ x. filter p (f x)) xs
+filter-flat_map p f [] = refl
+filter-flat_map p f (x ∷ xs) = filter-append p (f x) (flat_map f xs) ∙ ap (λ l. filter p (f x) ++ l) (filter-flat_map p f xs)
+
+pub filter_map-flat_map : {A B C : Type 0} (h : B → Option C) (f : A → List B) (xs : List A) → filter_map h (flat_map f xs) ≡ flat_map (λ x. filter_map h (f x)) xs
+filter_map-flat_map h f [] = refl
+filter_map-flat_map h f (x ∷ xs) = filter_map-append h (f x) (flat_map f xs) ∙ ap (λ l. filter_map h (f x) ++ l) (filter_map-flat_map h f xs)
+
+-- ---- one list has the items of another
+
+pub IsPermutation-same : {X : Type 0} (xs ys : List X) → xs ≡ ys → IsPermutation xs ys
+IsPermutation-same xs ys e = subst (IsPermutation xs) e (IsPermutation-refl xs)
+
+-- two blocks before a list, in the other order
+turned : {X : Type 0} (xs ys rest : List X) → IsPermutation (xs ++ (ys ++ rest)) (ys ++ (xs ++ rest))
+turned xs ys rest = rw (← append_assoc xs, ← append_assoc ys) (IsPermutation-append_left rest _ _ (IsPermutation-append_comm xs ys))
+
+module _ {A B : Type 0} (f : A → List B) where
+  -- an item takes the place of another, which comes to the front in its stead
+  put_at : (xs : List A) (i : ℕ) (new d : A) → i < length xs → IsPermutation (f new ++ flat_map f xs) (f (get_or xs i d) ++ flat_map f (set xs i new))
+  put_at [] i new d within = absurd (omega arith)
+  put_at (x ∷ xs) zero new d within = turned (f new) (f x) (flat_map f xs)
+  put_at (x ∷ xs) (suc i) new d within =
+      let old = get_or xs i d in
+      IsPermutation-trans _ _ _ (turned (f new) (f x) (flat_map f xs))
+      (IsPermutation-trans _ _ _ (IsPermutation-append_right (f x) _ _ (put_at xs i new d (omega arith)))
+      (turned (f x) (f old) (flat_map f (set xs i new))))
+
+  -- two items take each other's place
+  both_put : (xs : List A) (i j : ℕ) (d : A) → i < length xs → j < length xs
+      → IsPermutation (flat_map f xs) (flat_map f (set (set xs i (get_or xs j d)) j (get_or xs i d)))
+  both_put [] i j d first second = absurd (omega arith)
+  both_put (x ∷ xs) (suc i) (suc j) d first second = IsPermutation-append_right (f x) _ _ (both_put xs i j d (omega arith) (omega arith))
+  both_put (x ∷ xs) (suc i) zero d first second = put_at xs i x d (omega arith)
+  both_put (x ∷ xs) zero (suc j) d first second = put_at xs j x d (omega arith)
+  both_put (x ∷ xs) zero zero d first second = IsPermutation-refl _
+
+  after_swap : (xs : List A) (i j : ℕ) → i < length xs → j < length xs → IsPermutation (flat_map f xs) (flat_map f (swap xs i j))
+  after_swap [] i j first second = IsPermutation-refl []
+  after_swap (x ∷ xs) i j first second = both_put (x ∷ xs) i j x first second
+
+  pub IsPermutation-flat_map : (xs ys : List A) → IsPermutation xs ys → IsPermutation (flat_map f xs) (flat_map f ys)
+  IsPermutation-flat_map xs =
+      IsPermutation-keeps xs (λ zs. IsPermutation (flat_map f xs) (flat_map f zs)) (IsPermutation-refl _)
+      (λ zs i j first second so_far. IsPermutation-trans _ _ _ so_far (after_swap zs i j first second))
+
+pub IsPermutation-filter : {A : Type 0} (p : A → Bool) (xs ys : List A) → IsPermutation xs ys → IsPermutation (filter p xs) (filter p ys)
+IsPermutation-filter p xs ys h = rw (filter_as_flat_map p xs, filter_as_flat_map p ys) (IsPermutation-flat_map _ xs ys h)
+
+pub IsPermutation-filter_map : {A B : Type 0} (f : A → Option B) (xs ys : List A) → IsPermutation xs ys → IsPermutation (filter_map f xs) (filter_map f ys)
+IsPermutation-filter_map f xs ys h = rw (filter_map_as_flat_map f xs, filter_map_as_flat_map f ys) (IsPermutation-flat_map _ xs ys h)
+
+-- what two maps give item after item, and what the one gives of all items and then the other
+pub IsPermutation-both : {A B : Type 0} (f g : A → List B) (xs : List A) → IsPermutation (flat_map (λ x. f x ++ g x) xs) (flat_map f xs ++ flat_map g xs)
+IsPermutation-both f g [] = IsPermutation-refl []
+IsPermutation-both f g (x ∷ xs) =
+    let more = IsPermutation-append_right (f x ++ g x) _ _ (IsPermutation-both f g xs) in
+    let turned = IsPermutation-append_right (f x) _ _ (IsPermutation-append_left (flat_map g xs) _ _ (IsPermutation-append_comm (g x) (flat_map f xs))) in
+    IsPermutation-trans _ _ _ more (rw (append_assoc (f x) (g x), ← append_assoc (g x), append_assoc (f x) (flat_map f xs), ← append_assoc (flat_map f xs)) turned)

@@ -1,0 +1,49 @@
+-- Order rows: which row prices a reference, which row repeats one, and what a table keeps.
+use Rattle.std.specs.Prelude.{◌≡◌, ℕ, ◌==◌, nat_lt, nat_eq, Bool, ◌&&◌, if◌then◌else◌}
+use Rattle.std.specs.Prelude.{List, Option, Some, None, filter, option_map}
+use Rattle.std.specs.List.{list_any}
+use Rattle.std.specs.HashMap.{get}
+pub use Rattle.order_table.specs.declared.row.OrderRow.{OrderRow}
+use Rattle.order_table.specs.declared.table.Kept.{Kept}
+pub use Rattle.order_table.specs.declared.table.OrderTable.{OrderTable}
+pub use Rattle.order_table.specs.declared.table.Repeated.{Repeated}
+use Rattle.order_table.specs.Least.{least_by}
+
+-- the row of least place that gives the reference
+abbrev pub first_row : List OrderRow → ℕ → Option OrderRow
+first_row rows order_no =
+    least_by (λ row. row.place) (filter (λ row. row.order_no == order_no) rows)
+
+-- the price of a row that stands before the place
+abbrev pub price_if_before : ℕ → Option OrderRow → Option ℕ
+price_if_before place None = None
+price_if_before place (Some row) = if nat_lt row.place place then Some row.price else None
+
+-- the price of the first row of the reference, where that row stands before the place
+abbrev pub price_before : List OrderRow → ℕ → ℕ → Option ℕ
+price_before rows order_no place = price_if_before place (first_row rows order_no)
+
+-- whether a row of smaller place gives the same reference
+abbrev pub is_repeated : List OrderRow → OrderRow → Bool
+is_repeated rows row =
+    list_any (λ other. (other.order_no == row.order_no) && nat_lt other.place row.place) rows
+
+-- of the repeated rows the one of least place
+abbrev pub first_repeated : List OrderRow → Option OrderRow
+first_repeated rows = least_by (λ row. row.place) (filter (is_repeated rows) rows)
+
+-- what is told of a repeated row
+abbrev pub repeated_of : OrderRow → Repeated
+repeated_of row = record { place = row.place; order_no = row.order_no }
+
+-- the row that is kept under the reference
+abbrev pub row_of : ℕ → Kept → OrderRow
+row_of order_no kept = record { place = kept.place; order_no = order_no; price = kept.price }
+
+-- the row that a table keeps under a reference
+abbrev pub kept_row : {A : Type 0} → OrderTable A → ℕ → Option OrderRow
+kept_row table order_no = option_map (row_of order_no) (get nat_eq table.rows order_no)
+
+-- the table keeps the first row of each reference
+abbrev pub IsTableOf : {A : Type 0} → List OrderRow → OrderTable A → Type 0
+IsTableOf rows table = (order_no : ℕ) → kept_row table order_no ≡ first_row rows order_no

@@ -1,0 +1,19 @@
+//! The order rows of a day file, and the table that prices an execution by the first row of its
+//! order reference.
+//!
+//! Rows come in any order. A row stands at its place, the byte offset of its message in the file,
+//! and "first" goes by place. A table keeps the first row of each reference, and building one tells
+//! of the first row that repeats a reference.
+#![tactic(auto)]
+
+pub mod row;
+pub mod table;
+
+pub use row::{OrderRow, partition};
+pub use table::{Built, OrderTable, Repeated};
+
+/// Why a call refused: a growth found no memory.
+pub type OutOfMemory = std::alloc::AllocError;
+
+#[cfg(test)]
+mod tests;

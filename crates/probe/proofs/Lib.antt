@@ -1,0 +1,4 @@
+mod Prices
+pub mod KeptSales
+pub mod PricedSales
+pub mod PartSales

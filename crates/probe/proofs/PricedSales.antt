@@ -1,0 +1,66 @@
+-- The sales of priced executions: of lists joined and in another order, and what each sale has of its execution.
+use Rattle.std.proofs.Common.{◌≡◌, ℕ, ◌≤◌, List, [], ◌∷◌, ◌++◌, length, Option, Some, None, option_map, Contains, IsPermutation, nat_cmp, refl, sym, ap, ◌∙◌, arith, ⊎_elim}
+use Rattle.std.specs.List.{cons_option}
+use Rattle.std.specs.List.Sorted.{IsStrictlySortedBy}
+use Rattle.std.proofs.lemmas.List.Elements.{filter_map-append}
+use Rattle.order_table.specs.Least.{TellsApart}
+use Rattle.order_table.specs.declared.OrderRow.{OrderRow}
+use Rattle.order_table.proofs.Lists.{IsPermutation-filter_map}
+use Rattle.order_table.proofs.Order.{Contains_cons, Contains_head, Contains_later, sorted-filter_map}
+use Rattle.probe.specs.Pricing.{Execution, Sale, priced, price_of, sale_at, sale_of}
+
+-- ---- lists of executions
+
+pub priced-append : (rows : List OrderRow) (xs ys : List Execution) → priced rows (xs ++ ys) ≡ priced rows xs ++ priced rows ys
+priced-append rows xs ys = filter_map-append (sale_of rows) xs ys
+
+pub priced-permutation : (rows : List OrderRow) (xs ys : List Execution) → IsPermutation xs ys → IsPermutation (priced rows xs) (priced rows ys)
+priced-permutation rows = IsPermutation-filter_map (sale_of rows)
+
+pub length-priced : (rows : List OrderRow) (executions : List Execution) → length (priced rows executions) ≤ length executions
+length-priced rows [] = omega arith
+length-priced rows (e ∷ es) =
+    let more = length-priced rows es in
+    elim (sale_of rows e) as (λ o. length (cons_option o (priced rows es)) ≤ length (e ∷ es)) [ None ↦ omega arith | Some sale ↦ omega arith ]
+
+-- ---- one sale
+
+-- a sale has its execution's place, time and locate
+pub sale_keeps : (rows : List OrderRow) (execution : Execution) (sale : Sale) → sale_of rows execution ≡ Some sale
+    → (sale.place ≡ execution.place) × (sale.time ≡ execution.time) × (sale.locate ≡ execution.locate)
+sale_keeps rows execution sale = go (price_of rows execution)
+  where
+    go : (o : Option ℕ) → option_map (sale_at execution) o ≡ Some sale → (sale.place ≡ execution.place) × (sale.time ≡ execution.time) × (sale.locate ≡ execution.locate)
+    go None e = absurd (cc)
+    go (Some price) e =
+        let same : sale_at execution price ≡ sale = cc in
+        (sym (ap (λ (s : Sale). s.place) same), sym (ap (λ (s : Sale). s.time) same), sym (ap (λ (s : Sale). s.locate) same))
+
+-- each sale is that of one of the executions
+pub priced_contains : (rows : List OrderRow) (executions : List Execution) (sale : Sale) → Contains (priced rows executions) sale
+    → (execution : Execution) × Contains executions execution × (sale_of rows execution ≡ Some sale)
+priced_contains rows [] sale = λ c. absurd (omega (arith, c.1))
+priced_contains rows (e ∷ es) sale = go (sale_of rows e) refl (priced_contains rows es sale)
+  where
+    go : (o : Option Sale) → sale_of rows e ≡ o → (Contains (priced rows es) sale → (execution : Execution) × Contains es execution × (sale_of rows execution ≡ Some sale))
+        → Contains (cons_option o (priced rows es)) sale → (execution : Execution) × Contains (e ∷ es) execution × (sale_of rows execution ≡ Some sale)
+    go None at more = λ c. (let f = more c in (f.0, Contains_later e f.0 es f.1, f.2))
+    go (Some first) at more = λ c.
+        ⊎_elim
+        (λ same. (e, Contains_head e es, at ∙ ap Some same))
+        (λ later. let f = more later in (f.0, Contains_later e f.0 es f.1, f.2))
+        (Contains_cons first sale (priced rows es) c)
+
+-- ---- places
+
+pub TellsApart-priced : (rows : List OrderRow) (executions : List Execution) → TellsApart (λ execution. execution.place) executions → TellsApart (λ sale. sale.place) (priced rows executions)
+TellsApart-priced rows executions apart x y p q same =
+    let f = priced_contains rows executions x p in
+    let g = priced_contains rows executions y q in
+    let one : f.0 ≡ g.0 = apart f.0 g.0 f.1 g.1 (sym (sale_keeps rows f.0 x f.2).0 ∙ same ∙ (sale_keeps rows g.0 y g.2).0) in
+    let both : Some x ≡ Some y = sym f.2 ∙ ap (sale_of rows) one ∙ g.2 in
+    cc
+
+pub priced-by_place : (rows : List OrderRow) (executions : List Execution) → IsStrictlySortedBy (λ a b. nat_cmp a.place b.place) executions
+    → IsStrictlySortedBy (λ a b. nat_cmp a.place b.place) (priced rows executions)
+priced-by_place rows = sorted-filter_map (λ (e : Execution). e.place) (λ (s : Sale). s.place) (sale_of rows) (λ e sale at. (sale_keeps rows e sale at).0)

@@ -1,0 +1,9 @@
+use Rattle.std.proofs.Common.{◌∙◌, ap}
+use Rattle.broken_trades.specs.Among.{is_among}
+use Rattle.broken_trades.proofs.Numbers.{found_among}
+use Rattle.probe.proofs.locates.LocateList.holds.Goals as goal
+
+pub returns : goal.returns
+returns g c =
+    let found = found_among c.self.inside.numbers.items c.args.locate c.binary_search.result c.self.invariant (rw (← c.deref.ensures.value) c.binary_search.ensures.position) in
+    c.is_ok.ensures.value ∙ found ∙ ap (λ l. is_among l c.args.locate) c.self.view_is

@@ -1,0 +1,48 @@
+-- The price of an execution, and the sales of a list of executions.
+use Rattle.std.specs.Prelude.{ℕ, Bool, is_none, List, Option, filter, filter_map, option_map}
+use Rattle.order_table.specs.Least.{least_by}
+use Rattle.order_table.specs.declared.OrderRow.{OrderRow}
+use Rattle.order_table.specs.Orders.{price_before}
+pub use Rattle.probe.specs.declared.rows.Execution.{Execution}
+pub use Rattle.probe.specs.declared.rows.Kind.{Kind}
+pub use Rattle.probe.specs.declared.rows.Sale.{Sale}
+pub use Rattle.probe.specs.declared.rows.Unknown.{Unknown}
+use Rattle.probe.specs.declared.rows.Kind.TheVariants.{E}
+
+-- the price of the first row that gives the execution's reference, where it stands before it
+abbrev pub price_of : List OrderRow → Execution → Option ℕ
+price_of rows execution = price_before rows execution.order_no execution.place
+
+-- the execution has no price
+abbrev pub is_unknown : List OrderRow → Execution → Bool
+is_unknown rows execution = is_none (price_of rows execution)
+
+-- the execution of least place that has no price
+abbrev pub first_unknown : List OrderRow → List Execution → Option Execution
+first_unknown rows executions =
+    least_by (λ execution. execution.place) (filter (is_unknown rows) executions)
+
+-- what is told of it
+abbrev pub unknown_of : Execution → Unknown
+unknown_of execution = record { place = execution.place; order_no = execution.order_no }
+
+-- the sale of an execution, at a price
+abbrev pub sale_at : Execution → ℕ → Sale
+sale_at execution price =
+    record {
+      place = execution.place;
+      time = execution.time;
+      locate = execution.locate;
+      kind = E;
+      price = price;
+      shares = execution.shares;
+      trade_no = execution.trade_no;
+    }
+
+-- the sale of an execution, where it has a price
+abbrev pub sale_of : List OrderRow → Execution → Option Sale
+sale_of rows execution = option_map (sale_at execution) (price_of rows execution)
+
+-- the sales of the executions that have a price, in the list's order
+abbrev pub priced : List OrderRow → List Execution → List Sale
+priced rows executions = filter_map (sale_of rows) executions

@@ -1,0 +1,38 @@
+-- Which sales a selection admits.
+use Rattle.std.specs.Prelude.{ℕ, ◌*◌, nat_lt, nat_le, Bool, true, ◌&&◌, Option, Some, None}
+use Rattle.broken_trades.specs.Among.{is_among}
+use Rattle.probe.specs.declared.rows.Kind.{Kind}
+use Rattle.probe.specs.declared.rows.Kind.TheVariants.{E, C, P, Q}
+use Rattle.probe.specs.declared.rows.Sale.{Sale}
+use Rattle.probe.specs.declared.selection.Kinds.{Kinds}
+use Rattle.probe.specs.declared.selection.Locates.{Locates}
+use Rattle.probe.specs.declared.selection.Locates.TheVariants.{All, Listed}
+use Rattle.probe.specs.declared.selection.Selection.{Selection}
+use Rattle.probe.specs.declared.selection.Span.{Span}
+
+-- all locates, or those that are listed
+abbrev pub has_locate : {A : Type 0} → Locates A → ℕ → Bool
+has_locate All locate = true
+has_locate (Listed list) locate = is_among list locate
+
+-- a time in nanoseconds is in a span of seconds: its first second is, its last isn't
+abbrev pub is_within : Span → ℕ → Bool
+is_within span time = nat_le (span.since * 1000000000) time && nat_lt time (span.until * 1000000000)
+
+-- a kind is among those that are chosen
+abbrev pub has_kind : Kinds → Kind → Bool
+has_kind kinds E = kinds.e
+has_kind kinds C = kinds.c
+has_kind kinds P = kinds.p
+has_kind kinds Q = kinds.q
+
+-- a time is in the span, where there is one
+abbrev pub has_time : Option Span → ℕ → Bool
+has_time None time = true
+has_time (Some span) time = is_within span time
+
+-- the sale's locate, time and kind are all asked for
+abbrev pub admits : {A : Type 0} → Selection A → Sale → Bool
+admits selection sale =
+    has_locate selection.locates sale.locate
+    && (has_time selection.span sale.time && has_kind selection.kinds sale.kind)

@@ -1,0 +1,13 @@
+-- The sales of a list that are kept.
+use Rattle.std.specs.Prelude.{ℕ, nat_lt, Bool, ◌&&◌, not, List, filter}
+use Rattle.broken_trades.specs.Among.{is_among}
+use Rattle.probe.specs.declared.rows.Sale.{Sale}
+
+-- no break has the sale's match number, the selection has the sale, and it has shares
+abbrev pub is_kept : List ℕ → (Sale → Bool) → Sale → Bool
+is_kept breaks selection sale =
+    not (is_among breaks sale.trade_no) && (selection sale && nat_lt 0 sale.shares)
+
+-- the unbroken selected sales of more than zero shares, in the list's order
+abbrev pub kept : List ℕ → (Sale → Bool) → List Sale → List Sale
+kept breaks selection sales = filter (is_kept breaks selection) sales

@@ -1,0 +1,25 @@
+//! Prices the executions of a day, and keeps the sales that a query asks for.
+//!
+//! An execution probes the table of orders by its reference, and becomes a sale at the price of the
+//! first order that gave it. Of all sales those stay that have shares, that the query's selection
+//! admits, and whose match number no break has.
+#![tactic(auto)]
+
+mod keeping;
+mod locates;
+mod pricing;
+mod rows;
+mod sales;
+mod selection;
+
+pub use broken_trades::Breaks;
+pub use keeping::keep;
+pub use locates::LocateList;
+pub use order_table::{OrderTable, OutOfMemory};
+pub use pricing::{Priced, price_all};
+pub use rows::{Execution, Kind, Sale, Unknown};
+pub use sales::Sales;
+pub use selection::{Kinds, Locates, Selection, Span};
+
+#[cfg(test)]
+mod tests;

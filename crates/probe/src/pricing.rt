@@ -1,0 +1,83 @@
+//! Prices executions by the orders that gave their references.
+ghost use Rattle.std.specs.Prelude.{◌≡◌, ◌∷◌, ◌++◌, [], IfOk, List, map, nat_eq};
+ghost use Rattle.std.specs.Prelude.{option_map, option_to_list};
+ghost use Rattle.std.specs.List.{IsDistinct};
+ghost use Rattle.order_table.specs.Least.{least_by};
+ghost use Rattle.order_table.specs.declared.OrderRow.{OrderRow};
+ghost use Rattle.order_table.specs.Orders.{IsTableOf};
+ghost use Rattle.probe.specs.Pricing.{first_unknown, priced, sale_at, unknown_of};
+
+use crate::rows::{Execution, Kind, Sale, Unknown};
+use crate::sales::Sales;
+use order_table::{OrderTable, OutOfMemory};
+use std::alloc::{Allocator, Global};
+
+/// The sales of a list of executions, and the first of them that has no price.
+#[derive(Drop)]
+#[derive_where(Debug)]
+pub struct Priced<A: Allocator = Global> {
+    /// Of the executions that have a price, in the list's order, those of zero shares too.
+    pub sales: Sales<A>,
+    /// The execution of least place that has none.
+    pub unknown: Option<Unknown>,
+}
+
+fn sale_of(execution: &Execution, price: u32) -> Sale
+    ensures { result ≡ sale_at execution.now price }
+{
+    Sale {
+        place: execution.place,
+        time: execution.time,
+        locate: execution.locate,
+        kind: Kind::E,
+        price,
+        shares: u64::from(execution.shares),
+        trade_no: execution.trade_no,
+    }
+}
+
+fn unknown_of(execution: &Execution) -> Unknown
+    ensures { result ≡ unknown_of execution.now }
+{
+    Unknown {
+        place: execution.place,
+        order_no: execution.order_no,
+    }
+}
+
+fn earlier(first: Option<Unknown>, other: Unknown) -> Option<Unknown>
+    ensures { result ≡ least_by (λ unknown. unknown.place) (option_to_list first ++ other ∷ []) }
+{
+    match first {
+        Some(first) if first.place <= other.place => Some(first),
+        _ => Some(other),
+    }
+}
+
+/// Prices each execution by the first row of its order reference, where that row stands before it.
+/// Whether an execution is broken, or asked for, or has any shares makes no difference. It is
+/// refused where there is no memory for the sales.
+pub fn price_all<A: Allocator, T: Allocator + Clone>(
+    alloc: A,
+    table: &OrderTable<T>,
+    executions: &[Execution],
+) -> Result<Priced<A>, OutOfMemory>
+    requires { IsDistinct nat_eq (map (λ execution. execution.place) executions.now) }
+    ensures sales { IfOk result (λ outcome. (rows : List OrderRow) → IsTableOf rows table.now →
+        outcome.sales ≡ priced rows executions.now) }
+    ensures unknown { IfOk result (λ outcome. (rows : List OrderRow) → IsTableOf rows table.now →
+        outcome.unknown ≡ option_map unknown_of (first_unknown rows executions.now)) }
+{
+    let mut sales = Vec::with_capacity(alloc, executions.len())?;
+    let mut unknown = None;
+    for execution in executions {
+        match table.price_before(execution.order_no, execution.place) {
+            Some(price) => sales.push(sale_of(execution, price))?,
+            None => unknown = earlier(unknown, unknown_of(execution)),
+        }
+    }
+    Ok(Priced {
+        sales: Sales::of(sales),
+        unknown,
+    })
+}

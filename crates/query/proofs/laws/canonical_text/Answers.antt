@@ -1,0 +1,5 @@
+use Rattle.query.proofs.Spellings.{canonical_means}
+use Rattle.query.proofs.laws.canonical_text.Goals as goal
+
+pub returns : goal.returns
+returns c = canonical_means

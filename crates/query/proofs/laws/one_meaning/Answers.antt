@@ -1,0 +1,5 @@
+use Rattle.query.proofs.Readings.{one_meaning}
+use Rattle.query.proofs.laws.one_meaning.Goals as goal
+
+pub returns : goal.returns
+returns c = one_meaning

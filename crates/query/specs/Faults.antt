@@ -1,0 +1,112 @@
+-- The first fault of a text: its words are read from left to right, and what must come next is
+-- kept.
+use Rattle.std.specs.Prelude.{ℕ, ◌*◌, nat_lt, Bool, if◌then◌else◌, List, [], ◌∷◌, Option, Some, None, is_some, Result, Ok, Err, codes}
+use Rattle.std.specs.Result.{result_err}
+use Rattle.query.specs.Words.{Word, reads_as}
+use Rattle.query.specs.Values.{number_of, unit_of, time_of, symbols_of, kinds_of}
+use Rattle.query.specs.Meaning.{Meaning, Said, only, meaning_of, is_width}
+use Rattle.query.specs.declared.query.What.TheVariants.{Sales, Bars}
+use Rattle.query.specs.declared.fault.QueryFault.{QueryFault}
+use Rattle.query.specs.declared.fault.QueryFault.TheVariants.{UnknownWord, BadNumber, BadTime, Repeated, Incomplete, EmptyRange}
+
+-- what must come next, after what was said
+pub data Next : Type 0 where
+  query : Next
+  number : Next
+  -- after a number, which stands at a byte of the text
+  unit : ℕ → ℕ → Next
+  -- the end, or `where`
+  filter : Said → Next
+  condition : Said → Next
+  symbol_in : Said → Next
+  symbols : Said → Next
+  time_from : Said → Next
+  first_time : Said → Next
+  -- after the first time
+  time_until : Said → ℕ → Next
+  second_time : Said → ℕ → Next
+  kind_in : Said → Next
+  kinds : Said → Next
+  -- the end, or `and`
+  more : Said → Next
+
+abbrev pub Step : Type 0
+Step = Result Next QueryFault
+
+-- a word that must be this one
+abbrev pub expecting : List ℕ → Next → Word → Step
+expecting text next w = if reads_as text w then Ok next else Err (UnknownWord w.at)
+
+-- what a word stands for, or the fault where it stands for nothing
+abbrev pub valued : {A : Type 0} → Option A → QueryFault → (A → Step) → Step
+valued None fault next = Err fault
+valued (Some value) fault next = next value
+
+-- the first word of a condition, which may not have been given before
+abbrev pub opening : Word → Bool → Next → Step
+opening w given next = if given then Err (Repeated w.at) else Ok next
+
+abbrev pub begins : Word → Step
+begins w =
+    if reads_as (codes "sales") w then Ok (filter (only Sales))
+    else if reads_as (codes "bars") w then Ok number
+    else Err (UnknownWord w.at)
+
+abbrev pub opens : Said → Word → Step
+opens said w =
+    if reads_as (codes "symbol") w then opening w (is_some said.symbols) (symbol_in said)
+    else if reads_as (codes "time") w then opening w (is_some said.span) (time_from said)
+    else if reads_as (codes "kind") w then opening w (is_some said.kinds) (kind_in said)
+    else Err (UnknownWord w.at)
+
+-- a width of so many units, whose number stands at a byte
+abbrev pub wide : ℕ → ℕ → Step
+wide at width = if is_width width then Ok (filter (only (Bars width))) else Err (BadNumber at)
+
+abbrev pub bounded : Said → ℕ → ℕ → Step
+bounded said since until =
+    if nat_lt since until
+    then Ok (more (record said { span = Some (record { since = since; until = until }) }))
+    else Err EmptyRange
+
+-- one word is read
+unfoldable pub step : Next → Word → Step
+step query w = begins w
+step number w = valued (number_of w.bytes) (BadNumber w.at) (λ count. Ok (unit w.at count))
+step (unit at count) w =
+    valued (unit_of w.bytes) (UnknownWord w.at) (λ seconds. wide at (count * seconds))
+step (filter said) w = expecting (codes "where") (condition said) w
+step (condition said) w = opens said w
+step (symbol_in said) w = expecting (codes "in") (symbols said) w
+step (symbols said) w =
+    valued (symbols_of w.bytes) (UnknownWord w.at) (λ names.
+    Ok (more (record said { symbols = Some names })))
+step (time_from said) w = expecting (codes "from") (first_time said) w
+step (first_time said) w =
+    valued (time_of w.bytes) (BadTime w.at) (λ since. Ok (time_until said since))
+step (time_until said since) w = expecting (codes "until") (second_time said since) w
+step (second_time said since) w = valued (time_of w.bytes) (BadTime w.at) (bounded said since)
+step (kind_in said) w = expecting (codes "in") (kinds said) w
+step (kinds said) w =
+    valued (kinds_of w.bytes) (UnknownWord w.at) (λ some.
+    Ok (more (record said { kinds = Some some })))
+step (more said) w = expecting (codes "and") (condition said) w
+
+-- the text ends
+abbrev pub ended : Next → Result Meaning QueryFault
+ended (filter said) = Ok (meaning_of said)
+ended (more said) = Ok (meaning_of said)
+ended _ = Err Incomplete
+
+abbrev pub continued : Step → (Next → Result Meaning QueryFault) → Result Meaning QueryFault
+continued (Ok next) rest = rest next
+continued (Err fault) rest = Err fault
+
+-- the words are read one after the other, up to a fault
+unfoldable pub read_from : Next → List Word → Result Meaning QueryFault
+read_from next [] = ended next
+read_from next (w ∷ ws) = continued (step next w) (λ then_next. read_from then_next ws)
+
+-- the first fault of the words of a text, if there is one
+abbrev pub first_fault : List Word → Option QueryFault
+first_fault words = result_err (read_from query words)

@@ -1,0 +1,61 @@
+-- The grammar of queries, a rule for each of its forms. A word is told with the number of bytes
+-- that stand before it, which may be any.
+use Rattle.std.specs.Prelude.{◌≡◌, ℕ, ◌*◌, nat_lt, true, List, [], ◌∷◌, Option, Some, None, codes}
+use Rattle.query.specs.Words.{Word, word}
+use Rattle.query.specs.Values.{number_of, unit_of, time_of, symbols_of, kinds_of}
+use Rattle.query.specs.Meaning.{Meaning, Said, only, meaning_of, is_width}
+use Rattle.query.specs.declared.query.What.TheVariants.{Sales, Bars}
+use Rattle.probe.specs.declared.selection.Kinds.{Kinds}
+
+mutual
+  -- the words after `where` or `and`, and the query that they make of what was said before them
+  pub data Conditions : Said → List Word → Meaning → Type 0 where
+    symbol :
+        {said : Said} {a b c : ℕ} {list : List ℕ} {names : List (List ℕ)}
+        {rest : List Word} {query : Meaning}
+        → said.symbols ≡ None → symbols_of list ≡ Some names
+        → More (record said { symbols = Some names }) rest query
+        → Conditions said
+        (word a (codes "symbol") ∷ word b (codes "in") ∷ word c list ∷ rest) query
+    time :
+        {said : Said} {a b c d e : ℕ} {first second : List ℕ} {since until : ℕ}
+        {rest : List Word} {query : Meaning}
+        → said.span ≡ None → time_of first ≡ Some since → time_of second ≡ Some until
+        → nat_lt since until ≡ true
+        → More (record said { span = Some (record { since = since; until = until }) }) rest query
+        → Conditions said
+        (word a (codes "time") ∷ word b (codes "from") ∷ word c first
+        ∷ word d (codes "until") ∷ word e second ∷ rest) query
+    kind :
+        {said : Said} {a b c : ℕ} {list : List ℕ} {kinds : Kinds}
+        {rest : List Word} {query : Meaning}
+        → said.kinds ≡ None → kinds_of list ≡ Some kinds
+        → More (record said { kinds = Some kinds }) rest query
+        → Conditions said
+        (word a (codes "kind") ∷ word b (codes "in") ∷ word c list ∷ rest) query
+
+  -- the words after a condition: none, or `and` and further conditions
+  pub data More : Said → List Word → Meaning → Type 0 where
+    done : {said : Said} → More said [] (meaning_of said)
+    further :
+        {said : Said} {a : ℕ} {rest : List Word} {query : Meaning}
+        → Conditions said rest query → More said (word a (codes "and") ∷ rest) query
+
+-- the words after what is listed: none, or `where` and conditions
+pub data Filter : Said → List Word → Meaning → Type 0 where
+  all : {said : Said} → Filter said [] (meaning_of said)
+  those :
+      {said : Said} {a : ℕ} {rest : List Word} {query : Meaning}
+      → Conditions said rest query → Filter said (word a (codes "where") ∷ rest) query
+
+-- the words of a query, and what they mean
+pub data Means : List Word → Meaning → Type 0 where
+  sales :
+      {a : ℕ} {rest : List Word} {query : Meaning}
+      → Filter (only Sales) rest query → Means (word a (codes "sales") ∷ rest) query
+  bars :
+      {a b c : ℕ} {number unit : List ℕ} {count seconds : ℕ} {rest : List Word} {query : Meaning}
+      → number_of number ≡ Some count → unit_of unit ≡ Some seconds
+      → is_width (count * seconds) ≡ true
+      → Filter (only (Bars (count * seconds))) rest query
+      → Means (word a (codes "bars") ∷ word b number ∷ word c unit ∷ rest) query

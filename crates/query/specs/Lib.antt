@@ -1,0 +1,10 @@
+pub mod Words
+pub mod Parting
+pub mod Values
+pub mod Meaning
+pub mod Forms
+pub mod Grammar
+pub mod Faults
+pub mod Selected
+pub mod Canonical
+pub mod Writing

@@ -1,0 +1,76 @@
+-- What a query means.
+use Rattle.std.specs.Prelude.{◌≡◌, ℕ, ◌<◌, ◌≤◌, nat_lt, nat_le, Bool, true, false, ◌&&◌, ◌||◌, IsTrue, List, length, Option, Some, None, unwrap_or}
+use Rattle.std.specs.List.{list_all}
+use Rattle.query.specs.Values.{is_symbol}
+use Rattle.query.specs.declared.query.What.{What}
+use Rattle.query.specs.declared.query.What.TheVariants.{Bars}
+use Rattle.probe.specs.declared.selection.Kinds.{Kinds}
+use Rattle.probe.specs.declared.selection.Span.{Span}
+
+-- a query: what is listed, and of which sales
+pub record Meaning : Type 0 where
+  pub what : What
+  pub symbols : Option (List (List ℕ))
+  pub span : Option Span
+  pub kinds : Kinds
+
+-- the part of a query that was read; a condition that wasn't given is `None`
+pub record Said : Type 0 where
+  pub what : What
+  pub symbols : Option (List (List ℕ))
+  pub span : Option Span
+  pub kinds : Option Kinds
+
+-- no condition was given
+abbrev pub only : What → Said
+only what = record { what = what; symbols = None; span = None; kinds = None }
+
+abbrev pub all_kinds : Kinds
+all_kinds = record { e = true; c = true; p = true; q = true }
+
+-- what was said, with all kinds where none were given
+abbrev pub meaning_of : Said → Meaning
+meaning_of said =
+    record {
+      what = said.what;
+      symbols = said.symbols;
+      span = said.span;
+      kinds = unwrap_or said.kinds all_kinds;
+    }
+
+-- a width of 1 to 86400 seconds
+abbrev pub is_width : ℕ → Bool
+is_width width = nat_le 1 width && nat_le width 86400
+
+-- one or more symbols
+abbrev pub are_symbols : List (List ℕ) → Bool
+are_symbols symbols = nat_lt 0 (length symbols) && list_all is_symbol symbols
+
+-- the first second is before the second, and that isn't past the day's end
+abbrev pub is_span : Span → Bool
+is_span span = nat_lt span.since span.until && nat_le span.until 86400
+
+-- one or more kinds
+abbrev pub has_some : Kinds → Bool
+has_some kinds = (kinds.e || kinds.c) || (kinds.p || kinds.q)
+
+-- widths, symbols and times are within their bounds
+pub record IsSound (listed : What) (names : Option (List (List ℕ))) (times : Option Span)
+    : Type 0 where
+  pub width : (n : ℕ) → listed ≡ Bars n → is_width n ≡ true
+  pub symbols : (some : List (List ℕ)) → names ≡ Some some → are_symbols some ≡ true
+  pub span : (some : Span) → times ≡ Some some → is_span some ≡ true
+
+-- a query that the language can spell
+pub record CanBeSpelled (query : Meaning) : Type 0 where
+  pub sound : IsSound query.what query.symbols query.span
+  pub kinds : has_some query.kinds ≡ true
+
+-- a width of bars is within its bounds
+abbrev pub HasWidth : What → Type 0
+HasWidth what = (n : ℕ) → what ≡ Bars n → is_width n ≡ true
+
+-- what was said is within its bounds
+pub record IsSaidSoundly (said : Said) : Type 0 where
+  pub sound : IsSound said.what said.symbols said.span
+  pub kinds : (some : Kinds) → said.kinds ≡ Some some → has_some some ≡ true

@@ -1,0 +1,87 @@
+-- Words that stand for a value.
+use Rattle.std.specs.Prelude.{ℕ, ◌+◌, ◌-◌, ◌*◌, ◌==◌, nat_lt, nat_le, Bool, true, ◌&&◌, ◌||◌, not, if◌then◌else◌, List, length, fold, Option, Some, None, option_and_then, slice_index, codes}
+use Rattle.std.specs.Char.{is_ascii_digit}
+use Rattle.std.specs.List.{list_all, list_any}
+use Rattle.std.specs.Str.{bytes_eq}
+use Rattle.query.specs.Words.{parts}
+use Rattle.probe.specs.declared.selection.Kinds.{Kinds}
+
+-- the number that digits write
+abbrev pub number_from : List ℕ → ℕ
+number_from digits = fold (λ value digit. 10 * value + (digit - 48)) 0 digits
+
+-- a word of one to five digits is their number
+unfoldable pub number_of : List ℕ → Option ℕ
+number_of bytes =
+    if (nat_lt 0 (length bytes) && nat_le (length bytes) 5) && list_all is_ascii_digit bytes
+    then Some (number_from bytes) else None
+
+-- how many seconds a unit has
+unfoldable pub unit_of : List ℕ → Option ℕ
+unit_of bytes =
+    if bytes_eq bytes (codes "s") then Some 1
+    else if bytes_eq bytes (codes "m") then Some 60
+    else if bytes_eq bytes (codes "h") then Some 3600
+    else None
+
+-- the two digits at a place of a word
+unfoldable pub pair_at : ℕ → List ℕ → Option ℕ
+pair_at place bytes =
+    if is_ascii_digit (slice_index bytes place) && is_ascii_digit (slice_index bytes (place + 1))
+    then Some (10 * (slice_index bytes place - 48) + (slice_index bytes (place + 1) - 48)) else None
+
+-- hours, minutes and seconds as a number of seconds, where they are on a clock
+abbrev pub clock : ℕ → ℕ → ℕ → Option ℕ
+clock hours minutes seconds =
+    if (nat_lt hours 24 && nat_lt minutes 60) && nat_lt seconds 60
+    then Some (3600 * hours + 60 * minutes + seconds) else None
+
+-- a word `HH:MM:SS` is the seconds since midnight
+unfoldable pub clock_of : List ℕ → Option ℕ
+clock_of bytes =
+    if length bytes == 8 && (slice_index bytes 2 == 58 && slice_index bytes 5 == 58)
+    then option_and_then (λ hours. option_and_then (λ minutes. option_and_then (λ seconds.
+    clock hours minutes seconds) (pair_at 6 bytes)) (pair_at 3 bytes)) (pair_at 0 bytes)
+    else None
+
+-- a time of the day, or its end
+unfoldable pub time_of : List ℕ → Option ℕ
+time_of bytes = if bytes_eq bytes (codes "24:00:00") then Some 86400 else clock_of bytes
+
+-- a byte that is no space, no comma and no control
+abbrev pub is_symbol_byte : ℕ → Bool
+is_symbol_byte byte = (nat_le 33 byte && nat_le byte 126) && not (byte == 44)
+
+-- one to eight such bytes
+unfoldable pub is_symbol : List ℕ → Bool
+is_symbol bytes =
+    (nat_lt 0 (length bytes) && nat_le (length bytes) 8) && list_all is_symbol_byte bytes
+
+-- a word that is a list of symbols, with a comma between each two
+unfoldable pub symbols_of : List ℕ → Option (List (List ℕ))
+symbols_of bytes = let symbols = parts 44 bytes in
+    if list_all is_symbol symbols then Some symbols else None
+
+-- a kind's letter
+abbrev pub is_kind : List ℕ → Bool
+is_kind bytes =
+    (bytes_eq bytes (codes "E") || bytes_eq bytes (codes "C"))
+    || (bytes_eq bytes (codes "P") || bytes_eq bytes (codes "Q"))
+
+-- a letter is somewhere in a word
+abbrev pub has_letter : ℕ → List ℕ → Bool
+has_letter letter bytes = list_any (λ byte. byte == letter) bytes
+
+-- the kinds whose letters are in a word
+abbrev pub letters_of : List ℕ → Kinds
+letters_of bytes =
+    record {
+      e = has_letter 69 bytes;
+      c = has_letter 67 bytes;
+      p = has_letter 80 bytes;
+      q = has_letter 81 bytes;
+    }
+
+-- a word that is a list of kinds, with a comma between each two
+unfoldable pub kinds_of : List ℕ → Option Kinds
+kinds_of bytes = if list_all is_kind (parts 44 bytes) then Some (letters_of bytes) else None

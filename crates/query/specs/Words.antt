@@ -1,0 +1,34 @@
+-- The words of a text: what stands between its spaces.
+use Rattle.std.specs.Prelude.{ℕ, ◌+◌, ◌==◌, nat_lt, Bool, List, [], ◌∷◌, length, filter}
+use Rattle.std.specs.List.{slice_split}
+use Rattle.std.specs.Str.{bytes_eq}
+
+-- a word, and how many bytes of the text stand before it
+pub record Word : Type 0 where
+  pub at : ℕ
+  pub bytes : List ℕ
+
+-- a word at a byte of the text
+abbrev pub word : ℕ → List ℕ → Word
+word at bytes = record { at = at; bytes = bytes }
+
+-- a word is the text
+abbrev pub reads_as : List ℕ → Word → Bool
+reads_as text w = bytes_eq w.bytes text
+
+-- what stands between the bytes that part a text, empty parts too
+abbrev pub parts : ℕ → List ℕ → List (List ℕ)
+parts separator text = slice_split (λ byte. byte == separator) text
+
+-- parts with one byte between each two, the first of them at byte `at`
+abbrev pub placed : ℕ → List (List ℕ) → List Word
+placed at [] = []
+placed at (part ∷ more) = word at part ∷ placed (at + (length part + 1)) more
+
+-- the parts between spaces that aren't empty, of a text that begins at byte `at`
+unfoldable pub words_from : ℕ → List ℕ → List Word
+words_from at text = filter (λ w. nat_lt 0 (length w.bytes)) (placed at (parts 32 text))
+
+-- the words of a text
+abbrev pub words_of : List ℕ → List Word
+words_of text = words_from 0 text

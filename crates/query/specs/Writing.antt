@@ -1,0 +1,17 @@
+-- A canonical text that is written word by word.
+use Rattle.std.specs.Prelude.{ℕ, Bool, true, ◌&&◌, not, if◌then◌else◌, List, [], ◌∷◌, ◌++◌, codes}
+use Rattle.std.specs.List.{flat_map}
+
+-- words with a space before each
+abbrev pub spaced : List (List ℕ) → List ℕ
+spaced words = flat_map (λ bytes. 32 ∷ bytes) words
+
+-- the word before the next condition
+abbrev pub next_link : List ℕ → List (List (List ℕ)) → List ℕ
+next_link link [] = link
+next_link link (condition ∷ conditions) = codes "and"
+
+-- a letter, if it is chosen, with a comma before it unless it is the first
+abbrev pub letter_text : Bool → Bool → ℕ → List ℕ
+letter_text is_first chosen letter =
+    if chosen then (if is_first then letter ∷ [] else 44 ∷ letter ∷ []) else []

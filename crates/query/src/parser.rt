@@ -1,0 +1,78 @@
+//! Reads a text as a query.
+ghost use Rattle.std.specs.Prelude.{◌≡◌, ◌≢◌, IfOk, IfErr, MatchResult, Ok, Err, Some, true};
+ghost use Rattle.query.specs.Faults.{first_fault, query, read_from};
+ghost use Rattle.query.specs.Forms.{what_of, width_of};
+ghost use Rattle.query.specs.Grammar.{Means};
+ghost use Rattle.query.specs.Meaning.{CanBeSpelled, HasWidth, Meaning, is_width, meaning_of};
+ghost use Rattle.query.specs.Words.{words_of};
+
+use crate::fault::QueryFault;
+use crate::query::{Query, What};
+use crate::reading::Reading;
+use crate::values::{number_of, unit_of};
+use crate::words::Words;
+use std::alloc::Allocator;
+
+/// Reads the query that a text spells, in time linear in its length. Of several faults the first
+/// from the left is told. Memory is taken for the list of symbols alone.
+#[tactic(auto, using(crate::proofs::Readings::told))]
+pub fn parse<A: Allocator + Clone>(alloc: A, text: &str) -> Result<Query<A>, QueryFault>
+    ensures meaning { IfOk result (λ query. Means (words_of text.now) query) }
+    ensures sound { IfOk result CanBeSpelled }
+    ensures fault { IfErr result (λ fault. fault ≢ QueryFault.OutOfMemory →
+        first_fault (words_of text.now) ≡ Some fault) }
+    ensures exactly { (meaning : Meaning) → Means (words_of text.now) meaning →
+        MatchResult result (λ query. query ≡ meaning) (λ fault. fault ≡ QueryFault.OutOfMemory) }
+{
+    let reading = read_query(alloc, text.as_bytes())?;
+    Ok(reading.into_query())
+}
+
+#[tactic(auto, using(crate::proofs::Takings::whole))]
+fn read_query<A: Allocator + Clone>(alloc: A, text: &[u8]) -> Result<Reading<A>, QueryFault>
+    ensures ok { IfOk result (λ said. read_from query (words_of text.now) ≡ Ok (meaning_of said)) }
+    ensures err { IfErr result (λ fault. fault ≢ QueryFault.OutOfMemory →
+        read_from query (words_of text.now) ≡ Err fault) }
+{
+    let mut words = Words::of(text);
+    let what = read_what(&mut words)?;
+    let mut reading = Reading::only(what);
+    reading.read_filter(&alloc, &mut words)?;
+    Ok(reading)
+}
+
+/// Reads `sales`, or `bars` and a width.
+#[tactic(auto, unfolding(crate::specs::Forms::what_of))]
+fn read_what(words: &mut Words<'_>) -> Result<What, QueryFault>
+    ensures ok { IfOk result (λ what. what_of words.old ≡ Ok (what, words.new)) }
+    ensures sound { IfOk result HasWidth }
+    ensures err { IfErr result (λ fault. what_of words.old ≡ Err fault) }
+{
+    let word = words.required()?;
+    if word.is(b"sales") {
+        Ok(What::Sales)
+    } else {
+        word.require(b"bars")?;
+        let width = read_width(words)?;
+        Ok(What::Bars { width })
+    }
+}
+
+/// Reads a number and its unit.
+#[tactic(auto, unfolding(crate::specs::Forms::width_of))]
+fn read_width(words: &mut Words<'_>) -> Result<u32, QueryFault>
+    ensures ok { IfOk result (λ width. width_of words.old ≡ Ok (width, words.new)) }
+    ensures sound { IfOk result (λ width. is_width width ≡ true) }
+    ensures err { IfErr result (λ fault. width_of words.old ≡ Err fault) }
+{
+    let number = words.required()?;
+    let count = number_of(number.bytes).ok_or(QueryFault::BadNumber { at: number.at })?;
+    let unit = words.required()?;
+    let seconds = unit_of(unit.bytes).ok_or(QueryFault::UnknownWord { at: unit.at })?;
+    let width = count * seconds;
+    if (1..=86_400).contains(&width) {
+        Ok(width)
+    } else {
+        Err(QueryFault::BadNumber { at: number.at })
+    }
+}

@@ -1,0 +1,59 @@
+//! Which sales a query asks for, once the names of the locates are known.
+ghost use Rattle.std.specs.Prelude.{◌≡◌, ◌<◌, ◌^◌, IfOk, None, Some, ℕ};
+ghost use Rattle.probe.specs.declared.selection.Locates.TheVariants.{All};
+ghost use Rattle.query.specs.Selected.{AreLocatesOf, has_name};
+ghost use Rattle.broken_trades.specs.Among.{is_among};
+ghost use Rattle.time_and_sales.specs.Names.{last_row, name_text};
+
+use crate::OutOfMemory;
+use crate::query::Query;
+use crate::symbols::Symbols;
+use probe::{LocateList, Locates, Selection};
+use std::alloc::Allocator;
+use time_and_sales::Names;
+
+/// The selection of a query: the locates, of 0 to 65,535, whose names the query lists, its span
+/// and its kinds. Where it lists no symbol every locate is selected, and no memory is taken.
+pub fn selection<A: Allocator, B: Allocator, C: Allocator + Clone>(
+    alloc: A,
+    query: &Query<B>,
+    names: &Names<C>,
+) -> Result<Selection<A>, OutOfMemory>
+    ensures locates { IfOk result (λ selection.
+        AreLocatesOf query.now.symbols names.now selection.locates) }
+    ensures every { IfOk result (λ selection. query.now.symbols ≡ None → selection.locates ≡ All) }
+    ensures span { IfOk result (λ selection. selection.span ≡ query.now.span) }
+    ensures kinds { IfOk result (λ selection. selection.kinds ≡ query.now.kinds) }
+{
+    let locates = match &query.symbols {
+        Some(symbols) => Locates::Listed(LocateList::from_rows(listed(alloc, symbols, names)?)),
+        None => Locates::All,
+    };
+    Ok(Selection {
+        locates,
+        span: query.span,
+        kinds: query.kinds,
+    })
+}
+
+// How many locates there are.
+const LOCATES: u32 = 65_536;
+
+#[tactic(auto, using(crate::proofs::Listings::listing))]
+fn listed<A: Allocator, B: Allocator, C: Allocator + Clone>(
+    alloc: A,
+    symbols: &Symbols<B>,
+    names: &Names<C>,
+) -> Result<Vec<u16, A>, OutOfMemory>
+    ensures { IfOk result (λ rows. (locate : ℕ) → locate < 2 ^ 16 → is_among rows.items locate
+        ≡ has_name (Some symbols.now) (name_text locate (last_row names.now locate))) }
+{
+    let mut rows = Vec::new(alloc);
+    for number in 0..LOCATES {
+        let locate = number as u16;
+        if symbols.hold(names.name(locate).items()) {
+            rows.push(locate)?;
+        }
+    }
+    Ok(rows)
+}

@@ -1,0 +1,150 @@
+//! Texts and their answers, and each allocation refused.
+
+use crate::{OutOfMemory, QueryFault, parse, selection, write};
+use linked_list_allocator::LocalHeap;
+use probe::Locates;
+use std::alloc::Global;
+use std::test::Fail;
+use time_and_sales::{DirectoryRow, Names};
+
+const ANSWERS: [(&str, &str); 20] = [
+    ("bars 0 s", "query byte 5: bad number"),
+    ("bars 1 m 2", "query byte 9: unknown word"),
+    ("bars 25 h", "query byte 5: bad number"),
+    ("bars", "query ends too early"),
+    ("", "query ends too early"),
+    ("sales where kind in X", "query byte 20: unknown word"),
+    ("sales where kind in e", "query byte 20: unknown word"),
+    ("sales where kind in E,", "query byte 20: unknown word"),
+    ("sales where symbol in A,,B", "query byte 22: unknown word"),
+    (
+        "sales where symbol in ABCDEFGHI",
+        "query byte 22: unknown word",
+    ),
+    (
+        "sales where time from 9:00:00 until 10:00:00",
+        "query byte 22: bad time",
+    ),
+    (
+        "sales where kind in E and kind in P",
+        "query byte 26: condition given twice",
+    ),
+    (
+        "sales where time from 10:00:00 until 10:00:00",
+        "query has an empty time range",
+    ),
+    ("sales ", "sales"),
+    (
+        "  bars  1 m where kind in P,E",
+        "bars 60 s where kind in E,P",
+    ),
+    ("bars 24 h", "bars 86400 s"),
+    ("sales where kind in Q,P,C,E", "sales"),
+    (
+        "sales where kind in P and symbol in MSFT,A,A",
+        "sales where symbol in MSFT,A,A and kind in P",
+    ),
+    (
+        "sales where symbol in MSFT and time from 09:31:00 until 24:00:00 and kind in P",
+        "sales where symbol in MSFT and time from 09:31:00 until 24:00:00 and kind in P",
+    ),
+    (
+        "sales where time from 09:30:00 until 09:31:00",
+        "sales where time from 09:30:00 until 09:31:00",
+    ),
+];
+
+// The canonical text of the query that a text spells, or its fault's message.
+fn answer(alloc: Global, text: &str) -> Result<String, Fail> {
+    let mut out = Vec::new(alloc);
+    match parse(alloc, text) {
+        Ok(query) => write(&mut out, &query)?,
+        Err(fault) => return Ok(format!(in alloc; "{fault}")?),
+    }
+    Ok(String::from_utf8(out)?)
+}
+
+#[test]
+fn texts(rt: HostRuntime) -> Result<(), Fail> {
+    for (text, wanted) in ANSWERS {
+        let found = answer(rt.alloc(), text)?;
+        assert_eq!(rt; found.as_str(), wanted);
+    }
+    Ok(())
+}
+
+// A heap has memory for a call once its size has grown, 16 bytes at a time.
+const SIZES: usize = 256;
+
+#[test]
+fn parse_without_memory(rt: HostRuntime) -> Result<(), Fail> {
+    let mut refusals = 0;
+    for step in 0..SIZES {
+        let heap = LocalHeap::new(rt.alloc(), 16 * step)?;
+        match parse(&heap, "sales where symbol in A,B") {
+            Ok(query) => {
+                assert!(rt; query.symbols.is_some());
+                assert!(rt; refusals > 0);
+                return Ok(());
+            }
+            Err(QueryFault::OutOfMemory) => refusals += 1,
+            Err(_) => panic!(rt; "a fault"),
+        }
+    }
+    panic!(rt; "no memory")
+}
+
+#[test]
+fn write_without_memory(rt: HostRuntime) -> Result<(), Fail> {
+    let query = parse(rt.alloc(), "bars 1 m where kind in P")?;
+    let mut refusals = 0;
+    for step in 0..SIZES {
+        let heap = LocalHeap::new(rt.alloc(), 16 * step)?;
+        let mut out = Vec::new(&heap);
+        if write(&mut out, &query).is_ok() {
+            assert_eq!(rt; out.as_slice(), b"bars 60 s where kind in P".as_slice());
+            assert!(rt; refusals > 0);
+            return Ok(());
+        }
+        assert!(rt; out.is_empty());
+        refusals += 1;
+    }
+    panic!(rt; "no memory")
+}
+
+// The names of two locates: 7 is MSFT, 9 is A.
+fn names(alloc: Global) -> Result<Names, OutOfMemory> {
+    let rows = [
+        DirectoryRow {
+            place: 0,
+            locate: 7,
+            stock: *b"MSFT    ",
+        },
+        DirectoryRow {
+            place: 41,
+            locate: 9,
+            stock: *b"A       ",
+        },
+    ];
+    Names::build(alloc, &rows)
+}
+
+#[test]
+fn selections(rt: HostRuntime) -> Result<(), Fail> {
+    let names = names(rt.alloc())?;
+    let query = parse(rt.alloc(), "sales where symbol in A,#8")?;
+    let mut refusals = 0;
+    for step in 0..SIZES {
+        let heap = LocalHeap::new(rt.alloc(), 16 * step)?;
+        if let Ok(selected) = selection(&heap, &query, &names) {
+            let Locates::Listed(list) = &selected.locates else {
+                panic!(rt; "every locate")
+            };
+            assert!(rt; !list.holds(7) && list.holds(8) && list.holds(9));
+            assert!(rt; refusals > 0);
+            return Ok(());
+        }
+        refusals += 1;
+    }
+    panic!(rt; "no memory")
+}

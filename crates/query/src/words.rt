@@ -1,0 +1,123 @@
+//! The words of a text, one after the other.
+ghost use Rattle.std.specs.Prelude.{◌≡◌, ◌+◌, ◌<◌, ◌^◌, ◌∷◌, ◌++◌, [], length, MatchOption, IfOk, IfErr, IfSome, OnOk, position, ◌==◌, Ok, Err, true, false};
+ghost use Rattle.query.specs.Words.{Word, parts, reads_as, word, words_from};
+ghost use Rattle.query.specs.Forms.{took};
+ghost use Rattle.query.specs.Parting.{after_part};
+
+use crate::fault::QueryFault;
+use std::marker::Model;
+
+/// A word, and the number of bytes that stand before it in the text.
+#[derive(Clone, Copy, Debug)]
+pub(crate) struct Word<'a> {
+    pub(crate) at: usize,
+    pub(crate) bytes: &'a [u8],
+}
+
+/// The words that are left of a text.
+#[derive(Drop)]
+pub(crate) struct Words<'a> {
+    at: usize,
+    rest: Option<&'a [u8]>,
+}
+
+impl<'a> Model for Words<'a> {
+    ghost use Rattle.std.specs.Prelude.{List};
+    ghost use Rattle.query.specs.Words.{Word};
+
+    ghost Value = { List Word };
+
+    ghost use Rattle.query.specs.Parting.{words_left, IsInText};
+
+    ghost view = { λ words. words_left words.at words.rest };
+
+    ghost invariant = { λ words. IsInText words.at words.rest };
+}
+
+fn first_place(text: &[u8], separator: u8) -> Option<usize>
+    ensures place { result ≡ position (λ byte. byte == separator) text.now }
+    ensures within { IfSome result (λ place. place < length text.now) }
+{
+    text.iter().position(|byte| *byte == separator)
+}
+
+/// What stands before the first separator, and what stands after it where there is one.
+pub(crate) fn cut(text: &[u8], separator: u8) -> (&[u8], Option<&[u8]>)
+    ensures parts { parts separator text.now ≡ result.0.now ∷ after_part separator result.1 }
+    ensures shorter { MatchOption result.1 (length result.0.now ≡ length text.now)
+        (λ rest. length result.0.now + 1 + length rest.now ≡ length text.now) }
+{
+    match first_place(text, separator) {
+        Some(end) => (&text[..end], Some(&text[end + 1..])),
+        None => (text, None),
+    }
+}
+
+impl<'a> Words<'a> {
+    pub(crate) fn of(text: &'a [u8]) -> Self
+        ensures { result ≡ words_from 0 text.now }
+    {
+        Words {
+            at: 0,
+            rest: Some(text),
+        }
+    }
+
+    /// The next word.
+    pub(crate) fn next(&mut self) -> Option<Word<'a>>
+        ensures { MatchOption result (self.old ≡ [])
+            (λ next. self.old ≡ word next.at next.bytes.now ∷ self.new) }
+    {
+        while let Some(text) = self.rest {
+            let at = self.at;
+            let (part, rest) = cut(text, b' ');
+            self.at += part.len() + 1;
+            self.rest = rest;
+            if !part.is_empty() {
+                return Some(Word { at, bytes: part });
+            }
+        }
+        None
+    }
+
+    /// The next word, which must be there.
+    pub(crate) fn required(&mut self) -> Result<Word<'a>, QueryFault>
+        ensures ok { IfOk result (λ next. self.old ≡ word next.at next.bytes.now ∷ self.new) }
+        ensures err { IfErr result (λ fault. (fault ≡ QueryFault.Incomplete) × (self.old ≡ [])) }
+    {
+        self.next().ok_or(QueryFault::Incomplete)
+    }
+
+    /// Takes the next word, which must be this one.
+    pub(crate) fn expect(&mut self, text: &[u8]) -> Result<(), QueryFault>
+        ensures ok { IfOk result (λ _. took text.now self.old ≡ Ok self.new) }
+        ensures err { IfErr result (λ fault. took text.now self.old ≡ Err fault) }
+        ensures shorter { OnOk result (length self.new < length self.old) }
+    {
+        let word = self.required()?;
+        word.require(text)
+    }
+}
+
+impl Word<'_> {
+    /// Whether the word is the text.
+    pub(crate) fn is(&self, text: &[u8]) -> bool
+        ensures { result ≡ reads_as text.now (word self.now.at self.now.bytes.now) }
+    {
+        self.bytes == text
+    }
+
+    /// The word must be the text.
+    pub(crate) fn require(&self, text: &[u8]) -> Result<(), QueryFault>
+        ensures ok { IfOk result (λ _.
+            reads_as text.now (word self.now.at self.now.bytes.now) ≡ true) }
+        ensures err { IfErr result (λ fault. (fault ≡ QueryFault.UnknownWord self.now.at)
+            × (reads_as text.now (word self.now.at self.now.bytes.now) ≡ false)) }
+    {
+        if self.is(text) {
+            Ok(())
+        } else {
+            Err(QueryFault::UnknownWord { at: self.at })
+        }
+    }
+}

@@ -1,0 +1,4 @@
+pub mod Digits
+pub mod LastRows
+pub mod ByPlace
+pub mod Padding

@@ -1,0 +1,82 @@
+//! A listing: sales by place.
+ghost use Rattle.std.specs.Prelude.{◌≡◌, List, [], ◌++◌, map, nat_eq, OnOk, OnErr};
+ghost use Rattle.std.specs.List.{IsDistinct};
+ghost use Rattle.std.specs.List.Sorted.{IsPermutation};
+ghost use Rattle.time_and_sales.specs.Listings.{IsByPlace};
+
+use crate::OutOfMemory;
+use probe::Sale;
+use std::alloc::{Allocator, Global};
+use std::marker::Model;
+
+/// Sales in the order of their places.
+#[derive(Drop)]
+pub struct Listing<A: Allocator = Global> {
+    sales: Vec<Sale, A>,
+}
+
+impl<A: Allocator> Model for Listing<A> {
+    ghost use Rattle.std.specs.Prelude.{List};
+    ghost use Rattle.probe.specs.declared.rows.Sale.{Sale as TheSale};
+    ghost use Rattle.time_and_sales.specs.Listings.{IsByPlace};
+
+    ghost Value = { List TheSale };
+
+    ghost view = { λ listing. listing.sales.items };
+
+    ghost invariant = { λ listing. IsByPlace listing.sales.items };
+}
+
+impl<A: Allocator> Listing<A> {
+    /// A listing of no sales, in memory of `alloc`.
+    pub fn empty(alloc: A) -> Listing<A>
+        ensures { result ≡ [] }
+    {
+        Listing {
+            sales: Vec::new(alloc),
+        }
+    }
+
+    /// The listing of the sales, which are sorted in the vector that they come in.
+    pub fn of_sales(mut sales: Vec<Sale, A>) -> Listing<A>
+        requires { IsDistinct nat_eq (map (λ sale. sale.place) sales.items) }
+        ensures permutation { IsPermutation sales.items result }
+        ensures by_place { IsByPlace result }
+    {
+        sales.sort_unstable_by_key(|sale| sale.place);
+        Listing { sales }
+    }
+
+    /// Takes in the sales of `other`. Where there is no memory to merge the two in, they are sorted
+    /// where they lie. A refusal leaves the listing as it was.
+    pub fn unite(&mut self, other: &Listing<A>) -> Result<(), OutOfMemory>
+        requires { IsDistinct nat_eq (map (λ sale. sale.place) (self.old ++ other.now)) }
+        ensures permutation { OnOk result (IsPermutation (self.old ++ other.now) self.new) }
+        ensures by_place { IsByPlace self.new }
+        ensures unchanged { OnErr result (self.new ≡ self.old) }
+    {
+        self.sales.extend_from_slice(other.items())?;
+        if self.sales.sort_by_key(|listed| listed.place).is_err() {
+            self.sales.sort_unstable_by_key(|listed| listed.place);
+        }
+        Ok(())
+    }
+
+    /// The vector of the sales, by place.
+    pub fn into_vec(self) -> Vec<Sale, A>
+        ensures value { result.items ≡ self }
+        ensures by_place { IsByPlace result.items }
+    {
+        let Listing { sales } = self;
+        sales
+    }
+
+    /// The sales, by place.
+    #[inline]
+    pub fn items(&self) -> &[Sale]
+        ensures value { result.now ≡ self.now }
+        ensures by_place { IsByPlace result.now }
+    {
+        self.sales.as_slice()
+    }
+}
