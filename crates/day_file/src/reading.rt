@@ -61,8 +61,8 @@ fn read_piece<S: Source, A: Allocator>(
     Ok(taken)
 }
 
-/// Reads a source to its end, which may have at most `limit` bytes. It asks for at most `limit` + 1
-/// bytes, in pieces, and stops at the first call that fails.
+/// Reads a source of at most `limit` bytes to its end. It asks for at most `limit` + 1 bytes, in
+/// pieces, and stops at the first call that fails.
 pub fn read_day<S: Source, A: Allocator>(
     alloc: A,
     source: &mut S,

@@ -13,7 +13,7 @@ use Rattle.probe.specs.declared.rows.Sale.{Sale}
 use Rattle.time_and_sales.specs.Listings.{place_cmp}
 use Rattle.time_and_sales.specs.Names.{name_of}
 use Rattle.time_and_sales.specs.Texts.{listing_text, sale_line, sales_header}
-use Rattle.executor.specs.Answers.{IsAnswer, answer_of, sales, text_of}
+use Rattle.executor.specs.Answers.{IsAnswer, answer_of, selected_sales, text_of}
 use Rattle.executor.specs.Messages.{Placed, first_wrong, messages_of, order_rows, executions, own_priced_sales, break_numbers, directory_rows}
 use Rattle.executor.specs.Rows.{AreByPlace}
 use Rattle.executor.specs.Steps.{IsAnswerOf}
@@ -29,7 +29,7 @@ pub text_is : (messages : List Placed) (query : Query) (listing : List Sale) (na
     → ((locate : ℕ) → names locate ≡ name_of (directory_rows messages) locate) → text ≡ listing_text names listing → IsAnswerOf messages query (Ok text)
 text_is messages query listing names text up repeated unknown rising permutation named written =
     let same = listing_is (λ _. true) messages listing up rising permutation in
-    let is : text ≡ text_of query messages = written ∙ ap (listing_text names) same ∙ (λ i. listing_text (λ locate. named locate i) (sales (λ _. true) messages)) in
+    let is : text ≡ text_of query messages = written ∙ ap (listing_text names) same ∙ (λ i. listing_text (λ locate. named locate i) (selected_sales (λ _. true) messages)) in
     rw (repeated, unknown) (ap Ok is)
 
 -- one line more

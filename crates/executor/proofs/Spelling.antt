@@ -45,7 +45,7 @@ only_spaces xs h =
 -- the word, with the spaces behind it
 word_means : (before : ℕ) (text rest : List ℕ) → text ≡ replicate before 32 ++ rest → word_fault before rest ≡ None
     → Means text (record { what = Sales })
-word_means before text rest split none = 
+word_means before text rest split none =
     go (length (first_word rest) == 0) (bytes_eq (first_word rest) (codes "sales")) refl
     (nat_lt (spaces (drop (length (first_word rest)) rest)) (length (drop (length (first_word rest)) rest))) refl none
   where
@@ -61,8 +61,8 @@ word_means before text rest split none =
           before = before;
           after = spaces (drop (length (first_word rest)) rest);
           spelled = split
-            ∙ ap (λ l. replicate before 32 ++ l) (worded rest ∙ ap (λ l. l ++ drop (length (first_word rest)) rest) same ∙ ap (λ l. codes "sales" ++ l) (only_spaces _ is_more))
-            ∙ sym (append_assoc (replicate before 32) (codes "sales") _);
+              ∙ ap (λ l. replicate before 32 ++ l) (worded rest ∙ ap (λ l. l ++ drop (length (first_word rest)) rest) same ∙ ap (λ l. codes "sales" ++ l) (only_spaces _ is_more))
+              ∙ sym (append_assoc (replicate before 32) (codes "sales") _);
           asked = refl;
         }
 

@@ -24,7 +24,7 @@ use Rattle.itch_messages.specs.Body.{message_of}
 use Rattle.day_file.specs.Frames.{PlacedBody}
 use Rattle.time_and_sales.specs.declared.directory.DirectoryRow.{DirectoryRow}
 use Rattle.executor.specs.Messages.{Placed, placed_at, messages_of, order_row_at, execution_at, own_priced_at, directory_row_at, order_rows, executions, own_priced_sales, break_numbers, directory_rows}
-use Rattle.executor.specs.Answers.{trade_at, trades, sales}
+use Rattle.executor.specs.Answers.{trade_at, trades, selected_sales}
 use Rattle.executor.specs.Rows.{AreByPlace}
 
 one_trade : (rows : List OrderRow) (place : ℕ) (message : Message)
@@ -102,7 +102,7 @@ trade_keeps_place rows place (Directory directory) sale e = own_keeps_place plac
 trade_keeps_place rows place Skipped sale e = own_keeps_place place Skipped sale e
 
 -- the sales stand by place, since the messages do
-pub sales_by_place : (selection : Sale → Bool) (messages : List Placed) → AreByPlace messages → IsStrictlySortedBy place_cmp (sales selection messages)
+pub sales_by_place : (selection : Sale → Bool) (messages : List Placed) → AreByPlace messages → IsStrictlySortedBy place_cmp (selected_sales selection messages)
 sales_by_place selection messages up =
     IsStrictlySortedBy-filter place_cmp _ (trades messages)
     (sorted-filter_map (λ (m : Placed). m.place) (λ (s : Sale). s.place) (λ m. trade_at (order_rows messages) m.place m.message)
@@ -110,16 +110,16 @@ sales_by_place selection messages up =
 
 -- what is kept of the priced executions and the sales with a price of their own is, in some order, the sales
 pub kept_are_sales : (selection : Sale → Bool) (messages : List Placed)
-    → IsPermutation (kept (break_numbers messages) selection (priced (order_rows messages) (executions messages) ++ own_priced_sales messages)) (sales selection messages)
+    → IsPermutation (kept (break_numbers messages) selection (priced (order_rows messages) (executions messages) ++ own_priced_sales messages)) (selected_sales selection messages)
 kept_are_sales selection messages =
     IsPermutation-filter (is_kept (break_numbers messages) selection) _ _ (IsPermutation-sym _ _ (trades_are_both (order_rows messages) messages))
 
 -- so that list by place is the sales
 pub listing_is : (selection : Sale → Bool) (messages : List Placed) (listing : List Sale) → AreByPlace messages → IsStrictlySortedBy place_cmp listing
     → IsPermutation (kept (break_numbers messages) selection (priced (order_rows messages) (executions messages) ++ own_priced_sales messages)) listing
-    → listing ≡ sales selection messages
+    → listing ≡ selected_sales selection messages
 listing_is selection messages listing up rising h =
-    same_from_permutation place_cmp (on_total (λ (s : Sale). s.place) nat_cmp_total) listing (sales selection messages) rising (sales_by_place selection messages up)
+    same_from_permutation place_cmp (on_total (λ (s : Sale). s.place) nat_cmp_total) listing (selected_sales selection messages) rising (sales_by_place selection messages up)
     (IsPermutation-trans _ _ _ (IsPermutation-sym _ _ h) (kept_are_sales selection messages))
 
 -- ---- each list of rows stands by place, so it has no place twice
@@ -194,7 +194,7 @@ pub kept_distinct : (selection : Sale → Bool) (messages : List Placed) → Are
 kept_distinct selection messages up =
     IsDistinct-IsPermutation nat_eq flips _ _
     (IsPermutation-map (λ (s : Sale). s.place) _ _ (IsPermutation-sym _ _ (kept_are_sales selection messages)))
-    (distinct_places (λ (s : Sale). s.place) (sales selection messages) (sales_by_place selection messages up))
+    (distinct_places (λ (s : Sale). s.place) (selected_sales selection messages) (sales_by_place selection messages up))
 
 -- the messages of frames by place
 pub messages_by_place : (frames : List PlacedBody) → IsStrictlySortedBy (λ a b. nat_cmp a.place b.place) frames → AreByPlace (messages_of frames)
@@ -203,6 +203,7 @@ messages_by_place frames up =
   where
     kept_place : (place : ℕ) (message : Message) (m : Placed) → Some (record { place = place; message = message }) ≡ Some m → m.place ≡ place
     kept_place place message m e = let made : Placed = record { place = place; message = message } in let same : made ≡ m = cc in sym (ap (λ (p : Placed). p.place) same)
+
     message_keeps_place : (place : ℕ) (message : Message) (m : Placed) → placed_at place message ≡ Some m → m.place ≡ place
     message_keeps_place place Skipped m e = absurd (cc)
     message_keeps_place place (Add x) m e = kept_place place (Add x) m e

@@ -35,24 +35,27 @@ abbrev pub trade_at : List OrderRow → ℕ → Message → Option Sale
 trade_at rows place (Executed executed) = option_and_then (sale_of rows) (execution_at place (Executed executed))
 trade_at rows place message = own_priced_at place message
 
+-- the trades of the message list, by place; those of zero shares are among them
 abbrev pub trades : List Placed → List Sale
 trades messages = filter_map (λ m. trade_at (order_rows messages) m.place m.message) messages
 
 -- the trades of more than zero shares that no break names and that the selection admits, by place
-abbrev pub sales : (Sale → Bool) → List Placed → List Sale
-sales selection messages = kept (break_numbers messages) selection (trades messages)
+abbrev pub selected_sales : (Sale → Bool) → List Placed → List Sale
+selected_sales selection messages = kept (break_numbers messages) selection (trades messages)
 
 -- time and sales: the header line, then a line for each sale
 abbrev pub text_of : Query → List Placed → List ℕ
-text_of query messages = listing_text (name_of (directory_rows messages)) (sales (λ _. true) messages)
+text_of query messages = listing_text (name_of (directory_rows messages)) (selected_sales (λ _. true) messages)
 
+-- what is told of a frame whose length is wrong
 abbrev pub wrong_length_at : PlacedBody → DayFault
 wrong_length_at frame =
     let fault = length_fault_of frame.body in
     WrongLength frame.place fault.kind fault.length fault.wanted
 
 -- the first fault that there is, in this order, else the text
-abbrev pub answer_of : Option PlacedBody → Option OrderRow → Option Execution → List ℕ → Result (List ℕ) DayFault
+abbrev pub answer_of : Option PlacedBody → Option OrderRow → Option Execution → List ℕ
+    → Result (List ℕ) DayFault
 answer_of (Some frame) repeated unknown text = Err (wrong_length_at frame)
 answer_of None (Some row) unknown text = Err (RepeatedReference row.place row.order_no)
 answer_of None None (Some execution) text = Err (UnknownReference execution.place execution.order_no)
@@ -68,7 +71,7 @@ answer_to frames query =
     (first_unknown (order_rows messages) (executions messages))
     (text_of query messages)
 
--- a file that breaks off is told as such; else its frames have the answer
+-- a truncated file is told as such; else its frames have the answer
 abbrev pub IsAnswer : List ℕ → Query → Result (List ℕ) DayFault → Type 0
 IsAnswer file query answer =
     ((place : ℕ) × IsTruncatedAt file place × (answer ≡ Err (Truncated place)))

@@ -37,7 +37,7 @@ order_row_at place (Replace replace) =
     Some (record { place = place; order_no = replace.new_no; price = replace.price })
 order_row_at place _ = None
 
--- an execution at its order's price
+-- an execution, which its order prices
 abbrev pub execution_at : ℕ → Message → Option Execution
 execution_at place (Executed executed) = Some (record {
   place = place;
@@ -85,22 +85,28 @@ abbrev pub break_of : Message → Option ℕ
 break_of (Broken broken) = Some broken.trade_no
 break_of _ = None
 
+-- the row of a stock directory message
 abbrev pub directory_row_at : ℕ → Message → Option DirectoryRow
 directory_row_at place (Directory directory) =
     Some (record { place = place; locate = directory.header.locate; stock = directory.stock })
 directory_row_at place _ = None
 
+-- what the messages give of orders
 abbrev pub order_rows : List Placed → List OrderRow
 order_rows messages = filter_map (λ m. order_row_at m.place m.message) messages
 
+-- the executions of the messages
 abbrev pub executions : List Placed → List Execution
 executions messages = filter_map (λ m. execution_at m.place m.message) messages
 
+-- the sales of the messages that have a price of their own
 abbrev pub own_priced_sales : List Placed → List Sale
 own_priced_sales messages = filter_map (λ m. own_priced_at m.place m.message) messages
 
+-- the match numbers that the breaks of the messages name
 abbrev pub break_numbers : List Placed → List ℕ
 break_numbers messages = filter_map (λ m. break_of m.message) messages
 
+-- what the messages give of the stock directory
 abbrev pub directory_rows : List Placed → List DirectoryRow
 directory_rows messages = filter_map (λ m. directory_row_at m.place m.message) messages

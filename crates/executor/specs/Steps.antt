@@ -18,7 +18,8 @@ use Rattle.executor.specs.declared.query.Query.{Query}
 -- the rows of the frames' messages, or the first wrong length
 abbrev pub IsCollected : {A : Type 0} → List PlacedBody → Collected A → Type 0
 IsCollected frames (Rows rows) = (first_wrong frames ≡ None) × AreRowsOf (messages_of frames) rows × FitRows rows
-IsCollected frames (Wrong fault) = (frame : PlacedBody) × (first_wrong frames ≡ Some frame) × (fault ≡ wrong_length_at frame)
+IsCollected frames (Wrong fault) =
+    (frame : PlacedBody) × (first_wrong frames ≡ Some frame) × (fault ≡ wrong_length_at frame)
 
 -- the sales of the priced executions, or the first fault in the order references
 abbrev pub IsPriced : {A : Type 0} → List OrderRow → List Execution → Pricing A → Type 0

@@ -27,7 +27,7 @@ impl<A: Allocator> Text<A> {
     }
 
     /// Its bytes.
-    pub fn as_slice(&self) -> &[u8]
+    pub fn items(&self) -> &[u8]
         ensures { result.now ≡ self.now }
     {
         self.bytes.as_slice()
@@ -40,7 +40,9 @@ impl<A: Allocator> Text<A> {
 pub enum DayFault {
     /// The file ends within the frame at this place.
     #[error("place {place}: message runs past the end")]
-    Truncated { place: u64 },
+    Truncated {
+        place: u64,
+    },
     /// The body is of a type that is read, and its length is not that type's.
     #[error("place {place}: message {letter} has length {length}, not {wanted}", letter = char::from(*.kind))]
     WrongLength {
@@ -51,10 +53,16 @@ pub enum DayFault {
     },
     /// The message gives an order reference number that a message before it gave.
     #[error("place {place}: order reference {order_no} was given before")]
-    RepeatedReference { place: u64, order_no: u64 },
+    RepeatedReference {
+        place: u64,
+        order_no: u64,
+    },
     /// The execution names an order reference number that no message before it gives.
     #[error("place {place}: order reference {order_no} is not known")]
-    UnknownReference { place: u64, order_no: u64 },
+    UnknownReference {
+        place: u64,
+        order_no: u64,
+    },
 }
 
 /// The answer to a query.

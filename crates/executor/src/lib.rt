@@ -3,6 +3,7 @@
 
 mod answer;
 mod answering;
+mod law;
 mod query;
 mod rows;
 mod running;
@@ -10,8 +11,9 @@ mod settings;
 mod sink;
 
 pub use answer::{Answer, DayFault, Text};
-pub use day_file::{Counted, DayFile, DeviceFailed, LONGEST_FILE, Source};
 pub use answering::plain;
+pub use day_file::{Counted, DayFile, DeviceFailed, LONGEST_FILE, Source};
+pub use law::one_answer;
 pub use query::{Query, QueryFault, What, parse};
 pub use running::{RunFault, run};
 pub use settings::{Crew, Settings};
@@ -19,4 +21,3 @@ pub use sink::{CountedSink, Sink, WriteFailed, deliver};
 
 /// A growth was refused.
 pub type OutOfMemory = std::alloc::AllocError;
-

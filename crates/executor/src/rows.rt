@@ -125,13 +125,13 @@ fn directory_row(place: u64, directory: &Directory) -> DirectoryRow
 /// The sale of a message that has a price of its own.
 fn sale(place: u64, header: Header, kind: Kind, price: u32, shares: u64, trade_no: u64) -> Sale
     ensures row { result ≡ record {
-        place = place;
-        time = header.time;
-        locate = header.locate;
-        kind = kind;
-        price = price;
-        shares = shares;
-        trade_no = trade_no;
+      place = place;
+      time = header.time;
+      locate = header.locate;
+      kind = kind;
+      price = price;
+      shares = shares;
+      trade_no = trade_no;
     } }
     ensures fits { result.time < 2 ^ 48 }
 {

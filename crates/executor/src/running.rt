@@ -47,7 +47,7 @@ pub fn run<R, A: Allocator + Copy, S: Source, K: Sink>(
 ) -> Result<(), RunFault>
     requires source { S.has_failed source.old ≡ false }
     requires sink { K.has_failed sink.old ≡ false }
-    ensures ran { Ran S.Gave S.HasEnded K.Took
+    ensures ran { Ran S.Gave S.HasEnded K.Took K.HasFlushed
         query_text.now settings.limit source.old source.new sink.old sink.new result }
     ensures read_failed { S.has_failed source.new ≡ is_read_failed result }
     ensures write_failed { K.has_failed sink.new ≡ is_write_failed result }
@@ -64,7 +64,7 @@ pub fn run<R, A: Allocator + Copy, S: Source, K: Sink>(
         Err(ReadFault::OutOfMemory) => return Err(RunFault::OutOfMemory),
     };
     match plain(alloc, &day, &query) {
-        Ok(Answer::Printed(text)) => match deliver(sink, text.as_slice()) {
+        Ok(Answer::Printed(text)) => match deliver(sink, text.items()) {
             Ok(()) => Ok(()),
             Err(WriteFailed { written }) => Err(RunFault::WriteFailed { written }),
         },

@@ -9,11 +9,14 @@ pub trait Sink {
     /// From one state to a later one it took these bytes.
     ghost Took: { Self → Self → List ℕ → Type 0 };
 
+    /// What it took has been passed on.
+    ghost HasFlushed: { Self → Type 0 };
+
     /// A call has failed.
     ghost has_failed: { Self → Bool };
 
     /// Takes the first bytes of the slice, after all that it took before: at least one of a slice
-    /// that is not empty. A call that fails takes none.
+    /// that is not empty. A call that fails takes none, and no call may follow it.
     fn put(&mut self, bytes: &[u8]) -> Result<usize, DeviceFailed>
         requires { has_failed self.old ≡ false }
         ensures count { IfOk result (λ n. n ≤ length bytes.now) }
@@ -27,6 +30,7 @@ pub trait Sink {
     fn flush(&mut self) -> Result<(), DeviceFailed>
         requires { has_failed self.old ≡ false }
         ensures took { Took self.old self.new [] }
+        ensures flushed { OnOk result (HasFlushed self.new) }
         ensures failed { has_failed self.new ≡ is_err result };
 
     /// Whether a call has failed.
@@ -38,8 +42,8 @@ pub trait Sink {
     ghost took_more: { (a b c : Self) (xs ys : List ℕ) → Took a b xs → Took b c ys → Took a c (xs ++ ys) };
 }
 
-/// The sink over any writer. Any error of the writer, an interruption too, and a write of no byte
-/// are failures.
+/// The sink over any writer. Any error of the writer, an interruption too, and a write of no byte of
+/// a slice that is not empty are failures. That a writer passes on what it keeps back, no clause says.
 #[derive(Debug, Drop)]
 pub struct CountedSink<W: Write> {
     writer: W,
@@ -47,9 +51,12 @@ pub struct CountedSink<W: Write> {
 }
 
 impl<W: Write> CountedSink<W> {
+    ghost use Rattle.executor.specs.Counted.{is_failed, writer_of};
+
     /// A sink that has taken nothing yet.
     pub fn of(writer: W) -> Self
-        ensures { result ≡ record { writer = writer; failed = false } }
+        ensures writer { writer_of result ≡ writer }
+        ensures whole { is_failed result ≡ false }
     {
         CountedSink {
             writer,
@@ -60,12 +67,16 @@ impl<W: Write> CountedSink<W> {
 
 impl<W: Write> Sink for CountedSink<W> {
     ghost use Rattle.std.proofs.KnownBytes.{Appends-nil, Appends-trans};
+    ghost use Rattle.executor.specs.Counted.{is_failed, writer_of};
 
-    ghost Took = { λ before after bytes. Appends (W.contents before.writer) (W.contents after.writer) bytes };
+    ghost Took = { λ before after bytes.
+        Appends (W.contents (writer_of before)) (W.contents (writer_of after)) bytes };
 
-    ghost has_failed = { λ sink. sink.failed };
+    ghost HasFlushed = { λ _. Unit {0} };
 
-    ghost took_nothing = { λ sink. Appends-nil (W.contents sink.writer) };
+    ghost has_failed = { is_failed };
+
+    ghost took_nothing = { λ sink. Appends-nil (W.contents (writer_of sink)) };
 
     ghost took_more = { λ a b c xs ys first second. Appends-trans _ _ _ xs ys first second };
 
@@ -108,6 +119,7 @@ pub struct WriteFailed {
 pub fn deliver<K: Sink>(sink: &mut K, text: &[u8]) -> Result<(), WriteFailed>
     requires { K.has_failed sink.old ≡ false }
     ensures ok { OnOk result (K.Took sink.old sink.new text.now) }
+    ensures flushed { OnOk result (K.HasFlushed sink.new) }
     ensures written { IfErr result (λ refused. refused.written ≤ length text.now) }
     ensures took { IfErr result (λ refused. K.Took sink.old sink.new (take refused.written text.now)) }
     ensures failed { K.has_failed sink.new ≡ is_err result }
@@ -115,7 +127,9 @@ pub fn deliver<K: Sink>(sink: &mut K, text: &[u8]) -> Result<(), WriteFailed>
     put_all(sink, text)?;
     match sink.flush() {
         Ok(()) => Ok(()),
-        Err(DeviceFailed) => Err(WriteFailed { written: text.len() as u64 }),
+        Err(DeviceFailed) => Err(WriteFailed {
+            written: text.len() as u64,
+        }),
     }
 }
 
@@ -130,7 +144,9 @@ fn put_all<K: Sink>(sink: &mut K, text: &[u8]) -> Result<(), WriteFailed>
     while written < text.len() {
         match sink.put(&text[written..]) {
             Ok(count) => written += count,
-            Err(DeviceFailed) => return Err(WriteFailed { written: written as u64 }),
+            Err(DeviceFailed) => return Err(WriteFailed {
+                written: written as u64,
+            }),
         }
     }
     Ok(())

@@ -1,6 +1,6 @@
 -- The program's status, and what it does to its devices.
-use Rattle.std.specs.Prelude.{◌≡◌, ℕ, List, Result, Ok, Err, string_bytes}
-use Rattle.executor.specs.Runs.{Ran}
+use Rattle.std.specs.Prelude.{◌≡◌, ℕ, Bool, List, Result, Ok, Err, string_bytes}
+use Rattle.executor.specs.Runs.{Ran, is_read_failed, is_write_failed}
 use Rattle.executor.specs.declared.running.RunFault.{RunFault}
 use Rattle.executor.specs.declared.running.RunFault.TheVariants as fault
 use Rattle.itch_bars.specs.declared.words.Job.{Job}
@@ -19,10 +19,16 @@ abbrev pub status_of_outcome : Result (Unit {0}) RunFault → ℕ
 status_of_outcome (Ok done) = 0
 status_of_outcome (Err f) = status_of f
 
--- the job did to its source and its output what a run of its query does, and this is the status of that
-abbrev pub Did : {S K : Type 0} → (S → S → List ℕ → Type 0) → (S → Type 0) → (K → K → List ℕ → Type 0)
+-- the job did to its source and its output what a run of its query does, each of which failed exactly
+-- where the outcome says so, and this is the outcome's status
+abbrev pub Did : {S K : Type 0}
+    → (S → S → List ℕ → Type 0) → (S → Type 0) → (S → Bool)
+    → (K → K → List ℕ → Type 0) → (K → Type 0) → (K → Bool)
     → Job → S → S → K → K → ℕ → Type 0
-Did Gave HasEnded Took job before after empty full status =
+Did Gave HasEnded source_failed Took HasFlushed sink_failed job before after sink_before sink_after status =
     (outcome : Result (Unit {0}) RunFault)
-    × Ran Gave HasEnded Took (string_bytes job.query) job.settings.limit before after empty full outcome
+    × Ran Gave HasEnded Took HasFlushed
+    (string_bytes job.query) job.settings.limit before after sink_before sink_after outcome
+    × (source_failed after ≡ is_read_failed outcome)
+    × (sink_failed sink_after ≡ is_write_failed outcome)
     × (status ≡ status_of_outcome outcome)

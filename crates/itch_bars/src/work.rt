@@ -24,7 +24,8 @@ pub fn perform<R, A: Allocator + Copy, S: Source, K: Sink, L: Sink>(
     requires source { S.has_failed source.old ≡ false }
     requires out { K.has_failed out.old ≡ false }
     requires errors { L.has_failed errors.old ≡ false }
-    ensures { Did S.Gave S.HasEnded K.Took job.now source.old source.new out.old out.new result }
+    ensures { Did S.Gave S.HasEnded S.has_failed K.Took K.HasFlushed K.has_failed
+        job.now source.old source.new out.old out.new result }
 {
     let answer = run(rt, alloc, source, job.query.as_str(), job.settings, out);
     match answer {

@@ -140,7 +140,7 @@ message_of_kind kind body =
 abbrev pub message_of : List ℕ → Message
 message_of body = if is_whole body then message_of_kind (kind_of body) body else Skipped
 
--- whether a message is the one that stands for no message
+-- whether it is `Skipped`
 abbrev pub is_skipped : Message → Bool
 is_skipped Skipped = true
 is_skipped _ = false

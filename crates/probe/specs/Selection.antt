@@ -15,7 +15,7 @@ abbrev pub has_locate : {A : Type 0} → Locates A → ℕ → Bool
 has_locate All locate = true
 has_locate (Listed list) locate = is_among list locate
 
--- a time in nanoseconds is in a span of seconds: its first second is, its last isn't
+-- a time in nanoseconds is in a span of seconds: from its first time on, and before its second
 abbrev pub is_within : Span → ℕ → Bool
 is_within span time = nat_le (span.since * 1000000000) time && nat_lt time (span.until * 1000000000)
 

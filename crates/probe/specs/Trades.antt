@@ -1,4 +1,4 @@
--- The sales of a list that are kept.
+-- Which sales of a list are kept.
 use Rattle.std.specs.Prelude.{ℕ, nat_lt, Bool, ◌&&◌, not, List, filter}
 use Rattle.broken_trades.specs.Among.{is_among}
 use Rattle.probe.specs.declared.rows.Sale.{Sale}

@@ -76,7 +76,7 @@ impl Kinds {
 #[derive_where(PartialEq, Eq, Debug)]
 pub struct Selection<A: Allocator = Global> {
     pub locates: Locates<A>,
-    /// The part of the day, or the whole day.
+    /// The part of the day, or every time.
     pub span: Option<Span>,
     pub kinds: Kinds,
 }
@@ -100,7 +100,7 @@ impl Selection {
 }
 
 impl<A: Allocator> Selection<A> {
-    /// Whether the selection asks for the sale. A span's first second is in it, its last isn't.
+    /// Whether the selection asks for the sale. A span goes from `since` on to before `until`.
     pub fn admits(&self, sale: &Sale) -> bool
         ensures { result ≡ admits self.now sale.now }
     {
