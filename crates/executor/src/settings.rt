@@ -11,7 +11,7 @@ pub struct Crew {
     ghost one_gatherer: { gatherers ≡ 1 },
 }
 
-/// How a query is answered. No answer depends on the crew or the morsel.
+/// How a query is answered. No text of an answer depends on the crew or the morsel.
 #[derive(Clone, Copy, Debug, PartialEq, Eq)]
 pub struct Settings {
     pub crew: Crew,

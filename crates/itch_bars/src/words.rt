@@ -62,13 +62,13 @@ fn matched<'a>(alloc: Global, words: &'a [String]) -> Result<ArgMatches<'a>, Err
         .value_name("N")
         .value_parser(value_parser!(u32).range(1..=64))
         .default_value("4")
-        .help("Threads that work on the query, 1 to 64; no answer depends on them");
+        .help("Threads that work on the query, 1 to 64; no text depends on them");
     let morsel = Arg::new(alloc, "morsel")
         .long("morsel")
         .value_name("BYTES")
         .value_parser(value_parser!(u64).range(1..=1_073_741_824))
         .default_value("16777216")
-        .help("Least size of a piece of the file, 1 to 1073741824; no answer depends on it");
+        .help("Least size of a piece of the file, 1 to 1073741824; no text depends on it");
     let command = Command::new(alloc, "itch_bars")
         .about("Answers a query over a day file of Nasdaq TotalView-ITCH 5.0")
         .after_help(AFTER_HELP)
