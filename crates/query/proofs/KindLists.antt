@@ -1,7 +1,6 @@
 -- A list of kinds has a kind.
-use Rattle.std.proofs.Common.{◌≡◌, ℕ, Bool, true, false, cond, ◌&&◌, ◌||◌, List, [], ◌∷◌, Option, Some, None, refl, sym, ap, ◌∙◌, subst, eqb}
-use Rattle.std.specs.List.{list_all, slice_split, onto_first}
-use Rattle.std.specs.Str.{bytes_eq}
+use Rattle.std.proofs.Common.{◌≡◌, ℕ, Bool, true, false, cond, ◌&&◌, ◌||◌, List, [], ◌∷◌, Some, None, refl, subst, eqb}
+use Rattle.std.specs.List.{list_all, onto_first}
 use Rattle.query.specs.Words.{parts}
 use Rattle.query.specs.Values.{is_kind, has_letter, letters_of, kinds_of}
 use Rattle.query.specs.Meaning.{has_some}

@@ -1,15 +1,14 @@
 -- A text is parted at its first separator.
-use Rattle.std.proofs.Common.{◌≡◌, ℕ, suc, ◌+◌, ◌-◌, ◌^◌, ◌<◌, ◌≤◌, Bool, true, false, cond, List, [], ◌∷◌, length, take, drop, Option, Some, None, refl, sym, ap, ◌∙◌, subst, arith, ltb, nat_lt, nat_eq, eqb}
+use Rattle.std.proofs.Common.{◌≡◌, ℕ, suc, ◌+◌, ◌-◌, ◌^◌, ◌<◌, ◌≤◌, Bool, true, false, cond, List, [], ◌∷◌, length, take, drop, Option, Some, None, refl, sym, ap, ◌∙◌, subst, arith, ltb, nat_lt}
 use Rattle.std.specs.Prelude.{position, ◌==◌, not, MatchOption}
-use Rattle.std.specs.List.{position_or_len, slice_split, before_first, after_first, onto_first}
+use Rattle.std.specs.List.{position_or_len, slice_split, onto_first}
 use Rattle.std.proofs.lemmas.List.Splits.{slice_split_first}
-use Rattle.std.proofs.lemmas.Grind.{common_steps}
 use Rattle.std.proofs.Math.Seq.{take-length}
 use Rattle.std.proofs.lemmas.List.{length-drop}
 use Rattle.std.proofs.lemmas.Bool.{eqb-true}
 use borrow.Author.Tests.{ltb-true, ltb-false, lt-ltb}
 use Rattle.std.specs.Borrow.{Bor}
-use Rattle.query.specs.Words.{Word, word, parts, placed, words_from}
+use Rattle.query.specs.Words.{word, parts, words_from}
 use Rattle.query.specs.Parting.{after_part, words_left, IsInText}
 
 take_rest : (text : List ℕ) (n : ℕ) → take (length text - n) (drop n text) ≡ drop n text

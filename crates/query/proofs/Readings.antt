@@ -1,6 +1,6 @@
 -- The words of a query are read without a fault just where the grammar gives them a meaning, and that is what is read.
-use Rattle.std.proofs.Common.{◌≡◌, ◌≢◌, ℕ, ◌*◌, Bool, true, false, cond, List, [], ◌∷◌, Option, Some, None, refl, sym, ap, ◌∙◌, subst, ◌⊎◌, inl, inr, nat_lt}
-use Rattle.std.specs.Prelude.{is_some, if◌then◌else◌, Result, Ok, Err, codes}
+use Rattle.std.proofs.Common.{◌≡◌, ◌≢◌, ℕ, ◌*◌, Bool, true, false, cond, List, [], ◌∷◌, Option, Some, None, refl, sym, ap, subst, ◌⊎◌, inl, inr, nat_lt}
+use Rattle.std.specs.Prelude.{is_some, Result, Ok, Err, codes}
 use Rattle.std.specs.Result.{result_err}
 use Rattle.std.proofs.lemmas.Slice.Eq.{bytes_eq-Decides}
 use Rattle.query.specs.Words.{Word, word, reads_as}

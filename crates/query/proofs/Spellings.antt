@@ -1,22 +1,21 @@
 -- The canonical text of a query has that query as its meaning.
-use Rattle.std.proofs.Common.{◌≡◌, ℕ, suc, ◌+◌, ◌-◌, ◌*◌, ◌/◌, ◌%◌, ◌^◌, ◌<◌, ◌≤◌, Bool, true, false, cond, ◌&&◌, ◌||◌, List, [], ◌∷◌, ◌++◌, length, Option, Some, None, refl, sym, ap, ◌∙◌, subst, arith, rules, nat_lt, nat_le, nat_eq, eqb, filter, length-append}
+use Rattle.std.proofs.Common.{◌≡◌, ℕ, ◌+◌, ◌-◌, ◌*◌, ◌/◌, ◌%◌, ◌^◌, ◌<◌, ◌≤◌, Bool, true, false, cond, ◌&&◌, List, [], ◌∷◌, ◌++◌, length, Option, Some, None, refl, sym, ap, ◌∙◌, subst, arith, rules, nat_lt, nat_le, filter, length-append}
 use Rattle.std.specs.Prelude.{not, codes, ◌==◌, fold}
 use Rattle.std.specs.Char.{is_ascii_digit}
 use Rattle.std.specs.Fmt.{decimal}
-use Rattle.std.specs.List.{join_with_byte, flat_map, slice_split, onto_first, list_all}
+use Rattle.std.specs.List.{join_with_byte, list_all}
 use Rattle.std.specs.Str.{bytes_eq}
-use Rattle.std.proofs.lemmas.Grind.{common_steps}
 use Rattle.std.proofs.lemmas.Fmt.{digits_decimal, digits_value-decimal, length-decimal-le, decimal_nonempty}
 use Rattle.std.proofs.lemmas.Str.Parse.{IsNumeralModel, numerals_by_fold}
 use Rattle.std.proofs.lemmas.Slice.Eq.{bytes_eq-Decides}
 use Rattle.std.proofs.lemmas.Bool.{lt-ltb, le-leb, ltb-true, leb-true, ne_eqb, eq-eqb}
 use Rattle.std.proofs.lemmas.List.Folds.{list_all-append}
-use Rattle.query.specs.Words.{Word, word, parts, placed, words_from, words_of}
-use Rattle.query.specs.Values.{number_from, number_of, unit_of, pair_at, clock, clock_of, time_of, is_symbol_byte, is_symbol, symbols_of, kinds_of}
-use Rattle.query.specs.Meaning.{Meaning, Said, only, all_kinds, meaning_of, is_width, are_symbols, is_span, has_some, IsSound, CanBeSpelled}
+use Rattle.query.specs.Words.{parts, placed, words_from, words_of}
+use Rattle.query.specs.Values.{number_from, number_of, unit_of, pair_at, clock_of, time_of, is_symbol_byte, is_symbol, symbols_of, kinds_of}
+use Rattle.query.specs.Meaning.{Meaning, Said, only, meaning_of, is_width, are_symbols, is_span, has_some, IsSound, CanBeSpelled}
 use Rattle.query.specs.Grammar.{Conditions, More, Filter, Means}
 use Rattle.query.specs.Grammar.{symbol, time, kind, done, further, all, those, sales, bars}
-use Rattle.query.specs.Canonical.{pair_text, clock_text, what_words, symbol_condition, time_condition, kind_letters, kind_condition, conditions_of, linked, canonical_words, canonical}
+use Rattle.query.specs.Canonical.{pair_text, clock_text, what_words, symbol_condition, time_condition, kind_letters, kind_condition, conditions_of, linked, canonical}
 use Rattle.query.specs.declared.query.What.{What}
 use Rattle.query.specs.declared.query.What.TheVariants.{Sales, Bars}
 use Rattle.probe.specs.declared.selection.Kinds.{Kinds}

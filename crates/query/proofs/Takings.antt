@@ -1,14 +1,14 @@
 -- A condition's forms are read as the words are read one by one.
-use Rattle.std.proofs.Common.{◌≡◌, ℕ, Bool, true, false, cond, List, [], ◌∷◌, Option, Some, None, refl, sym, ap, ◌∙◌, nat_lt}
+use Rattle.std.proofs.Common.{◌≡◌, ℕ, Bool, true, false, cond, List, [], ◌∷◌, Some, None, refl, sym, ap, ◌∙◌, nat_lt}
 use Rattle.std.specs.Prelude.{◌*◌, Result, Ok, Err, codes, is_some}
-use Rattle.query.specs.Words.{Word, word, reads_as}
+use Rattle.query.specs.Words.{Word, reads_as}
 use Rattle.query.specs.Forms.{◌>>=◌, value_or, took, timed, listed, in_list, span_of, spanned, condition_of, width_at, unit_after, width_of, what_of}
 use Rattle.query.specs.Values.{number_of, unit_of, time_of, symbols_of, kinds_of}
 use Rattle.query.specs.Meaning.{Meaning, Said, meaning_of, only, is_width}
-use Rattle.query.specs.Faults.{Next, step, continued, read_from, valued, bounded, wide}
+use Rattle.query.specs.Faults.{step, continued, read_from, valued, bounded, wide}
 use Rattle.query.specs.Faults.{query, number, unit, filter, condition, symbol_in, symbols, time_from, first_time, time_until, second_time, kind_in, kinds, more}
 use Rattle.query.specs.declared.fault.QueryFault.{QueryFault}
-use Rattle.query.specs.declared.fault.QueryFault.TheVariants.{UnknownWord, BadNumber, BadTime, Repeated, Incomplete, EmptyRange}
+use Rattle.query.specs.declared.fault.QueryFault.TheVariants.{UnknownWord, BadNumber, BadTime, Repeated, EmptyRange}
 use Rattle.query.specs.declared.query.What.{What}
 use Rattle.query.specs.declared.query.What.TheVariants.{Sales, Bars}
 use Rattle.probe.specs.declared.selection.Kinds.{Kinds}

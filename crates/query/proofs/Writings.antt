@@ -1,11 +1,11 @@
 -- A text that is written word by word is the canonical one.
-use Rattle.std.proofs.Common.{◌≡◌, ℕ, zero, suc, ◌+◌, ◌<◌, ◌≤◌, nat_lt, nat_le, Bool, true, false, cond, ◌&&◌, List, [], ◌∷◌, ◌++◌, length, take, get_or, Option, Some, None, refl, sym, ap, ◌∙◌, subst, arith, append_assoc}
+use Rattle.std.proofs.Common.{◌≡◌, ℕ, zero, suc, ◌+◌, ◌<◌, ◌≤◌, nat_lt, Bool, true, false, ◌&&◌, List, [], ◌∷◌, ◌++◌, length, take, get_or, Option, Some, refl, sym, ap, ◌∙◌, subst, arith, append_assoc}
 use Rattle.std.specs.Prelude.{not, codes}
 use Rattle.std.specs.Fmt.{decimal}
-use Rattle.std.specs.List.{join_with_byte, flat_map}
-use Rattle.std.proofs.lemmas.Grind.{flat_map-append, common_steps}
+use Rattle.std.specs.List.{join_with_byte}
+use Rattle.std.proofs.lemmas.Grind.{flat_map-append}
 use Rattle.std.proofs.lemmas.List.{take_more}
-use Rattle.query.specs.Canonical.{clock_text, what_words, kind_letters, linked, symbol_condition, time_condition, kind_condition, canonical_words, canonical}
+use Rattle.query.specs.Canonical.{clock_text, what_words, kind_letters, linked, symbol_condition, time_condition}
 use Rattle.query.specs.Writing.{spaced, next_link, letter_text}
 use Rattle.std.proofs.lemmas.Bool.{ltb-true, leb-true}
 use Rattle.query.specs.Meaning.{IsSound, is_span}

@@ -8,7 +8,6 @@ use Rattle.query.specs.declared.query.What.{What}
 use Rattle.query.specs.declared.query.What.TheVariants.{Sales, Bars}
 use Rattle.query.specs.declared.fault.QueryFault.{QueryFault}
 use Rattle.query.specs.declared.fault.QueryFault.TheVariants.{UnknownWord, BadNumber, BadTime, Repeated, Incomplete, EmptyRange}
-use Rattle.probe.specs.declared.selection.Kinds.{Kinds}
 use Rattle.probe.specs.declared.selection.Span.{Span}
 
 infixl 10 ◌>>=◌

@@ -1,6 +1,6 @@
 -- The grammar of queries, a rule for each of its forms. A word is told with the number of bytes
 -- that stand before it, which may be any.
-use Rattle.std.specs.Prelude.{◌≡◌, ℕ, ◌*◌, nat_lt, true, List, [], ◌∷◌, Option, Some, None, codes}
+use Rattle.std.specs.Prelude.{◌≡◌, ℕ, ◌*◌, nat_lt, true, List, [], ◌∷◌, Some, None, codes}
 use Rattle.query.specs.Words.{Word, word}
 use Rattle.query.specs.Values.{number_of, unit_of, time_of, symbols_of, kinds_of}
 use Rattle.query.specs.Meaning.{Meaning, Said, only, meaning_of, is_width}

@@ -1,5 +1,5 @@
 -- What a query means.
-use Rattle.std.specs.Prelude.{◌≡◌, ℕ, ◌<◌, ◌≤◌, nat_lt, nat_le, Bool, true, false, ◌&&◌, ◌||◌, IsTrue, List, length, Option, Some, None, unwrap_or}
+use Rattle.std.specs.Prelude.{◌≡◌, ℕ, nat_lt, nat_le, Bool, true, ◌&&◌, ◌||◌, List, length, Option, Some, None, unwrap_or}
 use Rattle.std.specs.List.{list_all}
 use Rattle.query.specs.Values.{is_symbol}
 use Rattle.query.specs.declared.query.What.{What}

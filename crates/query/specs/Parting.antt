@@ -1,7 +1,7 @@
 -- A text whose parts are taken off one after the other.
-use Rattle.std.specs.Prelude.{ℕ, ◌+◌, ◌<◌, ◌^◌, if◌then◌else◌, List, [], ◌∷◌, length, Option, Some, None, Result, Ok, Err}
+use Rattle.std.specs.Prelude.{ℕ, ◌+◌, ◌<◌, ◌^◌, List, [], length, Option, Some, None}
 use Rattle.std.specs.Borrow.{Bor}
-use Rattle.query.specs.Words.{Word, parts, reads_as, words_from}
+use Rattle.query.specs.Words.{Word, parts, words_from}
 
 -- the parts of what stands after a separator, where there was one
 abbrev pub after_part : ℕ → Option (Bor (List ℕ)) → List (List ℕ)

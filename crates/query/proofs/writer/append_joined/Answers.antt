@@ -1,4 +1,4 @@
-use Rattle.std.proofs.Common.{◌≡◌, arith}
+use Rattle.std.proofs.Common.{arith}
 use Rattle.query.proofs.Writings.{joined_first, joined_next}
 use Rattle.query.proofs.writer.append_joined.Goals.{then-place-gt0+in_ok-push, else-place-gt0}
 use Rattle.query.proofs.writer.append_joined.Goals as goal

@@ -1,4 +1,4 @@
-use Rattle.std.proofs.Common.{◌≡◌, ◌++◌, ◌+◌, ◌<◌, length, Bool, true}
+use Rattle.std.proofs.Common.{◌≡◌, ◌++◌, true}
 use Rattle.std.specs.List.{list_all}
 use Rattle.query.specs.Values.{is_symbol}
 use Rattle.query.specs.Words.{parts}

@@ -1,4 +1,4 @@
-use Rattle.std.proofs.Common.{◌≡◌, ◌+◌, ◌<◌, ◌^◌, ap, sym, subst, length, ◌∙◌, Some}
+use Rattle.std.proofs.Common.{ap, sym, subst, ◌∙◌, Some}
 use Rattle.query.specs.Parting.{words_left, IsInText}
 use Rattle.query.proofs.Partings.{next_word, no_word, still_in_text}
 use Rattle.query.proofs.words.Words.next.Goals as goal

@@ -1,4 +1,4 @@
-use Rattle.std.proofs.Common.{◌≡◌, ◌+◌, ◌<◌, length, Option, Some, None}
+use Rattle.std.proofs.Common.{◌≡◌}
 use Rattle.query.specs.Parting.{words_left, IsInText}
 use Rattle.query.proofs.Partings.{left}
 use Rattle.query.proofs.words.Words.next.Given as goal
