@@ -20,7 +20,7 @@ cons_nil None = refl
 cons_nil (Some y) = refl
 
 -- what a message gives, it gives in the message list
-given_once : {Y : Type 0} (give : ℕ → Message → Option Y) → ((place : ℕ) → give place Skipped ≡ None) → (place : ℕ) (message : Message)
+pub given_once : {Y : Type 0} (give : ℕ → Message → Option Y) → ((place : ℕ) → give place Skipped ≡ None) → (place : ℕ) (message : Message)
     → filter_map (λ (m : Placed). give m.place m.message) (option_to_list (placed_at place message)) ≡ option_to_list (give place message)
 given_once give none place (Add m) = cons_nil (give place (Add m))
 given_once give none place (Executed m) = cons_nil (give place (Executed m))

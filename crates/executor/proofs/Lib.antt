@@ -1,6 +1,6 @@
 pub mod Listings
 pub mod Collecting
 pub mod OneAnswer
-pub mod Spelling
+pub mod Counts
 pub mod Trades
 pub mod Written

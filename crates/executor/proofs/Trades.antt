@@ -24,8 +24,8 @@ use Rattle.itch_messages.specs.Body.{message_of}
 use Rattle.day_file.specs.Frames.{PlacedBody}
 use Rattle.time_and_sales.specs.declared.directory.DirectoryRow.{DirectoryRow}
 use Rattle.executor.specs.Messages.{Placed, placed_at, messages_of, order_row_at, execution_at, own_priced_at, directory_row_at, order_rows, executions, own_priced_sales, break_numbers, directory_rows}
-use Rattle.executor.specs.Answers.{trade_at, trades, selected_sales}
-use Rattle.executor.specs.Rows.{AreByPlace}
+use Rattle.executor.specs.Answers.{trade_at, trades}
+use Rattle.executor.specs.Rows.{AreByPlace, IsStamped}
 
 one_trade : (rows : List OrderRow) (place : ℕ) (message : Message)
     → option_to_list (trade_at rows place message) ≡ filter_map (sale_of rows) (option_to_list (execution_at place message)) ++ option_to_list (own_priced_at place message)
@@ -102,7 +102,7 @@ trade_keeps_place rows place (Directory directory) sale e = own_keeps_place plac
 trade_keeps_place rows place Skipped sale e = own_keeps_place place Skipped sale e
 
 -- the sales stand by place, since the messages do
-pub sales_by_place : (selection : Sale → Bool) (messages : List Placed) → AreByPlace messages → IsStrictlySortedBy place_cmp (selected_sales selection messages)
+pub sales_by_place : (selection : Sale → Bool) (messages : List Placed) → AreByPlace messages → IsStrictlySortedBy place_cmp (kept (break_numbers messages) selection (trades messages))
 sales_by_place selection messages up =
     IsStrictlySortedBy-filter place_cmp _ (trades messages)
     (sorted-filter_map (λ (m : Placed). m.place) (λ (s : Sale). s.place) (λ m. trade_at (order_rows messages) m.place m.message)
@@ -110,16 +110,16 @@ sales_by_place selection messages up =
 
 -- what is kept of the priced executions and the sales with a price of their own is, in some order, the sales
 pub kept_are_sales : (selection : Sale → Bool) (messages : List Placed)
-    → IsPermutation (kept (break_numbers messages) selection (priced (order_rows messages) (executions messages) ++ own_priced_sales messages)) (selected_sales selection messages)
+    → IsPermutation (kept (break_numbers messages) selection (priced (order_rows messages) (executions messages) ++ own_priced_sales messages)) (kept (break_numbers messages) selection (trades messages))
 kept_are_sales selection messages =
     IsPermutation-filter (is_kept (break_numbers messages) selection) _ _ (IsPermutation-sym _ _ (trades_are_both (order_rows messages) messages))
 
 -- so that list by place is the sales
 pub listing_is : (selection : Sale → Bool) (messages : List Placed) (listing : List Sale) → AreByPlace messages → IsStrictlySortedBy place_cmp listing
     → IsPermutation (kept (break_numbers messages) selection (priced (order_rows messages) (executions messages) ++ own_priced_sales messages)) listing
-    → listing ≡ selected_sales selection messages
+    → listing ≡ kept (break_numbers messages) selection (trades messages)
 listing_is selection messages listing up rising h =
-    same_from_permutation place_cmp (on_total (λ (s : Sale). s.place) nat_cmp_total) listing (selected_sales selection messages) rising (sales_by_place selection messages up)
+    same_from_permutation place_cmp (on_total (λ (s : Sale). s.place) nat_cmp_total) listing (kept (break_numbers messages) selection (trades messages)) rising (sales_by_place selection messages up)
     (IsPermutation-trans _ _ _ (IsPermutation-sym _ _ h) (kept_are_sales selection messages))
 
 -- ---- each list of rows stands by place, so it has no place twice
@@ -194,7 +194,7 @@ pub kept_distinct : (selection : Sale → Bool) (messages : List Placed) → Are
 kept_distinct selection messages up =
     IsDistinct-IsPermutation nat_eq flips _ _
     (IsPermutation-map (λ (s : Sale). s.place) _ _ (IsPermutation-sym _ _ (kept_are_sales selection messages)))
-    (distinct_places (λ (s : Sale). s.place) (selected_sales selection messages) (sales_by_place selection messages up))
+    (distinct_places (λ (s : Sale). s.place) (kept (break_numbers messages) selection (trades messages)) (sales_by_place selection messages up))
 
 -- the messages of frames by place
 pub messages_by_place : (frames : List PlacedBody) → IsStrictlySortedBy (λ a b. nat_cmp a.place b.place) frames → AreByPlace (messages_of frames)
@@ -217,18 +217,24 @@ messages_by_place frames up =
 
 -- ---- times fit
 
-fits_priced : (rows : List OrderRow) (all : List Execution) → AllByRecursion (λ e. e.time < 2 ^ 48) all → AllByRecursion (λ s. s.time < 2 ^ 48) (priced rows all)
+fits_priced : (rows : List OrderRow) (all : List Execution) → AllByRecursion (λ e. IsStamped e.time e.locate) all → AllByRecursion (λ s. IsStamped s.time s.locate) (priced rows all)
 fits_priced rows [] fit = tt
 fits_priced rows (e ∷ es) fit = go (price_of rows e) (fits_priced rows es fit.1)
   where
-    go : (o : Option ℕ) → AllByRecursion (λ (s : Sale). s.time < 2 ^ 48) (priced rows es) → AllByRecursion (λ (s : Sale). s.time < 2 ^ 48) (cons_option (option_map (sale_at e) o) (priced rows es))
+    go : (o : Option ℕ) → AllByRecursion (λ (s : Sale). IsStamped s.time s.locate) (priced rows es) → AllByRecursion (λ (s : Sale). IsStamped s.time s.locate) (cons_option (option_map (sale_at e) o) (priced rows es))
     go None more = more
     go (Some price) more = (fit.0, more)
 
-pub fits_listing : (rows : List OrderRow) (all : List Execution) (own : List Sale) (breaks : List ℕ) (selection : Sale → Bool) (listing : List Sale)
-    → All (λ e. e.time < 2 ^ 48) all → All (λ s. s.time < 2 ^ 48) own → IsPermutation (kept breaks selection (priced rows all ++ own)) listing → All (λ s. s.time < 2 ^ 48) listing
-fits_listing rows all own breaks selection listing first second permutation =
-    All-permutation (λ (s : Sale). s.time < 2 ^ 48) _ listing permutation
-    (All-filter (is_kept breaks selection) (λ (s : Sale). s.time < 2 ^ 48) (priced rows all ++ own)
-    (All-append (λ (s : Sale). s.time < 2 ^ 48) (priced rows all) own
-    (All-from_recursion (λ (s : Sale). s.time < 2 ^ 48) (priced rows all) (fits_priced rows all (recursion_from_All (λ (e : Execution). e.time < 2 ^ 48) all first))) second))
+-- of all that may be listed
+pub fits_all : (rows : List OrderRow) (all : List Execution) (own : List Sale) → All (λ e. IsStamped e.time e.locate) all → All (λ s. IsStamped s.time s.locate) own
+    → All (λ s. IsStamped s.time s.locate) (priced rows all ++ own)
+fits_all rows all own first second =
+    All-append (λ (s : Sale). IsStamped s.time s.locate) (priced rows all) own
+    (All-from_recursion (λ (s : Sale). IsStamped s.time s.locate) (priced rows all) (fits_priced rows all (recursion_from_All (λ (e : Execution). IsStamped e.time e.locate) all first))) second
+
+-- so of what is kept of them, in whatever order
+pub fits_listing : (breaks : List ℕ) (selection : Sale → Bool) (every listing : List Sale)
+    → All (λ s. IsStamped s.time s.locate) every → IsPermutation (kept breaks selection every) listing → All (λ s. IsStamped s.time s.locate) listing
+fits_listing breaks selection every listing fit permutation =
+    All-permutation (λ (s : Sale). IsStamped s.time s.locate) _ listing permutation
+    (All-filter (is_kept breaks selection) (λ (s : Sale). IsStamped s.time s.locate) every fit)

@@ -1,5 +1,5 @@
 -- Rows in memory, and what one message adds to them.
-use Rattle.std.specs.Prelude.{◌≡◌, ℕ, ◌<◌, ◌^◌, ◌++◌, List, All, option_to_list}
+use Rattle.std.specs.Prelude.{◌≡◌, ℕ, ◌<◌, ◌^◌, ◌+◌, ◌++◌, List, All, length, option_to_list}
 use Rattle.itch_messages.specs.declared.message.Message.{Message}
 use Rattle.executor.specs.Messages.{Placed, order_row_at, execution_at, own_priced_at, break_of, directory_row_at, order_rows, executions, own_priced_sales, break_numbers, directory_rows}
 use Rattle.std.specs.Ordering.{nat_cmp}
@@ -26,10 +26,18 @@ pub record AreRowsOf {A : Type 0} (messages : List Placed) (rows : Rows A) : Typ
   pub breaks : rows.breaks.items ≡ break_numbers messages
   pub directory : rows.directory.items ≡ directory_rows messages
 
--- their times fit six bytes
+-- a time fits six bytes, and a locate two
+abbrev pub IsStamped : ℕ → ℕ → Type 0
+IsStamped time locate = (time < 2 ^ 48) × (locate < 2 ^ 16)
+
+-- so do those of the rows
 pub record FitRows {A : Type 0} (rows : Rows A) : Type 0 where
-  pub executions : All (λ execution. execution.time < 2 ^ 48) rows.executions.items
-  pub own_priced : All (λ sale. sale.time < 2 ^ 48) rows.own_priced.items
+  pub executions : All (λ execution. IsStamped execution.time execution.locate) rows.executions.items
+  pub own_priced : All (λ sale. IsStamped sale.time sale.locate) rows.own_priced.items
+
+-- fewer trades than a file of the greatest length has room for
+abbrev pub AreFew : {A : Type 0} → Rows A → Type 0
+AreFew rows = length rows.executions.items + length rows.own_priced.items < 2 ^ 31
 
 -- the rows of some messages, by place
 pub record HasMessages {A : Type 0} (rows : Rows A) : Type 0 where
@@ -37,3 +45,4 @@ pub record HasMessages {A : Type 0} (rows : Rows A) : Type 0 where
   pub by_place : AreByPlace messages
   pub are : AreRowsOf messages rows
   pub fit : FitRows rows
+  pub few : AreFew rows

@@ -1,9 +1,11 @@
 -- What a run reads of its source, answers, and hands to its sink.
 use Rattle.std.specs.Prelude.{◌≡◌, ℕ, ◌+◌, ◌≤◌, Bool, true, false, List, length, take, Some, Result, Ok, Err}
 use Rattle.executor.specs.Answers.{IsAnswer}
-use Rattle.executor.specs.Words.{Means, first_fault}
+use Rattle.query.specs.Faults.{first_fault}
+use Rattle.query.specs.Grammar.{Means}
+use Rattle.query.specs.Meaning.{Meaning}
+use Rattle.query.specs.Words.{words_of}
 use Rattle.executor.specs.declared.answer.DayFault.{DayFault}
-use Rattle.executor.specs.declared.query.Query.{Query}
 use Rattle.executor.specs.declared.running.RunFault.{RunFault}
 use Rattle.executor.specs.declared.running.RunFault.TheVariants as fault
 
@@ -21,8 +23,8 @@ module _ {S K : Type 0}
 
   -- the words mean a query, and the source gave more than the limit: one byte more, for no other is asked
   pub record GaveMore (words : List ℕ) (limit : ℕ) (before after : S) : Type 0 where
-    pub query : Query
-    pub means : Means words query
+    pub query : Meaning
+    pub means : Means (words_of words) query
     pub bytes : List ℕ
     pub gave : Gave before after bytes
     pub longer : length bytes ≡ limit + 1
@@ -30,9 +32,9 @@ module _ {S K : Type 0}
   -- the words mean a query, all that the source had to give was read, and this is the answer to it
   pub record Answers (words : List ℕ) (limit : ℕ) (before after : S)
       (answer : Result (List ℕ) DayFault) : Type 0 where
-    pub query : Query
+    pub query : Meaning
     pub day : List ℕ
-    pub means : Means words query
+    pub means : Means (words_of words) query
     pub gave : Gave before after day
     pub ended : HasEnded after
     pub within : length day ≤ limit
@@ -59,9 +61,9 @@ module _ {S K : Type 0}
   Ran words limit before after sink_before sink_after (Ok done) =
       WroteAll words limit before after sink_before sink_after
   Ran words limit before after sink_before sink_after (Err (fault.Query f)) =
-      (first_fault words ≡ Some f) × (after ≡ before) × (sink_after ≡ sink_before)
+      (first_fault (words_of words) ≡ Some f) × (after ≡ before) × (sink_after ≡ sink_before)
   Ran words limit before after sink_before sink_after (Err fault.ReadFailed) =
-      ((query : Query) × Means words query) × GaveSome limit before after × (sink_after ≡ sink_before)
+      ((query : Meaning) × Means (words_of words) query) × GaveSome limit before after × (sink_after ≡ sink_before)
   Ran words limit before after sink_before sink_after (Err (fault.TooLong most)) =
       GaveMore words limit before after × (most ≡ limit) × (sink_after ≡ sink_before)
   Ran words limit before after sink_before sink_after (Err (fault.Day f)) =

@@ -1,37 +1,34 @@
 -- What the steps of the plain program give each other.
-use Rattle.std.specs.Prelude.{◌≡◌, ℕ, ◌<◌, ◌^◌, List, All, Option, Some, None, Result, Err}
+use Rattle.std.specs.Prelude.{◌≡◌, ℕ, List, Option, Some, None, Result, Ok, Err}
 use Rattle.day_file.specs.Frames.{PlacedBody}
 use Rattle.order_table.specs.declared.row.OrderRow.{OrderRow}
 use Rattle.order_table.specs.Orders.{first_repeated}
 use Rattle.probe.specs.declared.rows.Execution.{Execution}
 use Rattle.probe.specs.Pricing.{first_unknown, priced}
-use Rattle.executor.specs.Answers.{answer_of, text_of, wrong_length_at}
-use Rattle.executor.specs.Messages.{Placed, messages_of, first_wrong, order_rows, executions}
-use Rattle.executor.specs.Rows.{AreRowsOf, FitRows}
+use Rattle.query.specs.Meaning.{Meaning}
+use Rattle.executor.specs.Answers.{IsTextFor, fault_of, reference_fault, wrong_length_at}
+use Rattle.executor.specs.Messages.{Placed, messages_of, first_wrong}
+use Rattle.executor.specs.Rows.{AreFew, AreRowsOf, FitRows}
 use Rattle.executor.specs.declared.answer.DayFault.{DayFault}
 use Rattle.executor.specs.declared.answering.Collected.{Collected}
 use Rattle.executor.specs.declared.answering.Collected.TheVariants.{Rows, Wrong}
 use Rattle.executor.specs.declared.answering.Pricing.{Pricing}
 use Rattle.executor.specs.declared.answering.Pricing.TheVariants.{Sales, Faulty}
-use Rattle.executor.specs.declared.query.Query.{Query}
 
 -- the rows of the frames' messages, or the first wrong length
 abbrev pub IsCollected : {A : Type 0} → List PlacedBody → Collected A → Type 0
-IsCollected frames (Rows rows) = (first_wrong frames ≡ None) × AreRowsOf (messages_of frames) rows × FitRows rows
+IsCollected frames (Rows rows) =
+    (first_wrong frames ≡ None) × AreRowsOf (messages_of frames) rows × FitRows rows × AreFew rows
 IsCollected frames (Wrong fault) =
     (frame : PlacedBody) × (first_wrong frames ≡ Some frame) × (fault ≡ wrong_length_at frame)
 
 -- the sales of the priced executions, or the first fault in the order references
 abbrev pub IsPriced : {A : Type 0} → List OrderRow → List Execution → Pricing A → Type 0
 IsPriced rows all (Sales sales) =
-    (first_repeated rows ≡ None) × (first_unknown rows all ≡ None) × (sales.items ≡ priced rows all)
-IsPriced rows all (Faulty fault) =
-    (text : List ℕ) → answer_of None (first_repeated rows) (first_unknown rows all) text ≡ Err fault
+    (fault_of None (first_repeated rows) (first_unknown rows all) ≡ None) × (sales.items ≡ priced rows all)
+IsPriced rows all (Faulty fault) = fault_of None (first_repeated rows) (first_unknown rows all) ≡ Some fault
 
 -- the answer of a file whose lengths are right
-abbrev pub IsAnswerOf : List Placed → Query → Result (List ℕ) DayFault → Type 0
-IsAnswerOf messages query answer =
-    answer ≡ answer_of None
-    (first_repeated (order_rows messages))
-    (first_unknown (order_rows messages) (executions messages))
-    (text_of query messages)
+abbrev pub IsAnswerOf : List Placed → Meaning → Result (List ℕ) DayFault → Type 0
+IsAnswerOf messages query (Ok text) = (reference_fault messages ≡ None) × IsTextFor query messages text
+IsAnswerOf messages query (Err fault) = reference_fault messages ≡ Some fault

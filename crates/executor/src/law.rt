@@ -1,10 +1,10 @@
 ghost use Rattle.std.specs.Prelude.{◌≡◌, ℕ, List, Result};
 ghost use Rattle.executor.specs.Answers.{IsAnswer};
 ghost use Rattle.executor.specs.declared.answer.DayFault.{DayFault};
-ghost use Rattle.executor.specs.declared.query.Query.{Query};
+ghost use Rattle.query.specs.Meaning.{Meaning};
 
 /// A file and a query have one answer.
 pub fn one_answer()
-    ensures { (file : List ℕ) (query : Query) (one other : Result (List ℕ) DayFault) →
+    ensures { (file : List ℕ) (query : Meaning) (one other : Result (List ℕ) DayFault) →
         IsAnswer file query one → IsAnswer file query other → one ≡ other }
 {}

@@ -4,11 +4,12 @@
 mod answer;
 mod answering;
 mod law;
-mod query;
 mod rows;
 mod running;
 mod settings;
 mod sink;
+#[cfg(test)]
+mod tests;
 
 pub use answer::{Answer, DayFault, Text};
 pub use answering::plain;

@@ -1,9 +1,9 @@
 ghost use Rattle.std.specs.Prelude.{◌≡◌, ◌<◌, ◌^◌, [], Some, OnOk};
-ghost use Rattle.executor.specs.Messages.{execution_at, directory_row_at};
-ghost use Rattle.executor.specs.Rows.{Adds, FitRows};
+ghost use Rattle.executor.specs.Messages.{directory_row_at};
+ghost use Rattle.executor.specs.Rows.{Adds, FitRows, IsStamped};
 
 use crate::OutOfMemory;
-use itch_messages::{Directory, Executed, Header, Message};
+use itch_messages::{Directory, Header, Message};
 use order_table::OrderRow;
 use probe::{Execution, Kind, Sale};
 use std::alloc::Allocator;
@@ -57,7 +57,13 @@ impl<A: Allocator + Copy> Rows<A> {
                 order_no: replace.new_no,
                 price: replace.price,
             })?,
-            Message::Executed(executed) => self.executions.push(execution(place, executed))?,
+            Message::Executed(executed) => self.executions.push(execution(
+                place,
+                executed.header,
+                executed.order_no,
+                executed.shares,
+                executed.trade_no,
+            ))?,
             Message::ExecutedAt(executed) => {
                 if executed.printable == PRINTABLE {
                     self.own_priced.push(sale(
@@ -95,18 +101,24 @@ impl<A: Allocator + Copy> Rows<A> {
 }
 
 /// The execution of a message.
-fn execution(place: u64, executed: &Executed) -> Execution
-    ensures row { execution_at place (Message.Executed executed.now) ≡ Some result }
-    ensures fits { result.time < 2 ^ 48 }
+fn execution(place: u64, header: Header, order_no: u64, shares: u32, trade_no: u64) -> Execution
+    ensures row { result ≡ record {
+      place = place;
+      time = header.time;
+      locate = header.locate;
+      order_no = order_no;
+      shares = shares;
+      trade_no = trade_no;
+    } }
+    ensures fits { IsStamped result.time result.locate }
 {
-    let header = executed.header;
     Execution {
         place,
         time: header.time,
         locate: header.locate,
-        order_no: executed.order_no,
-        shares: executed.shares,
-        trade_no: executed.trade_no,
+        order_no,
+        shares,
+        trade_no,
     }
 }
 
@@ -133,7 +145,7 @@ fn sale(place: u64, header: Header, kind: Kind, price: u32, shares: u64, trade_n
       shares = shares;
       trade_no = trade_no;
     } }
-    ensures fits { result.time < 2 ^ 48 }
+    ensures fits { IsStamped result.time result.locate }
 {
     Sale {
         place,

@@ -3,10 +3,10 @@ ghost use Rattle.executor.specs.Runs.{Ran, is_read_failed, is_write_failed};
 
 use crate::answer::{Answer, DayFault};
 use crate::answering::plain;
-use crate::query::{QueryFault, parse};
 use crate::settings::Settings;
 use crate::sink::{Sink, WriteFailed, deliver};
 use day_file::{ReadFault, Source, read_day};
+use query::{QueryFault, parse};
 use std::alloc::{AllocError, Allocator};
 use thiserror::Error;
 
@@ -52,8 +52,9 @@ pub fn run<R, A: Allocator + Copy, S: Source, K: Sink>(
     ensures read_failed { S.has_failed source.new ≡ is_read_failed result }
     ensures write_failed { K.has_failed sink.new ≡ is_write_failed result }
 {
-    let query = match parse(query_text) {
+    let query = match parse(alloc, query_text) {
         Ok(query) => query,
+        Err(QueryFault::OutOfMemory) => return Err(RunFault::OutOfMemory),
         Err(fault) => return Err(RunFault::Query(fault)),
     };
     let limit = settings.limit;

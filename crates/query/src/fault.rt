@@ -4,7 +4,7 @@ use thiserror::Error;
 
 /// Why a text is no query; of several reasons, the first from the left. `at` is the number of
 /// bytes that stand before the word in the text.
-#[derive(Debug, Drop, Error)]
+#[derive(Clone, Copy, Debug, PartialEq, Eq, Error)]
 pub enum QueryFault {
     /// A word that can't stand there, a list of symbols or kinds that is none, or a word after the
     /// query's end.

@@ -1,13 +1,18 @@
-use Rattle.std.proofs.Common.{◌≡◌, ◌∷◌, ◌++◌, refl, sym, ap, ◌∙◌, subst}
+use Rattle.std.proofs.Common.{◌≡◌, ◌<◌, ◌+◌, ◌^◌, List, [], ◌∷◌, ◌++◌, refl, sym, ap, ◌∙◌, subst, arith, length}
 use Rattle.std.specs.List.Sorted.{IsStrictlySortedBy}
 use Rattle.std.specs.Ordering.{nat_cmp}
+use Rattle.std.proofs.lemmas.List.{append-nil}
+use Rattle.order_table.specs.Least.{least_by}
 use Rattle.day_file.specs.Frames.{PlacedBody}
 use Rattle.day_file.specs.Placed.{placed_body}
 use Rattle.day_file.proofs.Laws.{places_rise}
-use Rattle.executor.specs.Messages.{first_wrong}
+use Rattle.executor.specs.Messages.{executions, first_wrong, messages_of, own_priced_sales}
 use Rattle.executor.specs.Rows.{Adds}
 use Rattle.executor.specs.declared.answer.DayFault.TheVariants.{WrongLength}
+use Rattle.executor.specs.Steps.{IsCollected}
+use Rattle.executor.specs.declared.answering.Collected.TheVariants.{Rows}
 use Rattle.executor.proofs.Collecting.{collects, right_length, wrong_first}
+use Rattle.executor.proofs.Counts.{few_trades}
 use Rattle.executor.proofs.answering.collect.Goals as goal
 
 pub loop-frame-preserved : goal.loop-frame-preserved
@@ -26,3 +31,15 @@ returns-in-Err g c all stands =
     let rise = subst (IsStrictlySortedBy (λ (a b : PlacedBody). nat_cmp a.place b.place)) split (places_rise 0 all stands.places) in
     let first = wrong_first c.loop-frame.invariant.front (placed_body c.in-Some.frame) c.next.new.self c.loop-frame.invariant.none (c.in-Err.ensures.fault.0 refl) rise in
     (placed_body c.in-Some.frame, ap first_wrong split ∙ first, ap (λ f. WrongLength c.in-Some.frame.place f.kind f.length f.wanted) c.in-Err.ensures.told)
+
+pub returns : goal.returns
+returns g c all stands =
+    let invariant = c.loop-frame.invariant in
+    let whole = c.frames-frame-items.ensures.whole all stands in
+    let started = c.into_iter-frame-iterator.ensures.into_iter_gives in
+    let begun : all ≡ c.into_iter-frame-iterator.result = cc (whole, started) in
+    let same : all ≡ invariant.front = begun ∙ invariant.split ∙ ap (λ l. invariant.front ++ l) c.in-None.ensures.steps.0 ∙ append-nil invariant.front in
+    let few = few_trades c.args.day.now all stands c.frames-frame-items.ensures.within in
+    let few_front : length c.loop-frame.rows.executions.items + length c.loop-frame.rows.own_priced.items < 2 ^ 31 = omega (arith, few, ap length (ap executions (ap messages_of same)), ap length (ap own_priced_sales (ap messages_of same)), ap length invariant.are.executions, ap length invariant.are.own_priced) in
+    subst (λ frames. IsCollected frames (Rows c.loop-frame.rows)) (sym same)
+    (ap (least_by (λ (f : PlacedBody). f.place)) invariant.none, invariant.are, invariant.fit, few_front)

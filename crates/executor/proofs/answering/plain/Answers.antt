@@ -16,6 +16,7 @@ answer_of-requires g c =
       by_place = messages_by_place whole.0 (places_rise 0 whole.0 whole.1.places);
       are = rows.1;
       fit = rows.2;
+      few = rows.3;
     }
 
 pub returns-in-Rows : goal.returns-in-Rows

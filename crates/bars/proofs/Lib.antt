@@ -1,0 +1,4 @@
+pub mod Bars
+pub mod MergedTables
+pub mod Ends
+pub mod Sums

@@ -1,0 +1,109 @@
+-- What the bar of a list of sales is, and which tables are those of a list of sales.
+use Rattle.std.specs.Prelude.{◌≡◌, ℕ, ◌+◌, ◌*◌, ◌/◌, ◌==◌, ◌<◌, ◌≤◌, ◌^◌, nat_lt, max, min, Bool, ◌&&◌}
+use Rattle.std.specs.Prelude.{cond, List, [], ◌∷◌, length, Option, Some, None, filter, find, sum_by}
+use Rattle.std.specs.Ordering.{nat_cmp, ordering_then}
+use Rattle.std.specs.declared.cmp.Ordering.{Ordering}
+use Rattle.std.specs.List.Sorted.{IsStrictlySortedBy}
+use Rattle.order_table.specs.Least.{least_of, greatest_of}
+use Rattle.probe.specs.declared.rows.Sale.{Sale}
+pub use Rattle.bars.specs.declared.bar.Bar.{Bar}
+
+-- which bar: a locate, and the start of an interval in nanoseconds
+pub record Key : Type 0 where
+  pub locate : ℕ
+  pub start : ℕ
+
+-- the start of the interval that a time lies in, both in nanoseconds, at a width in seconds
+abbrev pub start_of : ℕ → ℕ → ℕ
+start_of width time = time / (width * 1000000000) * (width * 1000000000)
+
+-- the sale's locate and interval are the key's
+abbrev pub has_key : ℕ → Key → Sale → Bool
+has_key width key sale =
+    (sale.locate == key.locate) && (start_of width sale.time == key.start)
+
+-- the bar of the sales of one key, in whatever order they stand: no sale, no bar
+abbrev pub bar_of : Key → List Sale → Option Bar
+bar_of key [] = None
+bar_of key (sale ∷ sales) =
+    let first = least_of (λ s. s.place) sale sales in
+    let last = greatest_of (λ s. s.place) sale sales in
+    Some (record {
+      locate = key.locate;
+      start = key.start;
+      first_place = first.place;
+      first = first.price;
+      high = (greatest_of (λ s. s.price) sale sales).price;
+      low = (least_of (λ s. s.price) sale sales).price;
+      last_place = last.place;
+      last = last.price;
+      volume = sum_by (λ s. s.shares) (sale ∷ sales);
+      notional = sum_by (λ s. s.shares * s.price) (sale ∷ sales);
+      trades = length (sale ∷ sales);
+    })
+
+-- bars compare by locate, then by start
+abbrev pub key_cmp : Bar → Bar → Ordering
+key_cmp a b = ordering_then (nat_cmp a.locate b.locate) (nat_cmp a.start b.start)
+
+-- each bar has a greater key than the one before
+abbrev pub IsByKey : List Bar → Type 0
+IsByKey table = IsStrictlySortedBy key_cmp table
+
+-- the bar that a table has under a key
+abbrev pub found : List Bar → Key → Option Bar
+found table key =
+    find (λ bar. (bar.locate == key.locate) && (bar.start == key.start)) table
+
+-- the table has, by rising keys, the bar of each key that some sale has, and no other
+pub record AreBarsOf (width : ℕ) (sales : List Sale) (table : List Bar) : Type 0 where
+  pub rise : IsByKey table
+  pub each : (key : Key) → found table key ≡ bar_of key (filter (has_key width key) sales)
+
+-- what any bar of sales has: some volume, an average price of 32 bits, and no more volume than as
+-- many trades of 64 bits can have
+abbrev pub IsTraded : Bar → Type 0
+IsTraded bar =
+    (0 < bar.volume) × (bar.notional ≤ bar.volume * 4294967295)
+    × (bar.volume ≤ bar.trades * 2 ^ 64)
+
+-- ---- two tables made one
+
+-- two bars of one key made one: of sales at one place, the first bar's stands
+abbrev pub joined_bar : Bar → Bar → Bar
+joined_bar a b =
+    record {
+      locate = a.locate;
+      start = a.start;
+      first_place = min a.first_place b.first_place;
+      first = cond (nat_lt b.first_place a.first_place) b.first a.first;
+      high = max a.high b.high;
+      low = min a.low b.low;
+      last_place = max a.last_place b.last_place;
+      last = cond (nat_lt a.last_place b.last_place) b.last a.last;
+      volume = a.volume + b.volume;
+      notional = a.notional + b.notional;
+      trades = a.trades + b.trades;
+    }
+
+-- the bar that there is, or both made one
+abbrev pub joined : Option Bar → Option Bar → Option Bar
+joined None b = b
+joined (Some a) None = Some a
+joined (Some a) (Some b) = Some (joined_bar a b)
+
+-- the table has, by rising keys, the bars of two tables, those of one key made one
+pub record IsMergeOf (one other table : List Bar) : Type 0 where
+  pub rise : IsByKey table
+  pub each : (key : Key) → found table key ≡ joined (found one key) (found other key)
+
+-- the sums of two bars fit into 128 bits, and their numbers of trades into 64
+abbrev pub CanJoin : Bar → Bar → Type 0
+CanJoin a b =
+    (a.volume + b.volume < 2 ^ 128) × (a.notional + b.notional < 2 ^ 128)
+    × (a.trades + b.trades < 2 ^ 64)
+
+-- so do those of the bars that two tables have under one key
+abbrev pub SumsFit : List Bar → List Bar → Type 0
+SumsFit one other =
+    (key : Key) (a b : Bar) → found one key ≡ Some a → found other key ≡ Some b → CanJoin a b

@@ -1,0 +1,149 @@
+//! A table of bars.
+ghost use Rattle.std.specs.Prelude.{◌≡◌, ℕ, ◌<◌, ◌≤◌, ◌^◌, List, [], ◌∷◌, ◌++◌, length, map};
+ghost use Rattle.std.specs.Prelude.{All, IfOk, OnErr, OnOk, nat_eq, vec_len};
+ghost use Rattle.std.specs.List.{IsDistinct};
+ghost use Rattle.probe.specs.declared.rows.Sale.{Sale};
+ghost use Rattle.bars.specs.Bars.{AreBarsOf, CanJoin, IsByKey, IsMergeOf, IsTraded, SumsFit};
+ghost use Rattle.bars.specs.Steps.{IsUpTo, merged};
+
+use crate::bar::Bar;
+use probe::{OutOfMemory, Sale};
+use std::alloc::{Allocator, Global};
+use std::cmp::Ordering;
+use std::marker::Model;
+
+/// Bars in the order of their locates, and of one locate by their starts.
+#[derive(Drop)]
+pub struct BarTable<A: Allocator = Global> {
+    bars: Vec<Bar, A>,
+}
+
+impl<A: Allocator> Model for BarTable<A> {
+    ghost use Rattle.std.specs.Prelude.{All, List};
+    ghost use Rattle.bars.specs.declared.bar.Bar.{Bar as TheBar};
+    ghost use Rattle.bars.specs.Bars.{IsByKey, IsTraded};
+
+    ghost Value = { List TheBar };
+
+    ghost view = { λ table. table.bars.items };
+
+    ghost invariant = { λ table.
+        IsByKey table.bars.items × All IsTraded table.bars.items };
+}
+
+impl<A: Allocator> BarTable<A> {
+    /// A table of no bars, in memory of `alloc`.
+    pub fn empty(alloc: A) -> BarTable<A>
+        ensures { result ≡ [] }
+    {
+        BarTable {
+            bars: Vec::new(alloc),
+        }
+    }
+
+    /// The bars, by locate and then by start.
+    #[inline]
+    pub fn items(&self) -> &[Bar]
+        ensures value { result.now ≡ self.now }
+        ensures by_key { IsByKey result.now }
+        ensures traded { All IsTraded result.now }
+    {
+        self.bars.as_slice()
+    }
+}
+
+impl<A: Allocator + Clone> BarTable<A> {
+    /// The table of the sales, in whatever order they stand, at a width in seconds. It is refused
+    /// where there is no memory to sort a copy of them, or for the bars.
+    pub fn of_sales(alloc: A, sales: &[Sale], width: u32) -> Result<BarTable<A>, OutOfMemory>
+        requires places { IsDistinct nat_eq (map (λ sale. sale.place) sales.now) }
+        requires count { length sales.now < 2 ^ 31 }
+        requires shares { All (λ sale. 0 < sale.shares) sales.now }
+        requires width { (1 ≤ width) × (width ≤ 86400) }
+        ensures bars { IfOk result (λ table. AreBarsOf width sales.now table) }
+        ensures traded { IfOk result (λ table. All IsTraded table) }
+    {
+        let mut sorted = Vec::from_slice(alloc.clone()?, sales)?;
+        sorted.sort_by_key(|sale| (sale.locate, sale.time))?;
+        let mut bars = Vec::new(alloc);
+        for sale in sorted.as_slice() {
+            add(&mut bars, Bar::of_sale(sale, width))?;
+        }
+        Ok(BarTable { bars })
+    }
+
+    /// Takes in the bars of `other`, those of one locate and start made one. A refusal leaves the
+    /// table as it was.
+    pub fn merge<B: Allocator>(&mut self, other: &BarTable<B>) -> Result<(), OutOfMemory>
+        requires sums { SumsFit self.old other.now }
+        ensures merged { OnOk result (IsMergeOf self.old other.now self.new) }
+        ensures bars { OnOk result ((width : ℕ) (sales more : List Sale) →
+            AreBarsOf width sales self.old → AreBarsOf width more other.now →
+            AreBarsOf width (sales ++ more) self.new) }
+        ensures traded { All IsTraded self.new }
+        ensures unchanged { OnErr result (self.new ≡ self.old) }
+    {
+        let alloc = self.bars.allocator().clone()?;
+        self.bars = merge_bars(alloc, self.items(), other.items())?;
+        Ok(())
+    }
+}
+
+/// Puts in a bar that no bar of the table stands after.
+#[inline]
+fn add<A: Allocator>(bars: &mut Vec<Bar, A>, bar: Bar) -> Result<(), OutOfMemory>
+    requires by_key { IsByKey bars.old.items }
+    requires traded { All IsTraded bars.old.items × IsTraded bar }
+    requires up_to { IsUpTo bars.old.items bar }
+    requires sums { All (λ kept. CanJoin kept bar) bars.old.items }
+    ensures merged { OnOk result (bars.new.items ≡ merged bars.old.items (bar ∷ [])) }
+    ensures traded { OnOk result (All IsTraded bars.new.items) }
+    ensures up_to { OnOk result (IsUpTo bars.new.items bar) }
+{
+    let Some(last) = bars.last_mut() else {
+        bars.push(bar)?;
+        return Ok(());
+    };
+    if last.compare(&bar).is_eq() {
+        *last = last.join(&bar);
+    } else {
+        bars.push(bar)?;
+    }
+    Ok(())
+}
+
+/// Two tables in one.
+fn merge_bars<A: Allocator>(
+    alloc: A,
+    one: &[Bar],
+    other: &[Bar],
+) -> Result<Vec<Bar, A>, OutOfMemory>
+    requires one { IsByKey one.now × All IsTraded one.now }
+    requires other { IsByKey other.now × All IsTraded other.now }
+    requires sums { SumsFit one.now other.now }
+    ensures value { IfOk result (λ bars. bars.items ≡ merged one.now other.now) }
+    ensures traded { IfOk result (λ bars. All IsTraded bars.items) }
+{
+    let mut bars = Vec::with_capacity(alloc, one.len().max(other.len()))?;
+    let (mut i, mut j) = (0, 0);
+    while i < one.len() && j < other.len() {
+        match one[i].compare(&other[j]) {
+            Ordering::Less => {
+                bars.push(one[i])?;
+                i += 1;
+            }
+            Ordering::Equal => {
+                bars.push(one[i].join(&other[j]))?;
+                i += 1;
+                j += 1;
+            }
+            Ordering::Greater => {
+                bars.push(other[j])?;
+                j += 1;
+            }
+        }
+    }
+    bars.extend_from_slice(&one[i..])?;
+    bars.extend_from_slice(&other[j..])?;
+    Ok(bars)
+}

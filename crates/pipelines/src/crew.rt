@@ -1,0 +1,13 @@
+//! How many threads work.
+ghost use Rattle.std.specs.Prelude.{◌≡◌, ◌<◌, ◌≤◌};
+
+/// How many threads work on a pair of pipelines.
+#[derive(Clone, Copy, Debug, PartialEq, Eq)]
+pub struct Crew {
+    /// The worker threads of each pipeline, 1 to 64.
+    pub workers: u32,
+    /// The gatherings of each pipeline: 1, that of the caller's thread.
+    pub gatherers: u32,
+    ghost workers_in_range: { (0 < workers) × (workers ≤ 64) },
+    ghost one_gatherer: { gatherers ≡ 1 },
+}

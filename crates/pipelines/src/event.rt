@@ -1,0 +1,113 @@
+//! What happens to the gatherings of a pipeline, one event after the other.
+ghost use Rattle.std.specs.Prelude.{◌≡◌, ◌<◌, All, length, OnOk, OnErr};
+ghost use Rattle.std.specs.Arc.{arc_value};
+ghost use Rattle.pipelines.specs.Schedules.{after, after_all, covered_sets};
+ghost use Rattle.pipelines.specs.declared.event.Event.TheVariants.{Arrive, Merge};
+
+use crate::owner::{run_task, unite};
+use gathering::{Gathering, Inputs, OutOfMemory, Work};
+use std::alloc::Global;
+use std::mem;
+use std::sync::Arc;
+
+/// One event of a schedule. Gatherers and tasks are numbered from 0. An event changes nothing where
+/// it names one that there isn't.
+#[derive(Clone, Copy, Debug, PartialEq, Eq)]
+pub enum Event {
+    /// The task is run, and its piece is filed by the gatherer.
+    Arrive { gatherer: u32, task: u32 },
+    /// A piece of the task is lost.
+    Lose { task: u32 },
+    /// What the other gatherer has is merged into this one, and leaves the other empty.
+    Merge { into: u32, other: u32 },
+}
+
+/// Does one event, where each gathering is over these inputs. It runs the task of a piece that
+/// arrives, once.
+///
+/// Refused where there is no memory for the piece, or for the gathering that takes the place of the
+/// merged one.
+pub fn apply<W: Work>(
+    alloc: Global,
+    gatherings: &mut Vec<Gathering<W>>,
+    inputs: &Arc<Inputs<W>, Global>,
+    event: &Event,
+) -> Result<(), OutOfMemory>
+    requires own { All (λ g. g.inputs ≡ arc_value inputs.now) gatherings.old.items }
+    ensures own { All (λ g. g.inputs ≡ arc_value inputs.now) gatherings.new.items }
+    ensures step { OnOk result (covered_sets gatherings.new.items
+        ≡ after (length (arc_value inputs.now)) event.now (covered_sets gatherings.old.items)) }
+    ensures err { OnErr result (gatherings.new.items ≡ gatherings.old.items) }
+{
+    match *event {
+        Event::Arrive { gatherer, task } => arrive(alloc, gatherings, inputs, gatherer, task),
+        Event::Lose { task: _ } => Ok(()),
+        Event::Merge { into, other } => merge(alloc, gatherings, inputs, into, other),
+    }
+}
+
+/// Does all events, in order. Refused as `apply`, with the gatherings as the earlier events left
+/// them.
+pub(crate) fn apply_all<W: Work>(
+    alloc: Global,
+    gatherings: &mut Vec<Gathering<W>>,
+    inputs: &Arc<Inputs<W>, Global>,
+    events: &[Event],
+) -> Result<(), OutOfMemory>
+    requires own { All (λ g. g.inputs ≡ arc_value inputs.now) gatherings.old.items }
+    ensures own { All (λ g. g.inputs ≡ arc_value inputs.now) gatherings.new.items }
+    ensures steps { OnOk result (covered_sets gatherings.new.items
+        ≡ after_all (length (arc_value inputs.now)) events.now
+        (covered_sets gatherings.old.items)) }
+{
+    for event in events {
+        apply(alloc, gatherings, inputs, event)?;
+    }
+    Ok(())
+}
+
+fn arrive<W: Work>(
+    alloc: Global,
+    gatherings: &mut Vec<Gathering<W>>,
+    inputs: &Arc<Inputs<W>, Global>,
+    gatherer: u32,
+    task: u32,
+) -> Result<(), OutOfMemory>
+    requires own { All (λ g. g.inputs ≡ arc_value inputs.now) gatherings.old.items }
+    ensures own { All (λ g. g.inputs ≡ arc_value inputs.now) gatherings.new.items }
+    ensures step { OnOk result (covered_sets gatherings.new.items
+        ≡ after (length (arc_value inputs.now)) (Arrive gatherer task)
+        (covered_sets gatherings.old.items)) }
+    ensures err { OnErr result (gatherings.new.items ≡ gatherings.old.items) }
+{
+    let at = gatherer as usize;
+    if at >= gatherings.len() || task >= inputs.count() {
+        return Ok(());
+    }
+    run_task(alloc, &mut gatherings[at], inputs, task)
+}
+
+fn merge<W: Work>(
+    alloc: Global,
+    gatherings: &mut Vec<Gathering<W>>,
+    inputs: &Arc<Inputs<W>, Global>,
+    into: u32,
+    other: u32,
+) -> Result<(), OutOfMemory>
+    requires own { All (λ g. g.inputs ≡ arc_value inputs.now) gatherings.old.items }
+    ensures own { All (λ g. g.inputs ≡ arc_value inputs.now) gatherings.new.items }
+    ensures step { OnOk result (covered_sets gatherings.new.items
+        ≡ after (length (arc_value inputs.now)) (Merge into other)
+        (covered_sets gatherings.old.items)) }
+    ensures err { OnErr result (gatherings.new.items ≡ gatherings.old.items) }
+{
+    let count = gatherings.len();
+    let (into, other) = (into as usize, other as usize);
+    if into >= count || other >= count || into == other {
+        return Ok(());
+    }
+    let empty = Gathering::new(alloc, Arc::try_clone(inputs)?)?;
+    let merged = mem::replace(&mut gatherings[other], empty);
+    unite(&mut gatherings[into], merged);
+    Ok(())
+}

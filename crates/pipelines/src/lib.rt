@@ -1,0 +1,32 @@
+//! Two pipelines of work, of which the second works on what a link makes of the first one's total.
+//!
+//! `run_pair` runs them on threads: workers claim tasks of a dispatcher, run them and send the
+//! pieces to the caller's thread, which gathers them. Neither the crew nor the schedule of its
+//! threads changes the answer.
+#![tactic(auto)]
+
+mod crew;
+mod event;
+mod gate;
+pub mod laws;
+mod link;
+mod outcome;
+mod owner;
+mod pair;
+mod port;
+mod rehearse;
+mod worker;
+
+pub use crew::Crew;
+pub use event::{Event, apply};
+pub use gate::{FreeGate, Gate};
+pub use gathering::OutOfMemory;
+pub use link::Link;
+pub use outcome::{Linked, Outcome, Rehearsed};
+pub use pair::run_pair;
+pub use port::{KeepingPort, Port};
+pub use rehearse::rehearse_pair;
+pub use worker::work;
+
+#[cfg(test)]
+mod tests;

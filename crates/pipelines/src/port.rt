@@ -1,0 +1,99 @@
+//! Where a worker's pieces go.
+ghost use Rattle.std.specs.Prelude.{◌≡◌, ◌++◌, ◌∷◌, [], List, MatchResult, IfErr};
+
+use crossbeam_channel::Sender;
+use std::alloc::Global;
+use std::marker::Model;
+use std::sync::Wait;
+
+/// Takes messages from one thread, as the pieces that a worker makes.
+pub trait Port<M> {
+    /// What it has taken, in order, where it tells.
+    ghost taken: { Self → List M };
+
+    /// Whether it tells what it has taken.
+    ghost Tells: { Type 0 };
+
+    /// Takes the message, or hands it back.
+    fn send(&mut self, message: M) -> Result<(), M>
+        ensures handed_back { IfErr result (λ refused. refused ≡ message) }
+        ensures taken { Tells → MatchResult result
+            (λ _. taken self.new ≡ taken self.old ++ message ∷ [])
+            (λ _. taken self.new ≡ taken self.old) };
+}
+
+/// Keeps what it is sent, in order, and tells it. It refuses a message where there is no memory for
+/// it.
+///
+/// Contracts see the messages.
+#[derive(Drop)]
+pub struct KeepingPort<M> {
+    messages: Vec<M>,
+}
+
+impl<M> Model for KeepingPort<M> {
+    ghost use Rattle.std.specs.Prelude.{List};
+
+    ghost Value = { List M };
+
+    ghost view = { λ a. a.messages.items };
+}
+
+impl<M> KeepingPort<M> {
+    /// It has taken nothing.
+    pub fn new(alloc: Global) -> Self
+        ensures { result ≡ [] }
+    {
+        KeepingPort {
+            messages: Vec::new(alloc),
+        }
+    }
+
+    /// What it has taken, the earliest first.
+    pub fn items(&self) -> &[M]
+        ensures { result.now ≡ self.now }
+    {
+        self.messages.as_slice()
+    }
+}
+
+impl<M> Port<M> for KeepingPort<M> {
+    ghost taken = { λ messages. messages };
+
+    ghost Tells = { Unit {0} };
+
+    fn send(&mut self, message: M) -> Result<(), M> {
+        match self.messages.push(message) {
+            Ok(()) => Ok(()),
+            Err(refused) => Err(refused.value),
+        }
+    }
+}
+
+/// Sends into a channel. It refuses a message where the receiver is gone or there is no memory, and
+/// tells nothing.
+#[derive(Drop)]
+pub(crate) struct ChannelPort<'r, M, R: Wait> {
+    rt: &'r R,
+    to: Sender<M>,
+}
+
+impl<'r, M, R: Wait> ChannelPort<'r, M, R> {
+    /// Sends into this channel, and waits by this handle where the channel's lock is held.
+    pub(crate) fn new(rt: &'r R, to: Sender<M>) -> Self {
+        ChannelPort { rt, to }
+    }
+}
+
+impl<M: Drop, R: Wait> Port<M> for ChannelPort<'_, M, R> {
+    ghost taken = { λ _. [] };
+
+    ghost Tells = { ⊥ };
+
+    fn send(&mut self, message: M) -> Result<(), M> {
+        match self.to.send(self.rt, message) {
+            Ok(()) => Ok(()),
+            Err(refused) => Err(refused.into_inner()),
+        }
+    }
+}

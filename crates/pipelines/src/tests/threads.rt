@@ -1,0 +1,269 @@
+ghost use Rattle.std.specs.Prelude.{◌≡◌, ◌<◌, ◌≤◌, length};
+
+use super::{Number, OneAndTwo, Sum, Watch, hold, inputs_of};
+use crate::{Crew, FreeGate, Gate, KeepingPort, OutOfMemory, Outcome, Port, run_pair, work};
+use dispatcher::Dispatcher;
+use gathering::Piece;
+use std::alloc::Global;
+use std::sync::atomic::{AtomicBool, AtomicU64, Ordering};
+use std::sync::{Arc, Wait};
+use std::test::Fail;
+use std::thread::Threads;
+
+const NUMBERS: [u64; 8] = [1, 2, 4, 8, 16, 32, 64, 128];
+
+/// How long the first giving of task 0 is held, in each pipeline or, the last, in the first alone.
+#[derive(Clone, Copy, PartialEq, Eq)]
+enum Held {
+    NotAtAll,
+    /// Until task 1 is begun, which is held until task 0 is.
+    UntilTheOther,
+    UntilDone,
+    UntilTheSecondPipeline,
+}
+
+/// Counts the runs by their rounds, and holds some.
+#[derive(Drop)]
+struct Warden {
+    held: Held,
+    begun: [AtomicBool; 4],
+    done: [AtomicBool; 2],
+    rounds: [AtomicU64; 3],
+    gave_up: AtomicBool,
+}
+
+impl Warden {
+    fn new(held: Held) -> Self {
+        Warden {
+            held,
+            begun: [
+                AtomicBool::new(false),
+                AtomicBool::new(false),
+                AtomicBool::new(false),
+                AtomicBool::new(false),
+            ],
+            done: [AtomicBool::new(false), AtomicBool::new(false)],
+            rounds: [AtomicU64::new(0), AtomicU64::new(0), AtomicU64::new(0)],
+            gave_up: AtomicBool::new(false),
+        }
+    }
+
+    fn count(&self, round: usize) -> u64
+        requires { round < 3 }
+    {
+        self.rounds[round].load(Ordering::SeqCst)
+    }
+}
+
+impl Gate for Warden {
+    fn before(&self, pipeline: u8, task: u32, round: u8) {
+        if pipeline < 1 || pipeline > 2 || round > 2 {
+            return;
+        }
+        self.rounds[round as usize].fetch_add(1, Ordering::SeqCst);
+        if task > 1 {
+            return;
+        }
+        let first = 2 * (pipeline as usize - 1);
+        let own = task as usize;
+        self.begun[first + own].store(true, Ordering::SeqCst);
+        if round > 0 {
+            return;
+        }
+        match self.held {
+            Held::UntilTheOther => hold(&self.begun[first + 1 - own], &self.gave_up),
+            Held::UntilDone if own == 0 => hold(&self.done[first / 2], &self.gave_up),
+            Held::UntilTheSecondPipeline if own == 0 && first == 0 => {
+                hold(&self.begun[3], &self.gave_up);
+            }
+            _ => {}
+        }
+    }
+
+    fn done(&self, pipeline: u8) {
+        if pipeline == 1 || pipeline == 2 {
+            self.done[pipeline as usize - 1].store(true, Ordering::SeqCst);
+        }
+    }
+}
+
+/// What the runs over the first numbers give, where the link goes on with 1 and 2 or halts.
+fn outcome<G: Gate, R: Threads + Wait + Sync>(
+    rt: &R,
+    alloc: Global,
+    watch: &Arc<Watch, Global>,
+    numbers: &[u64],
+    halts: bool,
+    workers: u32,
+    gate: &G,
+) -> Result<Outcome<u128, u128, u128>, OutOfMemory>
+    requires numbers { length numbers.now ≤ 4096 }
+    requires workers { (0 < workers) × (workers ≤ 64) }
+{
+    let inputs = Arc::new(alloc, inputs_of(alloc, watch, numbers)?)?;
+    let link = OneAndTwo {
+        watch: Watch::shared(alloc, 0, watch.meets)?,
+        halts,
+    };
+    let crew = Crew {
+        workers,
+        gatherers: 1,
+    };
+    run_pair(rt, alloc, inputs, &link, crew, gate)
+}
+
+#[test]
+fn every_crew_gives_one_answer(rt: HostRuntime) -> Result<(), Fail> {
+    let alloc = rt.alloc();
+    let watch = Watch::shared(alloc, 0, false)?;
+    for (count, halts, workers) in [
+        (8, false, 1),
+        (8, false, 2),
+        (8, true, 64),
+        (1, false, 64),
+        (0, false, 2),
+        (0, true, 1),
+    ] {
+        let numbers = &NUMBERS[..count];
+        let wanted = (1u128 << count) - 1;
+        match outcome(&rt, alloc, &watch, numbers, halts, workers, &FreeGate)? {
+            Outcome::Finished { total, kept } => {
+                assert_eq!(rt; (total, kept, halts), (3, wanted, false));
+            }
+            Outcome::Stopped { stop } => assert_eq!(rt; (stop, halts), (wanted, true)),
+        }
+    }
+    Ok(())
+}
+
+#[test]
+fn marked_tasks_are_passed_over(rt: HostRuntime) -> Result<(), Fail> {
+    let alloc = rt.alloc();
+    let watch = Watch::shared(alloc, 0, false)?;
+    let gate = Warden::new(Held::NotAtAll);
+    let _ = outcome(&rt, alloc, &watch, &NUMBERS, false, 1, &gate)?;
+    assert_eq!(rt; (gate.count(0), gate.count(1), gate.count(2)), (10, 0, 0));
+    assert_eq!(rt; watch.runs.load(Ordering::SeqCst), 8);
+    Ok(())
+}
+
+/// Whether two workers finish under such a gate, which never gives up and sees no run of the
+/// caller's own.
+fn finishes_when<R: Threads + Wait + Sync>(
+    rt: &R,
+    alloc: Global,
+    held: Held,
+) -> Result<bool, OutOfMemory> {
+    let watch = Watch::shared(alloc, 0, false)?;
+    let gate = Warden::new(held);
+    let finished = match outcome(rt, alloc, &watch, &NUMBERS, false, 2, &gate)? {
+        Outcome::Finished { total, kept } => total == 3 && kept == 255,
+        Outcome::Stopped { stop: _ } => false,
+    };
+    Ok(finished && gate.count(2) == 0 && !gate.gave_up.load(Ordering::SeqCst))
+}
+
+#[test]
+fn two_tasks_meet(rt: HostRuntime) -> Result<(), Fail> {
+    assert!(rt; finishes_when(&rt, rt.alloc(), Held::UntilTheOther)?);
+    Ok(())
+}
+
+#[test]
+fn slow_task_given_again(rt: HostRuntime) -> Result<(), Fail> {
+    assert!(rt; finishes_when(&rt, rt.alloc(), Held::UntilDone)?);
+    Ok(())
+}
+
+#[test]
+fn slow_worker_left_behind(rt: HostRuntime) -> Result<(), Fail> {
+    assert!(rt; finishes_when(&rt, rt.alloc(), Held::UntilTheSecondPipeline)?);
+    Ok(())
+}
+
+#[test]
+fn runs_at_once(rt: HostRuntime) -> Result<(), Fail> {
+    let alloc = rt.alloc();
+    let watch = Watch::shared(alloc, 0, true)?;
+    match outcome(&rt, alloc, &watch, &[1, 2], false, 2, &FreeGate)? {
+        Outcome::Finished { total, kept } => assert_eq!(rt; (total, kept), (3, 3)),
+        Outcome::Stopped { stop: _ } => assert!(rt; false),
+    }
+    assert!(rt; !watch.gave_up.load(Ordering::SeqCst));
+    Ok(())
+}
+
+#[test]
+fn lost_pieces_are_run_again(rt: HostRuntime) -> Result<(), Fail> {
+    let alloc = rt.alloc();
+    // One worker runs each of four tasks twice. The caller's own runs come after those eight.
+    for (refuses, answers) in [(8, true), (9, false)] {
+        let watch = Watch::shared(alloc, refuses, false)?;
+        let gate = Warden::new(Held::NotAtAll);
+        match outcome(&rt, alloc, &watch, &NUMBERS[..4], true, 1, &gate) {
+            Ok(Outcome::Stopped { stop }) => assert_eq!(rt; (stop, answers), (15, true)),
+            Ok(Outcome::Finished { total: _, kept: _ }) => assert!(rt; false),
+            Err(_) => assert!(rt; !answers),
+        }
+        assert_eq!(rt; (gate.count(0), gate.count(1)), (4, 4));
+        assert_eq!(rt; gate.count(2), if answers { 4 } else { 1 });
+    }
+    Ok(())
+}
+
+/// Keeps pieces, but for the first one where it is set to refuse.
+#[derive(Drop)]
+struct Picky {
+    port: KeepingPort<Piece<Sum>>,
+    refuses: bool,
+}
+
+impl Port<Piece<Sum>> for Picky {
+    ghost taken = { λ picky. picky.port };
+
+    ghost Tells = { Unit {0} };
+
+    fn send(&mut self, piece: Piece<Sum>) -> Result<(), Piece<Sum>> {
+        if self.refuses {
+            self.refuses = false;
+            return Err(piece);
+        }
+        self.port.send(piece)
+    }
+}
+
+#[test]
+fn a_worker_alone(rt: HostRuntime) -> Result<(), Fail> {
+    let alloc = rt.alloc();
+    let inputs = inputs_of(alloc, &Watch::shared(alloc, 0, false)?, &NUMBERS)?;
+    for (refuses, order) in [
+        (false, [0, 1, 2, 3, 4, 5, 6, 7]),
+        (true, [1, 2, 3, 4, 5, 6, 7, 0]),
+    ] {
+        let (dispatcher, mut seats) = Dispatcher::new(alloc, 8, 1)?;
+        let mut seat = seats.pop().unwrap();
+        let mut picky = Picky {
+            port: KeepingPort::new(alloc),
+            refuses,
+        };
+        let refused = work(
+            alloc,
+            &dispatcher,
+            &mut seat,
+            &inputs,
+            &mut picky,
+            1,
+            &FreeGate,
+        );
+        assert_eq!(rt; refused, u32::from(refuses));
+        assert!(rt;
+            picky
+                .port
+                .items()
+                .iter()
+                .map(|piece| piece.number())
+                .eq(order)
+        );
+    }
+    Ok(())
+}
