@@ -60,6 +60,8 @@ fn performed(alloc: Global, day: &[u8], query: &str) -> Result<(u8, Vec<u8>, Vec
 fn statuses_and_lines(rt: HostRuntime) -> Result<(), Fail> {
     let header = "time,symbol,kind,price,shares,number\n";
     let sale = "time,symbol,kind,price,shares,number\n09:30:01.000000005,MSFT,E,410.5000,40,9\n";
+    let bar = "symbol,start,first,high,low,last,volume,trades,average\n\
+        MSFT,09:30:00,410.5000,410.5000,410.5000,410.5000,40,1,410.5000+0/40\n";
     let cases = [
         (DAY, "sales", 0, sale, ""),
         (&DAY[..41], "sales", 0, header, ""),
@@ -84,7 +86,11 @@ fn statuses_and_lines(rt: HostRuntime) -> Result<(), Fail> {
             "",
             "fault: place 0: order reference 1 is not known\n",
         ),
-        (DAY, "bars", 2, "", "fault: query byte 0: unknown word\n"),
+        (DAY, "bars", 2, "", "fault: query ends too early\n"),
+        (DAY, "bars 0 s", 2, "", "fault: query byte 5: bad number\n"),
+        (DAY, "Sales", 2, "", "fault: query byte 0: unknown word\n"),
+        (DAY, "bars 1 m", 0, bar, ""),
+        (DAY, "sales where symbol in AAPL", 0, header, ""),
         (DAY, "  ", 2, "", "fault: query ends too early\n"),
     ];
     for (day, query, status, text, line) in cases {

@@ -1,3 +1,10 @@
+ghost use Rattle.std.specs.Prelude.{◌≡◌, false, IfErr, IfOk, List, [], map, string_bytes};
+ghost use Rattle.clap.specs.Words.{FailsBy, HasKind, Kinds, app_of, fault_of, found_of};
+ghost use Rattle.clap.specs.Words.{matches_of, rows_of, rule_of};
+ghost use Rattle.itch_bars.specs.CommandLine.{file_rule, morsel_rule, query_rule, the_app};
+ghost use Rattle.itch_bars.specs.CommandLine.{workers_rule};
+ghost use Rattle.itch_bars.specs.Jobs.{HasSettingsOf, IsFaultOf, IsJobOf, IsWhole};
+
 use clap::error::ErrorKind;
 use clap::{Arg, ArgAction, ArgMatches, Command, Error, value_parser};
 use executor::{Crew, LONGEST_FILE, Settings};
@@ -6,7 +13,12 @@ use std::alloc::{AllocError, Global};
 /// What help says behind the options.
 const AFTER_HELP: &str = "\
 Queries:
-  sales    time and sales: a line for each sale of the day, by its place in the file
+  sales        time and sales: a line for each sale of the day, by its place in the file
+  bars 5 m     a line for each security and interval of 5 minutes; s, m or h, 1 s to 24 h
+Behind either, `where` and some of these, joined by `and`:
+  symbol in MSFT,AAPL
+  time from 09:30:00 until 16:00:00
+  kind in E,C,P,Q    executions, executions with a price, trades, crosses
 
 The answer goes to standard output, and a fault to standard error as one line.
 Statuses: 0 answered, 1 the file has a fault, 2 wrong words or query, 3 out of memory,
@@ -34,89 +46,137 @@ pub enum WordsFault {
 }
 
 impl From<AllocError> for WordsFault {
+    ghost use Rattle.itch_bars.specs.declared.words.WordsFault.TheVariants.{Memory};
+
+    ghost from_gives = { λ _ fault. fault ≡ Memory };
+
     fn from(_error: AllocError) -> WordsFault {
         WordsFault::Memory
     }
 }
 
 /// The job that the words of a command line ask for. The first word is the program's name.
-pub fn command(alloc: Global, words: &[String]) -> Result<Job, WordsFault> {
+pub fn command(alloc: Global, words: &[String]) -> Result<Job, WordsFault>
+    ensures job { IfOk result (IsJobOf (matches_of the_app (map string_bytes words.now))) }
+    ensures right { IfOk result (λ _. fault_of the_app (map string_bytes words.now) ≡ []) }
+    ensures fault { IfErr result (IsFaultOf (fault_of the_app (map string_bytes words.now))) }
+{
     match matched(alloc, words) {
-        Ok(matches) => job_of(alloc, &matches),
-        Err(error) => Err(fault_of(alloc, &error)),
+        Ok(matches) => Ok(job_of(alloc, &matches)?),
+        Err(error) => Err(words_fault(alloc, &error)),
     }
 }
 
 /// What `clap` matches in the words.
-fn matched<'a>(alloc: Global, words: &'a [String]) -> Result<ArgMatches<'a>, Error> {
-    let file = Arg::new(alloc, "FILE")
-        .required(true)
-        .action(ArgAction::Set)
-        .help("A day file, uncompressed; - is standard input");
-    let query = Arg::new(alloc, "QUERY")
-        .required(true)
-        .action(ArgAction::Set)
-        .help("What to answer: sales");
-    let workers = Arg::new(alloc, "workers")
-        .long("workers")
-        .value_name("N")
-        .value_parser(value_parser!(u32).range(1..=64))
-        .default_value("4")
-        .help("Threads that work on the query, 1 to 64; no text depends on them");
-    let morsel = Arg::new(alloc, "morsel")
-        .long("morsel")
-        .value_name("BYTES")
-        .value_parser(value_parser!(u64).range(1..=1_073_741_824))
-        .default_value("16777216")
-        .help("Least size of a piece of the file, 1 to 1073741824; no text depends on it");
-    let command = Command::new(alloc, "itch_bars")
-        .about("Answers a query over a day file of Nasdaq TotalView-ITCH 5.0")
-        .after_help(AFTER_HELP)
-        .arg(file)?
-        .arg(query)?
-        .arg(workers)?
-        .arg(morsel)?;
+fn matched<'a>(alloc: Global, words: &'a [String]) -> Result<ArgMatches<'a>, Error>
+    ensures rows { IfOk result (λ m. rows_of (found_of m)
+        ≡ matches_of the_app (map string_bytes words.entry.now)) }
+    ensures whole { IfOk result (λ m. IsWhole (rows_of (found_of m))) }
+    ensures kinds { FailsBy (fault_of the_app (map string_bytes words.entry.now)) result }
+{
+    let command = command_line(alloc)?;
     command.try_get_matches_from(words)
 }
 
+/// The program's command line.
+fn command_line<'a>(alloc: Global) -> Result<Command<'a>, AllocError>
+    ensures { IfOk result (λ c. app_of c ≡ the_app) }
+{
+    Command::new(alloc, "itch_bars")
+        .about("Answers a query over a day file of Nasdaq TotalView-ITCH 5.0")
+        .after_help(AFTER_HELP)
+        .arg(file_argument(alloc))?
+        .arg(query_argument(alloc))?
+        .arg(workers_option(alloc))?
+        .arg(morsel_option(alloc))
+}
+
+/// The day file's path.
+fn file_argument<'a>(alloc: Global) -> Arg<'a>
+    ensures rule { rule_of result ≡ file_rule }
+    ensures local { result.global ≡ false }
+{
+    Arg::new(alloc, "FILE")
+        .required(true)
+        .action(ArgAction::Set)
+        .help("A day file, uncompressed; - is standard input")
+}
+
+/// The query's text.
+fn query_argument<'a>(alloc: Global) -> Arg<'a>
+    ensures rule { rule_of result ≡ query_rule }
+    ensures local { result.global ≡ false }
+{
+    Arg::new(alloc, "QUERY")
+        .required(true)
+        .action(ArgAction::Set)
+        .help("What to answer, as below")
+}
+
+/// How many threads work.
+fn workers_option<'a>(alloc: Global) -> Arg<'a>
+    ensures rule { rule_of result ≡ workers_rule }
+    ensures local { result.global ≡ false }
+{
+    Arg::new(alloc, "workers")
+        .long("workers")
+        .value_name("N")
+        .action(ArgAction::Set)
+        .value_parser(value_parser!(u32).range(1..=64))
+        .default_value("4")
+        .help("Threads that work on the query, 1 to 64; no text depends on them")
+}
+
+/// The least size of a morsel.
+fn morsel_option<'a>(alloc: Global) -> Arg<'a>
+    ensures rule { rule_of result ≡ morsel_rule }
+    ensures local { result.global ≡ false }
+{
+    Arg::new(alloc, "morsel")
+        .long("morsel")
+        .value_name("BYTES")
+        .action(ArgAction::Set)
+        .value_parser(value_parser!(u64).range(1..=1_073_741_824))
+        .default_value("16777216")
+        .help("Least size of a piece of the file, 1 to 1073741824; no text depends on it")
+}
+
 /// The job of what was matched.
-fn job_of(alloc: Global, matches: &ArgMatches<'_>) -> Result<Job, WordsFault> {
-    let (Some(file), Some(query), Some(settings)) = (
-        matches.get_str("FILE"),
-        matches.get_str("QUERY"),
-        settings_of(matches),
-    ) else {
-        return Err(WordsFault::Wrong {
-            text: String::new(alloc),
-        });
-    };
+fn job_of(alloc: Global, matches: &ArgMatches<'_>) -> Result<Job, AllocError>
+    requires { IsWhole (rows_of (found_of matches.now)) }
+    ensures { IfOk result (IsJobOf (rows_of (found_of matches.now))) }
+{
+    let file = matches.get_str("FILE").unwrap();
+    let query = matches.get_str("QUERY").unwrap();
     Ok(Job {
         file: String::from_str(alloc, file)?,
         query: String::from_str(alloc, query)?,
-        settings,
+        settings: settings_of(matches),
     })
 }
 
 /// The settings of what was matched.
-fn settings_of(matches: &ArgMatches<'_>) -> Option<Settings> {
-    let workers = matches.get_one::<u32>("workers")?;
-    let morsel = matches.get_one::<u64>("morsel")?;
-    if workers == 0 || workers > 64 || morsel == 0 || morsel > 1_073_741_824 {
-        return None;
-    }
+fn settings_of(matches: &ArgMatches<'_>) -> Settings
+    requires { IsWhole (rows_of (found_of matches.now)) }
+    ensures { HasSettingsOf (rows_of (found_of matches.now)) result }
+{
+    let workers = matches.get_one::<u32>("workers").unwrap();
+    let morsel = matches.get_one::<u64>("morsel").unwrap();
     let crew = Crew {
         workers,
         gatherers: 1,
     };
-    Some(Settings {
+    Settings {
         crew,
         morsel,
         limit: LONGEST_FILE,
-    })
+    }
 }
 
 /// Help, or what is wrong with the words.
-fn fault_of(alloc: Global, error: &Error) -> WordsFault {
+fn words_fault(alloc: Global, error: &Error) -> WordsFault
+    ensures { (kinds : Kinds) → HasKind kinds error.now → IsFaultOf kinds result }
+{
     let Ok(text) = format!(in alloc; "{error}") else {
         return WordsFault::Memory;
     };
