@@ -1,10 +1,10 @@
 -- The rows of frames, frame after frame, and the first wrong length.
-use Rattle.std.proofs.Common.{◌≡◌, ℕ, ltb, Bool, true, false, cond, List, [], ◌∷◌, ◌++◌, Option, Some, None, filter, filter_map, option_to_list, fold, refl, sym, ap, ◌∙◌, subst, arith, Less}
+use Rattle.std.proofs.Common.{◌≡◌, ℕ, ltb, Bool, true, false, cond, List, [], ◌∷◌, ◌++◌, Option, Some, None, filter, filter_map, option_to_list, refl, sym, ap, ◌∙◌, arith, Less}
 use Rattle.std.specs.List.{AllByRecursion, best_of, cons_option}
 use Rattle.std.specs.List.Sorted.{IsStrictlySortedBy}
 use Rattle.std.specs.Ordering.{nat_cmp}
 use Rattle.std.proofs.lemmas.Bool.Decides.{nat_tests}
-use Rattle.std.proofs.lemmas.List.{append-nil, append_assoc}
+use Rattle.std.proofs.lemmas.List.{append_assoc}
 use Rattle.std.proofs.lemmas.List.Elements.{filter-append, filter_map-append}
 use Rattle.itch_messages.specs.Body.{message_of, has_wrong_length}
 use Rattle.itch_messages.specs.declared.message.Message.{Message}

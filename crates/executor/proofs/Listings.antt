@@ -1,5 +1,5 @@
 -- What is listed: the sales that the query asks for, as text.
-use Rattle.std.proofs.Common.{◌≡◌, ◌<◌, ◌≤◌, ◌+◌, ◌^◌, ℕ, Bool, true, ◌&&◌, not, cond, ltb, List, [], ◌∷◌, ◌++◌, All, Option, Some, None, Result, Ok, Err, IfOk, inr, IsPermutation, get_or, length, map, nat_eq, take, filter, flat_map, refl, sym, ap, ap₂, ◌∙◌, subst, arith}
+use Rattle.std.proofs.Common.{◌≡◌, ◌<◌, ◌+◌, ◌^◌, ℕ, Bool, ◌&&◌, not, cond, ltb, List, [], ◌∷◌, ◌++◌, All, None, Result, Ok, Err, IfOk, inr, IsPermutation, get_or, length, map, nat_eq, take, flat_map, refl, sym, ap, ap₂, ◌∙◌, subst, arith}
 use Rattle.std.specs.List.{AllByRecursion, IsDistinct}
 use Rattle.std.specs.List.Sorted.{IsStrictlySortedBy}
 use Rattle.std.proofs.lemmas.List.{append-nil, append_assoc, length-append, take_more}
@@ -12,14 +12,14 @@ use Rattle.order_table.specs.Orders.{first_repeated}
 use Rattle.order_table.specs.declared.row.OrderRow.{OrderRow}
 use Rattle.probe.specs.Pricing.{first_unknown, priced}
 use Rattle.probe.specs.Selection.{admits, has_kind, has_time}
-use Rattle.probe.specs.Trades.{is_kept, kept}
+use Rattle.probe.specs.Trades.{kept}
 use Rattle.probe.specs.declared.rows.Execution.{Execution}
 use Rattle.probe.specs.declared.rows.Sale.{Sale}
 use Rattle.probe.specs.declared.selection.Selection.{Selection}
 use Rattle.probe.proofs.KeptSales.{kept_have_shares, length-kept}
 use Rattle.probe.proofs.PricedSales.{length-priced}
 use Rattle.time_and_sales.specs.Listings.{place_cmp}
-use Rattle.time_and_sales.specs.Names.{IsNamesOf, last_row, last_row_of, name_of, name_text}
+use Rattle.time_and_sales.specs.Names.{IsNamesOf, name_of, name_text}
 use Rattle.time_and_sales.specs.Texts.{listing_text, sale_line, sales_header}
 use Rattle.time_and_sales.specs.declared.directory.DirectoryRow.{DirectoryRow}
 use Rattle.time_and_sales.specs.declared.directory.Names.{Names}
@@ -28,14 +28,13 @@ use Rattle.bars.specs.Texts.{bar_line, bars_header, bars_text}
 use Rattle.bars.specs.declared.bar.Bar.{Bar}
 use Rattle.query.specs.Meaning.{Meaning}
 use Rattle.query.specs.Selected.{AreLocatesOf, has_name}
-use Rattle.query.specs.declared.query.What.{What}
 use Rattle.query.specs.declared.query.What.TheVariants.{Sales, Bars}
-use Rattle.executor.specs.Answers.{IsAnswer, IsTextFor, IsTextOf, asks_for, fault_of, reference_fault, selected_sales}
+use Rattle.executor.specs.Answers.{IsAnswer, IsTextFor, IsTextOf, asks_for, fault_of, selected_sales}
 use Rattle.executor.specs.Messages.{Placed, first_wrong, messages_of, order_rows, executions, own_priced_sales, break_numbers, directory_rows}
 use Rattle.executor.specs.Rows.{AreByPlace, IsStamped}
 use Rattle.executor.specs.Steps.{IsAnswerOf}
 use Rattle.executor.specs.declared.answer.DayFault.{DayFault}
-use Rattle.executor.proofs.Trades.{distinct_places, fits_listing, kept_distinct, listing_is}
+use Rattle.executor.proofs.Trades.{distinct_places, kept_distinct, listing_is}
 
 -- ---- a selection with the query's locates admits what the query asks for
 

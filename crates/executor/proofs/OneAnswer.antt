@@ -1,6 +1,6 @@
 -- A file and a query have one answer.
-use Rattle.std.proofs.Common.{◌≡◌, ℕ, List, Option, Some, None, Result, Ok, Err, inl, inr, sym, ap, ◌∙◌, subst}
-use Rattle.day_file.specs.Frames.{PlacedBody, StandsFor, IsTruncatedAt}
+use Rattle.std.proofs.Common.{◌≡◌, ℕ, List, Some, None, Result, Ok, Err, inl, inr, sym, ap, ◌∙◌, subst}
+use Rattle.day_file.specs.Frames.{PlacedBody}
 use Rattle.day_file.proofs.Laws.{frames_are_one, not_both, truncated_once}
 use Rattle.probe.specs.declared.rows.Sale.{Sale}
 use Rattle.bars.specs.Texts.{bars_text}
@@ -8,7 +8,7 @@ use Rattle.bars.proofs.Bars.{AreBarsOf-unique}
 use Rattle.query.specs.Meaning.{Meaning}
 use Rattle.query.specs.declared.query.What.{What}
 use Rattle.query.specs.declared.query.What.TheVariants.{Sales, Bars}
-use Rattle.executor.specs.Answers.{IsAnswer, IsAnswerOver, IsTextOf, first_fault}
+use Rattle.executor.specs.Answers.{IsAnswer, IsAnswerOver, IsTextOf}
 use Rattle.executor.specs.declared.answer.DayFault.{DayFault}
 use Rattle.executor.specs.declared.answer.DayFault.TheVariants.{Truncated}
 

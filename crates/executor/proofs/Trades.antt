@@ -1,5 +1,5 @@
 -- The trades of a message list: the priced executions and the sales with a price of their own, and by place.
-use Rattle.std.proofs.Common.{◌≡◌, ◌<◌, ◌^◌, ℕ, Bool, true, List, [], ◌∷◌, ◌++◌, map, nat_eq, All, Less, arith, Option, Some, None, option_map, option_to_list, cond, ◌==◌, false, filter, filter_map, flat_map, IsPermutation, refl, sym, ap, ap₂, ◌∙◌, subst}
+use Rattle.std.proofs.Common.{◌≡◌, ℕ, Bool, true, List, [], ◌∷◌, ◌++◌, map, nat_eq, All, Less, arith, Option, Some, None, option_map, option_to_list, cond, ◌==◌, false, filter_map, flat_map, IsPermutation, refl, sym, ap, ap₂, ◌∙◌, subst}
 use Rattle.std.specs.List.{AllByRecursion, IsDistinct, cons_option}
 use Rattle.std.proofs.lemmas.Bool.Decides.{nat_tests}
 use Rattle.std.proofs.lemmas.List.Elements.{All-append, All-filter, All-from_recursion, recursion_from_All}
@@ -19,7 +19,7 @@ use Rattle.probe.specs.declared.rows.Sale.{Sale}
 use Rattle.probe.specs.Pricing.{price_of, sale_at, sale_of, priced}
 use Rattle.probe.specs.Trades.{is_kept, kept}
 use Rattle.probe.specs.declared.rows.Kind.TheVariants.{C}
-use Rattle.time_and_sales.specs.Listings.{place_cmp, IsByPlace}
+use Rattle.time_and_sales.specs.Listings.{place_cmp}
 use Rattle.itch_messages.specs.Body.{message_of}
 use Rattle.day_file.specs.Frames.{PlacedBody}
 use Rattle.time_and_sales.specs.declared.directory.DirectoryRow.{DirectoryRow}

@@ -7,7 +7,6 @@ use Rattle.day_file.specs.Frames.{PlacedBody}
 use Rattle.order_table.specs.Least.{least_by}
 use Rattle.order_table.specs.declared.row.OrderRow.{OrderRow}
 use Rattle.probe.specs.declared.rows.Execution.{Execution}
-use Rattle.probe.specs.declared.rows.Kind.{Kind}
 use Rattle.probe.specs.declared.rows.Sale.{Sale}
 use Rattle.probe.specs.declared.rows.Kind.TheVariants.{C, P, Q}
 use Rattle.time_and_sales.specs.declared.directory.DirectoryRow.{DirectoryRow}

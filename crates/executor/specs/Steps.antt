@@ -1,5 +1,5 @@
 -- What the steps of the plain program give each other.
-use Rattle.std.specs.Prelude.{◌≡◌, ℕ, List, Option, Some, None, Result, Ok, Err}
+use Rattle.std.specs.Prelude.{◌≡◌, ℕ, List, Some, None, Result, Ok, Err}
 use Rattle.day_file.specs.Frames.{PlacedBody}
 use Rattle.order_table.specs.declared.row.OrderRow.{OrderRow}
 use Rattle.order_table.specs.Orders.{first_repeated}

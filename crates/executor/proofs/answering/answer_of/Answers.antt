@@ -1,4 +1,4 @@
-use Rattle.std.proofs.Common.{◌≡◌, ◌<◌, ◌≤◌, ◌+◌, ◌^◌, ◌++◌, All, List, ℕ, None, true, length, map, nat_eq, nat_le, refl, sym, ap, ap₂, ◌∙◌, subst, arith}
+use Rattle.std.proofs.Common.{◌≡◌, ◌<◌, ◌+◌, ◌^◌, ◌++◌, All, List, ℕ, None, length, map, nat_eq, nat_le, sym, ap, ap₂, ◌∙◌, subst, arith}
 use Rattle.std.specs.List.{IsDistinct}
 use Rattle.std.proofs.lemmas.Bool.{and_parts, leb-true}
 use Rattle.std.proofs.lemmas.List.Elements.{All-weaker}
@@ -6,19 +6,18 @@ use Rattle.order_table.specs.declared.row.OrderRow.{OrderRow}
 use Rattle.order_table.specs.Orders.{first_repeated}
 use Rattle.probe.specs.Pricing.{first_unknown, priced}
 use Rattle.probe.specs.Selection.{admits}
-use Rattle.probe.specs.Trades.{kept}
 use Rattle.probe.specs.declared.rows.Execution.{Execution}
 use Rattle.probe.specs.declared.rows.Sale.{Sale}
-use Rattle.time_and_sales.specs.Names.{IsNamesOf, last_row, last_row_of, name_text}
+use Rattle.time_and_sales.specs.Names.{IsNamesOf, last_row, name_text}
 use Rattle.bars.specs.Bars.{AreBarsOf}
 use Rattle.bars.proofs.Sums.{table_is_writable}
 use Rattle.executor.specs.Answers.{IsTextFor, fault_of, reference_fault}
-use Rattle.executor.specs.Messages.{Placed, order_rows, executions, directory_rows}
-use Rattle.executor.specs.Rows.{AreByPlace, AreRowsOf, IsStamped}
+use Rattle.executor.specs.Messages.{directory_rows}
+use Rattle.executor.specs.Rows.{IsStamped}
 use Rattle.query.specs.Meaning.{Meaning}
 use Rattle.executor.specs.Steps.{IsPriced}
 use Rattle.executor.proofs.Listings.{Listed, bars_asked, listed_distinct, listing_few, listing_places, listing_shares, sales_asked, selected}
-use Rattle.executor.proofs.Trades.{directory_distinct, executions_distinct, fits_all, fits_listing, orders_distinct}
+use Rattle.executor.proofs.Trades.{executions_distinct, fits_all, fits_listing, orders_distinct}
 use Rattle.executor.proofs.answering.answer_of.Goals as goal
 use Rattle.executor.proofs.answering.answer_of.Goals.{in-Sales-what+in_ok-text-in-Sales-what, in-Bars+in_ok-table-in-Bars+in_ok-text-in-Bars}
 

@@ -1,4 +1,4 @@
-use Rattle.std.proofs.Common.{◌≡◌, ◌++◌, ℕ, ap₂, get_or, ◌∙◌}
+use Rattle.std.proofs.Common.{◌++◌, ap₂, get_or, ◌∙◌}
 use Rattle.time_and_sales.specs.Names.{last_row, name_text}
 use Rattle.bars.specs.Texts.{bar_line}
 use Rattle.bars.specs.declared.bar.Bar.{Bar}

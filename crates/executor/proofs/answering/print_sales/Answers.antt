@@ -1,4 +1,4 @@
-use Rattle.std.proofs.Common.{◌≡◌, ◌++◌, ℕ, ap, ap₂, ◌∙◌}
+use Rattle.std.proofs.Common.{◌++◌, ap₂, ◌∙◌}
 use Rattle.probe.specs.declared.rows.Kind.TheVariants.{E}
 use Rattle.probe.specs.declared.rows.Sale.{Sale}
 use Rattle.std.proofs.Common.{get_or}

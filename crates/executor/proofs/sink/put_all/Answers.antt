@@ -1,4 +1,4 @@
-use Rattle.std.proofs.Common.{length, rules, arith}
+use Rattle.std.proofs.Common.{arith}
 use Rattle.executor.proofs.Written.{front_grows, front_stays, rest_length}
 use Rattle.executor.proofs.sink.put_all.Goals as goal
 
