@@ -211,7 +211,7 @@ fn lost_pieces_are_run_again(rt: HostRuntime) -> Result<(), Fail> {
     Ok(())
 }
 
-/// Keeps pieces, but refuses one when it holds a piece, where it is set to.
+/// Keeps pieces, but for the first one where it is set to refuse.
 #[derive(Drop)]
 struct Picky {
     port: KeepingPort<Piece<Sum>>,
@@ -224,7 +224,7 @@ impl Port<Piece<Sum>> for Picky {
     ghost Tells = { Unit {0} };
 
     fn send(&mut self, piece: Piece<Sum>) -> Result<(), Piece<Sum>> {
-        if self.refuses && self.port.items().len() == 1 {
+        if self.refuses {
             self.refuses = false;
             return Err(piece);
         }
@@ -238,7 +238,7 @@ fn a_worker_alone(rt: HostRuntime) -> Result<(), Fail> {
     let inputs = inputs_of(alloc, &Watch::shared(alloc, 0, false)?, &NUMBERS)?;
     for (refuses, order) in [
         (false, [0, 1, 2, 3, 4, 5, 6, 7]),
-        (true, [0, 2, 3, 4, 5, 6, 7, 1]),
+        (true, [1, 2, 3, 4, 5, 6, 7, 0]),
     ] {
         let (dispatcher, mut seats) = Dispatcher::new(alloc, 8, 1)?;
         let mut seat = seats.pop().unwrap();
