@@ -4,13 +4,14 @@ use Rattle.gathering.specs.Views.{GatheringView, IsComplete, IsFirstMissing}
 use Rattle.gathering.specs.declared.gather.TotalRefused.{TotalRefused}
 use Rattle.gathering.specs.declared.gather.TotalRefused.TheVariants.{Missing, Memory}
 
-module _ {W A B C : Type 0} where
+-- The work is `W`, with inputs `A`, outputs `B` and totals `C`. The allocator is `M`.
+module _ {W M A B C : Type 0} where
   -- a task is missing, and so there is a first one; or none is, and a growth was refused
-  abbrev pub IsRefusedFor : GatheringView A → TotalRefused W A B C → Type 0
+  abbrev pub IsRefusedFor : GatheringView A → TotalRefused W M A B C → Type 0
   IsRefusedFor g (Missing back) = (task : ℕ) × IsFirstMissing g task
   IsRefusedFor g (Memory back) = IsComplete g
 
   -- the gathering that comes back
-  abbrev pub handed_back : TotalRefused W A B C → GatheringView A
+  abbrev pub handed_back : TotalRefused W M A B C → GatheringView A
   handed_back (Missing back) = back
   handed_back (Memory back) = back

@@ -11,21 +11,22 @@ use crate::inputs::Inputs;
 use crate::piece::Piece;
 use crate::places::{empty_places, first_empty, unite};
 use crate::work::{OutOfMemory, Work};
-use std::alloc::Global;
+use std::alloc::{Allocator, Global};
 use std::marker::Model;
 use std::sync::Arc;
 
 /// The pieces of some tasks of a list of inputs, in whatever order they came.
 ///
-/// Contracts see the inputs and the set of the tasks that are covered.
+/// Contracts see the inputs and the set of the tasks that are covered. The room for the pieces is
+/// taken of an allocator, `Global` where none is named.
 #[derive(Drop)]
-pub struct Gathering<W: Work> {
+pub struct Gathering<W: Work, A: Allocator = Global> {
     alloc: Global,
     inputs: Arc<Inputs<W>, Global>,
-    places: Vec<Option<Piece<W>>>,
+    places: Vec<Option<Piece<W>>, A>,
 }
 
-impl<W: Work> Model for Gathering<W> {
+impl<W: Work, A: Allocator> Model for Gathering<W, A> {
     ghost use Rattle.std.specs.Arc.{arc_value};
     ghost use Rattle.gathering.specs.Views.{GatheringView, gathering_code};
     ghost use Rattle.gathering.specs.Kept.{filled, IsKept};
@@ -56,17 +57,17 @@ pub struct Stranger<W: Work> {
 
 /// A gathering over other inputs, refused by `merge` (31).
 #[derive(Drop)]
-pub struct OtherInputs<W: Work> {
-    pub other: Gathering<W>,
+pub struct OtherInputs<W: Work, A: Allocator = Global> {
+    pub other: Gathering<W, A>,
 }
 
 /// Why there is no total.
 #[derive(Drop)]
-pub enum TotalRefused<W: Work> {
+pub enum TotalRefused<W: Work, A: Allocator = Global> {
     /// A task is missing (32).
-    Missing { gathering: Gathering<W> },
+    Missing { gathering: Gathering<W, A> },
     /// No task is missing, and a growth was refused (90).
-    Memory { gathering: Gathering<W> },
+    Memory { gathering: Gathering<W, A> },
 }
 
 impl<W: Work> Gathering<W> {
@@ -75,8 +76,25 @@ impl<W: Work> Gathering<W> {
         ensures inputs { IfOk result (λ made. made.inputs ≡ arc_value inputs) }
         ensures covered { IfOk result (λ made. made.covered ≡ set.empty) }
     {
+        Gathering::new_in(alloc, alloc, inputs)
+    }
+}
+
+impl<W: Work, A: Allocator> Gathering<W, A> {
+    /// No task is covered, and there is room for each piece: filing and merging take no memory.
+    ///
+    /// The room for the pieces is taken of `memory`, and the work's own growths of `alloc`. It is refused where
+    /// `memory` has no room for a place for each task.
+    pub fn new_in(
+        alloc: Global,
+        memory: A,
+        inputs: Arc<Inputs<W>, Global>,
+    ) -> Result<Self, OutOfMemory>
+        ensures inputs { IfOk result (λ made. made.inputs ≡ arc_value inputs) }
+        ensures covered { IfOk result (λ made. made.covered ≡ set.empty) }
+    {
         let count = inputs.count();
-        let places = empty_places(alloc, count)?;
+        let places = empty_places(memory, count)?;
         Ok(Gathering {
             alloc,
             inputs,
@@ -113,7 +131,7 @@ impl<W: Work> Gathering<W> {
     /// Covers from now on what either covers.
     ///
     /// The other is refused where its inputs are not as many as these and equal to them, one by one. It is handed back.
-    pub fn merge(&mut self, other: Gathering<W>) -> Result<(), OtherInputs<W>>
+    pub fn merge(&mut self, other: Gathering<W, A>) -> Result<(), OtherInputs<W, A>>
         ensures other_inputs { IsErr result
             ↔ (same_inputs W.Input.eq self.old.inputs other.inputs ≡ false) }
         ensures handed_back { IfErr result (λ refused. refused.other ≡ other) }
@@ -153,7 +171,7 @@ impl<W: Work> Gathering<W> {
     /// The total of all inputs, in order. It adds what the pieces brought, and runs no task.
     ///
     /// It is refused where a task is missing, or else a growth was refused. The gathering is handed back.
-    pub fn total(self) -> Result<W::Total, TotalRefused<W>>
+    pub fn total(self) -> Result<W::Total, TotalRefused<W, A>>
         ensures complete { OnOk result (IsComplete self) }
         ensures total { IfOk result (λ total. total ≡ W.total_of self.inputs) }
         ensures refused { IfErr result (λ refused. IsRefusedFor self refused) }
@@ -179,10 +197,10 @@ fn is_own<W: Work>(inputs: &Inputs<W>, piece: &Piece<W>) -> bool
 }
 
 /// Adds the outputs of all pieces in order.
-fn add_up<W: Work>(
+fn add_up<W: Work, A: Allocator>(
     alloc: Global,
     inputs: &Inputs<W>,
-    places: &Vec<Option<Piece<W>>>,
+    places: &Vec<Option<Piece<W>>, A>,
 ) -> Result<W::Total, OutOfMemory>
     requires kept { IsKept W.Input.eq inputs.now places.now.items }
     requires complete { (k : ℕ) → k < length places.now.items

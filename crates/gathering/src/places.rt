@@ -3,13 +3,13 @@ ghost use Rattle.std.specs.Prelude.{◌≡◌, ◌<◌, ◌≤◌, ℕ, true, Li
 ghost use Rattle.gathering.specs.Kept.{either};
 
 use crate::work::OutOfMemory;
-use std::alloc::Global;
+use std::alloc::Allocator;
 
 /// As many places as asked, all empty.
-pub(crate) fn empty_places<T: Drop>(
-    alloc: Global,
+pub(crate) fn empty_places<T: Drop, A: Allocator>(
+    alloc: A,
     count: u32,
-) -> Result<Vec<Option<T>>, OutOfMemory>
+) -> Result<Vec<Option<T>, A>, OutOfMemory>
     ensures { IfOk result (λ places. places.items ≡ replicate count None) }
 {
     let mut places = Vec::with_capacity(alloc, count as usize)?;
@@ -20,7 +20,7 @@ pub(crate) fn empty_places<T: Drop>(
 }
 
 /// The first place that is empty.
-pub(crate) fn first_empty<T>(places: &Vec<Option<T>>, count: u32) -> Option<u32>
+pub(crate) fn first_empty<T, A: Allocator>(places: &Vec<Option<T>, A>, count: u32) -> Option<u32>
     requires { length places.now.items ≡ count }
     ensures { MatchOption result
         ((k : ℕ) → k < length places.now.items → is_some (get_or places.now.items k None) ≡ true)
@@ -37,7 +37,10 @@ pub(crate) fn first_empty<T>(places: &Vec<Option<T>>, count: u32) -> Option<u32>
 }
 
 /// Moves what the others hold into the places that are empty.
-pub(crate) fn unite<T: Drop>(own: &mut Vec<Option<T>>, mut others: Vec<Option<T>>)
+pub(crate) fn unite<T: Drop, A: Allocator>(
+    own: &mut Vec<Option<T>, A>,
+    mut others: Vec<Option<T>, A>,
+)
     requires { length own.old.items ≡ length others.items }
     ensures count { length own.new.items ≡ length own.old.items }
     ensures places { (k : ℕ) → get_or own.new.items k None

@@ -1,4 +1,5 @@
-//! A work whose inputs are numbers and whose total is their sum. It counts its runs, and refuses while a flag is set.
+//! A work whose inputs are numbers and whose total is their sum. It counts its runs, and refuses the growth that
+//! a test names, or each run or addition while a flag is set.
 ghost use Rattle.std.specs.Prelude.{◌≡◌, ◌==◌, ◌<◌, ◌≤◌, ◌*◌, ◌^◌, ◌∷◌, [], List, IfOk, length, map, sum};
 ghost use Rattle.std.specs.Arc.{arc_value};
 ghost use Rattle.std.proofs.Common.{rules, ap};
@@ -7,11 +8,13 @@ ghost use Rattle.std.specs.Cmp.Rules.{comparing};
 ghost use Rattle.gathering.specs.Alike.{map_alike};
 
 use crate::{Filed, Gathering, Inputs, OutOfMemory, Piece, TotalRefused, Work};
-use std::alloc::{AllocError, Global};
+use std::alloc::{AllocError, Allocator, Global};
 use std::marker::Model;
 use std::sync::Arc;
 use std::sync::atomic::{AtomicBool, AtomicU64, Ordering};
 use std::test::Fail;
+
+mod memory;
 
 /// What all inputs of a test share.
 #[derive(Drop)]
@@ -19,10 +22,15 @@ struct Watch {
     runs: AtomicU64,
     refuses_runs: AtomicBool,
     refuses_additions: AtomicBool,
+    /// The number of the next growth. Each run asks for one, and each addition.
+    next_growth: AtomicU64,
+    /// The number of the growth that is refused, or 0.
+    refused_growth: AtomicU64,
+    refusals: AtomicU64,
 }
 
 impl Watch {
-    /// It counts from 0, and refuses nothing.
+    /// It counts runs from 0 and growths from 1, and refuses nothing.
     fn shared(alloc: Global) -> Result<Arc<Watch, Global>, OutOfMemory> {
         Ok(Arc::new(
             alloc,
@@ -30,8 +38,28 @@ impl Watch {
                 runs: AtomicU64::new(0),
                 refuses_runs: AtomicBool::new(false),
                 refuses_additions: AtomicBool::new(false),
+                next_growth: AtomicU64::new(1),
+                refused_growth: AtomicU64::new(0),
+                refusals: AtomicU64::new(0),
             },
         )?)
+    }
+
+    /// From now on the growth of this number is refused, counted from 1, and no other.
+    fn refuse_growth(&self, number: u64) {
+        self.next_growth.store(1, Ordering::SeqCst);
+        self.refused_growth.store(number, Ordering::SeqCst);
+        self.refusals.store(0, Ordering::SeqCst);
+    }
+
+    /// Asks for a growth, which is refused where it has the number that a test named.
+    fn grow(&self) -> Result<(), OutOfMemory> {
+        let number = self.next_growth.fetch_add(1, Ordering::SeqCst);
+        if number == self.refused_growth.load(Ordering::SeqCst) {
+            self.refusals.fetch_add(1, Ordering::SeqCst);
+            return Err(AllocError);
+        }
+        Ok(())
     }
 }
 
@@ -97,6 +125,7 @@ impl Work for Sum {
         if input.watch.refuses_runs.load(Ordering::SeqCst) {
             return Err(AllocError);
         }
+        input.watch.grow()?;
         Ok(Value {
             number: input.number,
             watch: Arc::try_clone(&input.watch)?,
@@ -111,6 +140,7 @@ impl Work for Sum {
         if output.watch.refuses_additions.load(Ordering::SeqCst) {
             return Err(AllocError);
         }
+        output.watch.grow()?;
         *total += output.number as u128;
         Ok(())
     }
@@ -165,7 +195,7 @@ fn merged(
 }
 
 /// The total, or a word for why there is none.
-fn total_of(gathering: Gathering<Sum>) -> Result<u128, &'static str> {
+fn total_of<A: Allocator>(gathering: Gathering<Sum, A>) -> Result<u128, &'static str> {
     match gathering.total() {
         Ok(total) => Ok(total),
         Err(TotalRefused::Missing { gathering: _ }) => Err("missing"),
@@ -272,28 +302,5 @@ fn no_inputs(rt: HostRuntime) -> Result<(), Fail> {
     assert_eq!(rt; gathering.first_missing(), None);
     assert!(rt; !gathering.covers(0));
     assert_eq!(rt; total_of(gathering), Ok(0));
-    Ok(())
-}
-
-#[test]
-fn refusals_lose_nothing(rt: HostRuntime) -> Result<(), Fail> {
-    let alloc = rt.alloc();
-    let watch = Watch::shared(alloc)?;
-    let inputs = inputs_of(alloc, &watch, &NUMBERS)?;
-    let mut gathering = gathered(alloc, &inputs, &[7, 6, 5, 4, 3, 2, 1])?;
-
-    watch.refuses_runs.store(true, Ordering::SeqCst);
-    assert!(rt; gathered(alloc, &inputs, &[0]).is_err());
-    assert_eq!(rt; gathering.first_missing(), Some(0));
-    watch.refuses_runs.store(false, Ordering::SeqCst);
-
-    watch.refuses_additions.store(true, Ordering::SeqCst);
-    assert!(rt; gathering.merge(gathered(alloc, &inputs, &[0])?).is_ok());
-    let Err(TotalRefused::Memory { gathering }) = gathering.total() else {
-        return Err(Fail::new("a total without memory"));
-    };
-    assert_eq!(rt; gathering.first_missing(), None);
-    watch.refuses_additions.store(false, Ordering::SeqCst);
-    assert_eq!(rt; total_of(gathering), Ok(255));
     Ok(())
 }

@@ -1,6 +1,6 @@
 -- One step more of a worker's run.
-use Rattle.std.proofs.Common.{◌≡◌, ℕ, ◌+◌, ◌*◌, ◌<◌, ◌≤◌, ◌%◌, List, [], ◌∷◌, ◌++◌, Some, slice_get, All, Contains, sym, ◌∙◌, ap, arith, inl, inr, subst}
-use Rattle.std.proofs.lemmas.List.{append_assoc, map-append}
+use Rattle.std.proofs.Common.{◌≡◌, ℕ, ◌+◌, ◌*◌, ◌<◌, ◌≤◌, ◌%◌, List, [], length, ◌∷◌, ◌++◌, Some, slice_get, All, Contains, sym, ◌∙◌, ap, arith, inl, inr, subst}
+use Rattle.std.proofs.lemmas.List.{append_assoc, length-append, map-append}
 use Rattle.std.proofs.lemmas.List.Elements.{All-push, Contains-push, Contains-push_cases, Contains-append_left}
 use Rattle.dispatcher.specs.Claims.{above}
 use Rattle.dispatcher.proofs.Rising.{above_snoc, above_le}
@@ -12,6 +12,10 @@ use Rattle.pipelines.specs.Runs.{SawAllGiven, Took, TookOne}
 -- one number more, after a list that stayed as it was
 pub snoc_same : (xs ys zs : List ℕ) (n : ℕ) → zs ≡ ys ++ n ∷ [] → ys ≡ xs → zs ≡ xs ++ n ∷ []
 snoc_same xs ys zs n more same = more ∙ ap (λ w. w ++ n ∷ []) same
+
+-- one number more
+pub one_longer : (xs ys : List ℕ) (n : ℕ) → ys ≡ xs ++ n ∷ [] → length ys ≡ length xs + 1
+one_longer xs ys n more = ap length more ∙ length-append xs (n ∷ [])
 
 module _ {A : Type 0} (inputs : List A) where
   -- one piece more was taken, and its task is one more number

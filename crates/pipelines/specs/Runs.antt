@@ -1,5 +1,5 @@
 -- What a worker's run leaves.
-use Rattle.std.specs.Prelude.{◌≡◌, ℕ, ◌*◌, ◌<◌, ◌≤◌, List, [], ◌∷◌, ◌++◌, Some, All, Contains, map, slice_get}
+use Rattle.std.specs.Prelude.{◌≡◌, ℕ, ◌+◌, ◌*◌, ◌<◌, ◌≤◌, List, [], ◌∷◌, ◌++◌, Some, All, Contains, length, map, slice_get}
 use Rattle.dispatcher.specs.Seats.{claims, seen_tasks, WasGiven}
 use Rattle.dispatcher.specs.declared.seat.Seat.{Seat}
 use Rattle.gathering.specs.Views.{PieceView}
@@ -15,6 +15,12 @@ pub record IsDone (tasks : ℕ) (s : Seat) : Type 0 where
 -- it marked, or saw marked, each task that it was given
 abbrev pub SawAllGiven : ℕ → Seat → Type 0
 SawAllGiven tasks s = (task : ℕ) → WasGiven tasks s task → Contains (seen_tasks s) task
+
+-- from one state of a seat to the other: of its claims, each but the last gave a task, which it marked then or saw
+-- marked, all but so many
+abbrev pub AllMarkedBut : ℕ → Seat → Seat → Type 0
+AllMarkedBut count before after =
+    length (claims after) + length (seen_tasks before) ≡ 1 + (count + length (seen_tasks after))
 
 module _ {A : Type 0} (inputs : List A) (before after : List (PieceView A)) where
   -- the pieces that a port took have these numbers, in order, each over the input of its number

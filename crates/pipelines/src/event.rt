@@ -6,7 +6,7 @@ ghost use Rattle.pipelines.specs.declared.event.Event.TheVariants.{Arrive, Merge
 
 use crate::owner::{run_task, unite};
 use gathering::{Gathering, Inputs, OutOfMemory, Work};
-use std::alloc::Global;
+use std::alloc::{Allocator, Global};
 use std::mem;
 use std::sync::Arc;
 
@@ -25,11 +25,11 @@ pub enum Event {
 /// Does one event, where each gathering is over these inputs. It runs the task of a piece that
 /// arrives, once.
 ///
-/// Refused where there is no memory for the piece, or for the gathering that takes the place of the
-/// merged one.
-pub fn apply<W: Work>(
+/// Refused where there is no memory for the piece, or, in the gatherings' own allocator, for the
+/// gathering that takes the place of the merged one.
+pub fn apply<W: Work, M: Allocator + Clone>(
     alloc: Global,
-    gatherings: &mut Vec<Gathering<W>>,
+    gatherings: &mut Vec<Gathering<W, M>, M>,
     inputs: &Arc<Inputs<W>, Global>,
     event: &Event,
 ) -> Result<(), OutOfMemory>
@@ -48,9 +48,9 @@ pub fn apply<W: Work>(
 
 /// Does all events, in order. Refused as `apply`, with the gatherings as the earlier events left
 /// them.
-pub(crate) fn apply_all<W: Work>(
+pub(crate) fn apply_all<W: Work, M: Allocator + Clone>(
     alloc: Global,
-    gatherings: &mut Vec<Gathering<W>>,
+    gatherings: &mut Vec<Gathering<W, M>, M>,
     inputs: &Arc<Inputs<W>, Global>,
     events: &[Event],
 ) -> Result<(), OutOfMemory>
@@ -66,9 +66,9 @@ pub(crate) fn apply_all<W: Work>(
     Ok(())
 }
 
-fn arrive<W: Work>(
+fn arrive<W: Work, M: Allocator + Clone>(
     alloc: Global,
-    gatherings: &mut Vec<Gathering<W>>,
+    gatherings: &mut Vec<Gathering<W, M>, M>,
     inputs: &Arc<Inputs<W>, Global>,
     gatherer: u32,
     task: u32,
@@ -87,9 +87,9 @@ fn arrive<W: Work>(
     run_task(alloc, &mut gatherings[at], inputs, task)
 }
 
-fn merge<W: Work>(
+fn merge<W: Work, M: Allocator + Clone>(
     alloc: Global,
-    gatherings: &mut Vec<Gathering<W>>,
+    gatherings: &mut Vec<Gathering<W, M>, M>,
     inputs: &Arc<Inputs<W>, Global>,
     into: u32,
     other: u32,
@@ -106,7 +106,8 @@ fn merge<W: Work>(
     if into >= count || other >= count || into == other {
         return Ok(());
     }
-    let empty = Gathering::new(alloc, Arc::try_clone(inputs)?)?;
+    let memory = gatherings.allocator().clone()?;
+    let empty = Gathering::new_in(alloc, memory, Arc::try_clone(inputs)?)?;
     let merged = mem::replace(&mut gatherings[other], empty);
     unite(&mut gatherings[into], merged);
     Ok(())

@@ -189,7 +189,7 @@ fn employ<W: Work, R: Wait, G: Gate>(
 
 // Files what comes, until all tasks are covered or no worker is left. A piece of other work is
 // dropped.
-fn gather<W: Work, R: Wait>(
+pub(crate) fn gather<W: Work, R: Wait>(
     rt: &R,
     gathering: &mut Gathering<W>,
     from: &Receiver<Piece<W>>,
@@ -212,7 +212,7 @@ fn gather<W: Work, R: Wait>(
 }
 
 // Runs the tasks that are not covered.
-fn run_missing<W: Work, G: Gate>(
+pub(crate) fn run_missing<W: Work, G: Gate>(
     alloc: Global,
     gathering: &mut Gathering<W>,
     inputs: &Arc<Inputs<W>, Global>,

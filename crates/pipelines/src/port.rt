@@ -2,7 +2,7 @@
 ghost use Rattle.std.specs.Prelude.{◌≡◌, ◌++◌, ◌∷◌, [], List, MatchResult, IfErr};
 
 use crossbeam_channel::Sender;
-use std::alloc::Global;
+use std::alloc::{Allocator, Global};
 use std::marker::Model;
 use std::sync::Wait;
 
@@ -27,11 +27,11 @@ pub trait Port<M> {
 ///
 /// Contracts see the messages.
 #[derive(Drop)]
-pub struct KeepingPort<M> {
-    messages: Vec<M>,
+pub struct KeepingPort<M, A: Allocator = Global> {
+    messages: Vec<M, A>,
 }
 
-impl<M> Model for KeepingPort<M> {
+impl<M, A: Allocator> Model for KeepingPort<M, A> {
     ghost use Rattle.std.specs.Prelude.{List};
 
     ghost Value = { List M };
@@ -39,9 +39,9 @@ impl<M> Model for KeepingPort<M> {
     ghost view = { λ a. a.messages.items };
 }
 
-impl<M> KeepingPort<M> {
+impl<M, A: Allocator> KeepingPort<M, A> {
     /// It has taken nothing.
-    pub fn new(alloc: Global) -> Self
+    pub fn new(alloc: A) -> Self
         ensures { result ≡ [] }
     {
         KeepingPort {
@@ -57,7 +57,7 @@ impl<M> KeepingPort<M> {
     }
 }
 
-impl<M> Port<M> for KeepingPort<M> {
+impl<M, A: Allocator> Port<M> for KeepingPort<M, A> {
     ghost taken = { λ messages. messages };
 
     ghost Tells = { Unit {0} };

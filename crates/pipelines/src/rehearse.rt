@@ -10,7 +10,7 @@ use crate::link::Link;
 use crate::outcome::{Linked, Rehearsed};
 use crate::owner::{empty_gatherings, unite};
 use gathering::{Gathering, Inputs, OutOfMemory, TotalRefused, Work};
-use std::alloc::{AllocError, Global};
+use std::alloc::{AllocError, Allocator, Global};
 use std::sync::Arc;
 
 /// Rehearses what `run_pair` does, on this thread alone: each pipeline has 1 to 64 gatherers, does
@@ -33,7 +33,7 @@ pub fn rehearse_pair<A: Work, B: Work, L: Link<A, B>>(
         (after_link B.total_of gatherers events2.now
         (L.linked link.now (A.total_of (arc_value inputs))))) }
 {
-    let total = match rehearse_pipeline(alloc, inputs, gatherers, events1)? {
+    let total = match rehearse_pipeline(alloc, alloc, inputs, gatherers, events1)? {
         Ok(total) => total,
         Err(task) => return Ok(Rehearsed::Missing { pipeline: 1, task }),
     };
@@ -43,7 +43,7 @@ pub fn rehearse_pair<A: Work, B: Work, L: Link<A, B>>(
         Linked::Halt { stop } => Ok(Rehearsed::Stopped { stop }),
         Linked::Next { inputs, kept } => {
             let inputs = Arc::new(alloc, inputs)?;
-            match rehearse_pipeline(alloc, inputs, gatherers, events2)? {
+            match rehearse_pipeline(alloc, alloc, inputs, gatherers, events2)? {
                 Ok(total) => Ok(Rehearsed::Finished { total, kept }),
                 Err(task) => Ok(Rehearsed::Missing { pipeline: 2, task }),
             }
@@ -51,9 +51,11 @@ pub fn rehearse_pair<A: Work, B: Work, L: Link<A, B>>(
     }
 }
 
-// The total of all inputs, or the first task that has not arrived.
-fn rehearse_pipeline<W: Work>(
+// The total of all inputs, or the first task that has not arrived. The gatherers and their room are
+// taken of this memory.
+pub(crate) fn rehearse_pipeline<W: Work, M: Allocator + Clone>(
     alloc: Global,
+    memory: M,
     inputs: Arc<Inputs<W>, Global>,
     gatherers: u32,
     events: &[Event],
@@ -67,7 +69,7 @@ fn rehearse_pipeline<W: Work>(
 {
     // This tells that the inputs are admissible.
     let _count = inputs.count();
-    let gathering = gather_by(alloc, &inputs, gatherers, events)?;
+    let gathering = gather_by(alloc, memory, &inputs, gatherers, events)?;
     if let Some(task) = gathering.first_missing() {
         return Ok(Err(task));
     }
@@ -79,19 +81,20 @@ fn rehearse_pipeline<W: Work>(
 }
 
 // What the gatherers have together after the events.
-fn gather_by<W: Work>(
+fn gather_by<W: Work, M: Allocator + Clone>(
     alloc: Global,
+    memory: M,
     inputs: &Arc<Inputs<W>, Global>,
     gatherers: u32,
     events: &[Event],
-) -> Result<Gathering<W>, OutOfMemory>
+) -> Result<Gathering<W, M>, OutOfMemory>
     requires { 0 < gatherers }
     ensures inputs { IfOk result (λ g. g.inputs ≡ arc_value inputs.now) }
     ensures arrived { IfOk result (λ g. (task : ℕ) → contains g.covered task
         ≡ (nat_lt task (length (arc_value inputs.now))
         && has_arrived gatherers events.now task)) }
 {
-    let mut gatherings = empty_gatherings(alloc, inputs, gatherers)?;
+    let mut gatherings = empty_gatherings(alloc, memory, inputs, gatherers)?;
     apply_all(alloc, &mut gatherings, inputs, events)?;
     let mut first = gatherings.remove(0);
     unite_all(&mut first, gatherings);
@@ -99,7 +102,10 @@ fn gather_by<W: Work>(
 }
 
 // Merges all of them.
-fn unite_all<W: Work>(first: &mut Gathering<W>, mut others: Vec<Gathering<W>>)
+fn unite_all<W: Work, M: Allocator>(
+    first: &mut Gathering<W, M>,
+    mut others: Vec<Gathering<W, M>, M>,
+)
     requires { All (λ g. g.inputs ≡ first.old.inputs) others.items }
     ensures inputs { first.new.inputs ≡ first.old.inputs }
     ensures covered { (task : ℕ) → contains first.new.covered task

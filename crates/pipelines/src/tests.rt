@@ -12,12 +12,15 @@ use crate::{Link, Linked, OutOfMemory};
 use gathering::{Inputs, Work};
 use std::alloc::{AllocError, Global};
 use std::marker::Model;
+use std::ops::Range;
 use std::sync::Arc;
 use std::sync::atomic::{AtomicBool, AtomicU64, Ordering};
 use std::thread;
 
+mod refusals;
 mod schedules;
 mod threads;
+mod workers;
 
 /// Looks at a flag until it is set, and gives up after a million turns.
 fn hold(flag: &AtomicBool, gave_up: &AtomicBool) {
@@ -30,12 +33,14 @@ fn hold(flag: &AtomicBool, gave_up: &AtomicBool) {
     gave_up.store(true, Ordering::SeqCst);
 }
 
-/// What the inputs of a pipeline share.
+/// What the inputs of a pipeline, their values and the link share. Each run, each addition and each
+/// link asks for one growth.
 #[derive(Drop)]
 struct Watch {
     runs: AtomicU64,
-    /// So many runs are refused, the first ones.
-    refuses: u64,
+    growths: AtomicU64,
+    /// The growths that are refused, by their numbers from 0.
+    refused: Range<u64>,
     /// The runs of 1 and of 2 wait for one another.
     meets: bool,
     begun: [AtomicBool; 2],
@@ -43,17 +48,34 @@ struct Watch {
 }
 
 impl Watch {
-    fn shared(alloc: Global, refuses: u64, meets: bool) -> Result<Arc<Watch, Global>, OutOfMemory> {
+    fn shared(
+        alloc: Global,
+        refused: Range<u64>,
+        meets: bool,
+    ) -> Result<Arc<Watch, Global>, OutOfMemory> {
         Ok(Arc::new(
             alloc,
             Watch {
                 runs: AtomicU64::new(0),
-                refuses,
+                growths: AtomicU64::new(0),
+                refused,
                 meets,
                 begun: [AtomicBool::new(false), AtomicBool::new(false)],
                 gave_up: AtomicBool::new(false),
             },
         )?)
+    }
+
+    fn grow(&self) -> Result<(), OutOfMemory> {
+        let number = self.growths.fetch_add(1, Ordering::SeqCst);
+        if self.refused.contains(&number) {
+            return Err(AllocError);
+        }
+        Ok(())
+    }
+
+    fn growths(&self) -> u64 {
+        self.growths.load(Ordering::SeqCst)
     }
 }
 
@@ -86,13 +108,28 @@ impl Eq for Number {
     ghost laws = { Prim.search (comparing, rules) };
 }
 
+/// The number of an input, with what it shares.
+#[derive(Drop)]
+struct Value {
+    number: u64,
+    watch: Arc<Watch, Global>,
+}
+
+impl Model for Value {
+    ghost use Rattle.std.specs.Prelude.{ℕ};
+
+    ghost Value = { ℕ };
+
+    ghost view = { λ a. a.number };
+}
+
 #[derive(Drop)]
 struct Sum;
 
 impl Work for Sum {
     type Input = Number;
 
-    type Output = u64;
+    type Output = Value;
 
     type Total = u128;
 
@@ -106,25 +143,28 @@ impl Work for Sum {
 
     ghost equal_totals = { λ xs ys same. ap sum (same_text xs ys (sym same)) };
 
-    fn run(_alloc: Global, input: &Number) -> Result<u64, OutOfMemory> {
+    fn run(_alloc: Global, input: &Number) -> Result<Value, OutOfMemory> {
         let watch = &*input.watch;
         if watch.meets {
             let own = usize::from(input.number == 2);
             watch.begun[own].store(true, Ordering::SeqCst);
             hold(&watch.begun[1 - own], &watch.gave_up);
         }
-        if watch.runs.fetch_add(1, Ordering::SeqCst) < watch.refuses {
-            return Err(AllocError);
-        }
-        Ok(input.number)
+        watch.runs.fetch_add(1, Ordering::SeqCst);
+        watch.grow()?;
+        Ok(Value {
+            number: input.number,
+            watch: Arc::try_clone(&input.watch)?,
+        })
     }
 
     fn empty(_alloc: Global) -> u128 {
         0
     }
 
-    fn add(total: &mut u128, output: &u64) -> Result<(), OutOfMemory> {
-        *total += *output as u128;
+    fn add(total: &mut u128, output: &Value) -> Result<(), OutOfMemory> {
+        output.watch.grow()?;
+        *total += output.number as u128;
         Ok(())
     }
 }
@@ -169,6 +209,7 @@ impl Link<Sum, Sum> for OneAndTwo {
         alloc: Global,
         total: &u128,
     ) -> Result<Linked<Inputs<Sum>, u128, u128>, OutOfMemory> {
+        self.watch.grow()?;
         if self.halts {
             return Ok(Linked::Halt { stop: *total });
         }

@@ -1,7 +1,7 @@
 //! A worker's whole run.
 ghost use Rattle.std.specs.Prelude.{◌≡◌, ◌<◌, [], length, MatchBool};
 ghost use Rattle.dispatcher.specs.Seats.{tasks_of, claims, marked_tasks, IsSeatOf, IsSameSeat};
-ghost use Rattle.pipelines.specs.Runs.{IsDone, SawAllGiven, Took, TookOne};
+ghost use Rattle.pipelines.specs.Runs.{AllMarkedBut, IsDone, SawAllGiven, Took, TookOne};
 
 use crate::gate::Gate;
 use crate::port::Port;
@@ -13,8 +13,8 @@ use std::sync::Arc;
 /// Claims until no task is left, and runs each task that is not marked yet: it calls the gate,
 /// makes the task's piece, sends it, and marks the task once the port took it.
 ///
-/// It answers how many pieces were refused, by memory or by the port. It waits for what the gate
-/// and the port wait for.
+/// It answers how many pieces were refused, by memory or by the port: so many of the tasks that it
+/// was given it left unmarked. It waits for what the gate and the port wait for.
 #[tactic(auto, using(dispatcher::proofs::Rising::falls))]
 pub fn work<W: Work, P: Port<Piece<W>>, G: Gate>(
     alloc: Global,
@@ -33,6 +33,7 @@ pub fn work<W: Work, P: Port<Piece<W>>, G: Gate>(
     ensures done { IsDone (tasks_of dispatcher.now) seat.new }
     ensures sent { P.Tells
         → Took inputs.now (P.taken port.old) (P.taken port.new) (marked_tasks seat.new) }
+    ensures refused { AllMarkedBut result seat.old seat.new }
     ensures seen { result ≡ 0 → SawAllGiven (tasks_of dispatcher.now) seat.new }
 {
     let mut refused = 0;

@@ -4,6 +4,7 @@ use super::{OneAndTwo, Watch, inputs_of};
 use crate::owner::empty_gatherings;
 use crate::{Event, OutOfMemory, Rehearsed, apply, rehearse_pair};
 use std::alloc::Global;
+use std::ops::Range;
 use std::sync::Arc;
 use std::sync::atomic::Ordering;
 use std::test::Fail;
@@ -23,12 +24,12 @@ const fn at_1(task: u32) -> Event {
 /// What two gatherers give of all numbers, and how many runs it took.
 fn rehearsed(
     alloc: Global,
-    refuses: u64,
+    refused: Range<u64>,
     halts: bool,
     events1: &[Event],
     events2: &[Event],
 ) -> Result<(&'static str, u128, u128, u64), OutOfMemory> {
-    let watch = Watch::shared(alloc, refuses, false)?;
+    let watch = Watch::shared(alloc, refused, false)?;
     let inputs = Arc::new(alloc, inputs_of(alloc, &watch, &NUMBERS)?)?;
     let link = OneAndTwo {
         watch: Arc::try_clone(&watch)?,
@@ -89,35 +90,35 @@ fn schedules_of_two_gatherers(rt: HostRuntime) -> Result<(), Fail> {
         Event::Merge { into: 0, other: 2 },
     ];
     assert_eq!(rt;
-        rehearsed(alloc, 0, true, &twice, &[])?,
+        rehearsed(alloc, 0..0, true, &twice, &[])?,
         ("stopped", 255, 0, 10)
     );
     assert_eq!(rt;
-        rehearsed(alloc, 0, true, &without, &[])?,
+        rehearsed(alloc, 0..0, true, &without, &[])?,
         ("missing", 1, 5, 9)
     );
     assert_eq!(rt;
-        rehearsed(alloc, 0, true, &out_of_range, &[])?,
+        rehearsed(alloc, 0..0, true, &out_of_range, &[])?,
         ("missing", 1, 0, 0)
     );
     assert_eq!(rt;
-        rehearsed(alloc, 0, false, &all, &once_more)?,
+        rehearsed(alloc, 0..0, false, &all, &once_more)?,
         ("finished", 3, 255, 10)
     );
     assert_eq!(rt;
-        rehearsed(alloc, 0, false, &all, &[at_1(0)])?,
+        rehearsed(alloc, 0..0, false, &all, &[at_1(0)])?,
         ("missing", 2, 1, 9)
     );
-    assert!(rt; rehearsed(alloc, 1, true, &twice, &[]).is_err());
+    assert!(rt; rehearsed(alloc, 0..1, true, &twice, &[]).is_err());
     Ok(())
 }
 
 #[test]
 fn events_one_by_one(rt: HostRuntime) -> Result<(), Fail> {
     let alloc = rt.alloc();
-    let watch = Watch::shared(alloc, 1, false)?;
+    let watch = Watch::shared(alloc, 0..1, false)?;
     let inputs = Arc::new(alloc, inputs_of(alloc, &watch, &NUMBERS)?)?;
-    let mut gatherings = empty_gatherings(alloc, &inputs, 2)?;
+    let mut gatherings = empty_gatherings(alloc, alloc, &inputs, 2)?;
     let merge = Event::Merge { into: 0, other: 1 };
     for (event, answers, covered) in [
         (at_1(3), false, (false, false)),

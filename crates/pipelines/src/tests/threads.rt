@@ -102,7 +102,7 @@ fn outcome<G: Gate, R: Threads + Wait + Sync>(
 {
     let inputs = Arc::new(alloc, inputs_of(alloc, watch, numbers)?)?;
     let link = OneAndTwo {
-        watch: Watch::shared(alloc, 0, watch.meets)?,
+        watch: Watch::shared(alloc, 0..0, watch.meets)?,
         halts,
     };
     let crew = Crew {
@@ -115,7 +115,7 @@ fn outcome<G: Gate, R: Threads + Wait + Sync>(
 #[test]
 fn every_crew_gives_one_answer(rt: HostRuntime) -> Result<(), Fail> {
     let alloc = rt.alloc();
-    let watch = Watch::shared(alloc, 0, false)?;
+    let watch = Watch::shared(alloc, 0..0, false)?;
     for (count, halts, workers) in [
         (8, false, 1),
         (8, false, 2),
@@ -139,7 +139,7 @@ fn every_crew_gives_one_answer(rt: HostRuntime) -> Result<(), Fail> {
 #[test]
 fn marked_tasks_are_passed_over(rt: HostRuntime) -> Result<(), Fail> {
     let alloc = rt.alloc();
-    let watch = Watch::shared(alloc, 0, false)?;
+    let watch = Watch::shared(alloc, 0..0, false)?;
     let gate = Warden::new(Held::NotAtAll);
     let _ = outcome(&rt, alloc, &watch, &NUMBERS, false, 1, &gate)?;
     assert_eq!(rt; (gate.count(0), gate.count(1), gate.count(2)), (10, 0, 0));
@@ -154,7 +154,7 @@ fn finishes_when<R: Threads + Wait + Sync>(
     alloc: Global,
     held: Held,
 ) -> Result<bool, OutOfMemory> {
-    let watch = Watch::shared(alloc, 0, false)?;
+    let watch = Watch::shared(alloc, 0..0, false)?;
     let gate = Warden::new(held);
     let finished = match outcome(rt, alloc, &watch, &NUMBERS, false, 2, &gate)? {
         Outcome::Finished { total, kept } => total == 3 && kept == 255,
@@ -184,7 +184,7 @@ fn slow_worker_left_behind(rt: HostRuntime) -> Result<(), Fail> {
 #[test]
 fn runs_at_once(rt: HostRuntime) -> Result<(), Fail> {
     let alloc = rt.alloc();
-    let watch = Watch::shared(alloc, 0, true)?;
+    let watch = Watch::shared(alloc, 0..0, true)?;
     match outcome(&rt, alloc, &watch, &[1, 2], false, 2, &FreeGate)? {
         Outcome::Finished { total, kept } => assert_eq!(rt; (total, kept), (3, 3)),
         Outcome::Stopped { stop: _ } => assert!(rt; false),
@@ -198,7 +198,7 @@ fn lost_pieces_are_run_again(rt: HostRuntime) -> Result<(), Fail> {
     let alloc = rt.alloc();
     // One worker runs each of four tasks twice. The caller's own runs come after those eight.
     for (refuses, answers) in [(8, true), (9, false)] {
-        let watch = Watch::shared(alloc, refuses, false)?;
+        let watch = Watch::shared(alloc, 0..refuses, false)?;
         let gate = Warden::new(Held::NotAtAll);
         match outcome(&rt, alloc, &watch, &NUMBERS[..4], true, 1, &gate) {
             Ok(Outcome::Stopped { stop }) => assert_eq!(rt; (stop, answers), (15, true)),
@@ -207,63 +207,6 @@ fn lost_pieces_are_run_again(rt: HostRuntime) -> Result<(), Fail> {
         }
         assert_eq!(rt; (gate.count(0), gate.count(1)), (4, 4));
         assert_eq!(rt; gate.count(2), if answers { 4 } else { 1 });
-    }
-    Ok(())
-}
-
-/// Keeps pieces, but for the first one where it is set to refuse.
-#[derive(Drop)]
-struct Picky {
-    port: KeepingPort<Piece<Sum>>,
-    refuses: bool,
-}
-
-impl Port<Piece<Sum>> for Picky {
-    ghost taken = { λ picky. picky.port };
-
-    ghost Tells = { Unit {0} };
-
-    fn send(&mut self, piece: Piece<Sum>) -> Result<(), Piece<Sum>> {
-        if self.refuses {
-            self.refuses = false;
-            return Err(piece);
-        }
-        self.port.send(piece)
-    }
-}
-
-#[test]
-fn a_worker_alone(rt: HostRuntime) -> Result<(), Fail> {
-    let alloc = rt.alloc();
-    let inputs = inputs_of(alloc, &Watch::shared(alloc, 0, false)?, &NUMBERS)?;
-    for (refuses, order) in [
-        (false, [0, 1, 2, 3, 4, 5, 6, 7]),
-        (true, [1, 2, 3, 4, 5, 6, 7, 0]),
-    ] {
-        let (dispatcher, mut seats) = Dispatcher::new(alloc, 8, 1)?;
-        let mut seat = seats.pop().unwrap();
-        let mut picky = Picky {
-            port: KeepingPort::new(alloc),
-            refuses,
-        };
-        let refused = work(
-            alloc,
-            &dispatcher,
-            &mut seat,
-            &inputs,
-            &mut picky,
-            1,
-            &FreeGate,
-        );
-        assert_eq!(rt; refused, u32::from(refuses));
-        assert!(rt;
-            picky
-                .port
-                .items()
-                .iter()
-                .map(|piece| piece.number())
-                .eq(order)
-        );
     }
     Ok(())
 }

@@ -1,6 +1,6 @@
-use Rattle.std.proofs.Common.{◌≡◌, ◌≤◌, ◌*◌, ◌-◌}
+use Rattle.std.proofs.Common.{◌≡◌, ◌≤◌, ◌+◌, ◌*◌, ◌-◌, length}
 use Rattle.dispatcher.specs.Claims.{above}
-use Rattle.dispatcher.specs.Seats.{tasks_of, claims, marked_tasks, IsSameSeat, MayClaim}
+use Rattle.dispatcher.specs.Seats.{tasks_of, claims, marked_tasks, seen_tasks, IsSameSeat, MayClaim}
 use Rattle.pipelines.specs.Runs.{SawAllGiven, Took}
 use Rattle.pipelines.proofs.worker.work.Given as goal
 
@@ -8,6 +8,7 @@ abbrev pub invariant-loop-claim : goal.invariant-loop-claim
 invariant-loop-claim g l = record {
   same : IsSameSeat l.initial.seat l.seat;
   more : MayClaim (tasks_of l.dispatcher) l.seat;
+  refused : length (claims l.seat) + length (seen_tasks l.initial.seat) ≡ l.refused + length (seen_tasks l.seat);
   counted : l.refused ≤ above (claims l.seat);
   sent : g.P.Port.Tells → Took l.inputs (g.P.Port.taken l.initial.port) (g.P.Port.taken l.port) (marked_tasks l.seat);
   seen : l.refused ≡ 0 → SawAllGiven (tasks_of l.dispatcher) l.seat;
