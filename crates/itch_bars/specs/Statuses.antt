@@ -1,9 +1,11 @@
 -- The program's status, and what it does to its devices.
-use Rattle.std.specs.Prelude.{◌≡◌, ℕ, Bool, List, Result, Ok, Err, string_bytes}
+use Rattle.std.specs.Prelude.{◌≡◌, ℕ, Bool, false, true, List, Result, Ok, Err, string_bytes, take}
 use Rattle.executor.specs.Runs.{Ran, is_read_failed, is_write_failed}
 use Rattle.executor.specs.declared.running.RunFault.{RunFault}
 use Rattle.executor.specs.declared.running.RunFault.TheVariants as fault
 use Rattle.itch_bars.specs.declared.words.Job.{Job}
+use Rattle.itch_bars.specs.declared.words.WordsFault.{WordsFault}
+use Rattle.itch_bars.specs.declared.words.WordsFault.TheVariants as words
 
 -- a fault's status
 abbrev pub status_of : RunFault → ℕ
@@ -32,3 +34,31 @@ Did Gave HasEnded source_failed Took HasFlushed sink_failed job before after sin
     × (source_failed after ≡ is_read_failed outcome)
     × (sink_failed sink_after ≡ is_write_failed outcome)
     × (status ≡ status_of_outcome outcome)
+
+module _ {L : Type 0} (Took : L → L → List ℕ → Type 0) (HasFlushed : L → Type 0) (has_failed : L → Bool)
+    (before after : L) where
+  -- the device took the whole text and passed it on, or it failed and took no more than its first bytes
+  pub record Delivered (text : List ℕ) : Type 0 where
+    pub whole : has_failed after ≡ false → Took before after text × HasFlushed after
+    pub part : has_failed after ≡ true → (count : ℕ) × Took before after (take count text)
+
+  -- some line was delivered
+  abbrev pub Told : Type 0
+  Told = (line : List ℕ) × Delivered line
+
+module _ {K L : Type 0}
+    (OutTook : K → K → List ℕ → Type 0) (OutHasFlushed : K → Type 0) (out_failed : K → Bool)
+    (Took : L → L → List ℕ → Type 0) (HasFlushed : L → Type 0) (has_failed : L → Bool)
+    (out out_after : K) (errors errors_after : L) (status : ℕ) where
+  -- help is delivered to the output, and what is wrong to the errors, of which want of memory is a line; the other
+  -- device takes nothing
+  abbrev pub Explained : WordsFault → Type 0
+  Explained (words.Help text) = (status ≡ 0)
+      × Delivered OutTook OutHasFlushed out_failed out out_after (string_bytes text)
+      × (errors_after ≡ errors)
+  Explained (words.Wrong text) = (status ≡ 2)
+      × Delivered Took HasFlushed has_failed errors errors_after (string_bytes text)
+      × (out_after ≡ out)
+  Explained words.Memory = (status ≡ 3)
+      × Told Took HasFlushed has_failed errors errors_after
+      × (out_after ≡ out)

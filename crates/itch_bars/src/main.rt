@@ -6,19 +6,15 @@ ghost use Rattle.std.specs.Prelude.{◌≡◌, false};
 mod words;
 mod work;
 
-use executor::{Counted, CountedSink, RunFault, Sink, deliver};
-use std::alloc::{AllocError, Global};
+use executor::{Counted, CountedSink, Sink};
 use std::env;
 use std::fs::File;
 use std::process::ExitCode;
 use words::{Job, WordsFault, command};
-use work::{perform, tell};
+use work::{explain, perform, perform_opened};
 
 /// The word for standard input in a file's place.
 const STANDARD_INPUT: &str = "-";
-
-/// The status of wrong words on the command line.
-const WRONG_WORDS: u8 = 2;
 
 #[cfg(test)]
 mod tests;
@@ -26,30 +22,20 @@ mod tests;
 fn main(rt: HostRuntime) -> ExitCode {
     let mut out = CountedSink::of(rt.stdout());
     let mut errors = CountedSink::of(rt.stderr());
-    let status = match given_words(&rt) {
-        Ok(words) => match command(rt.alloc(), words.as_slice()) {
-            Ok(job) => start(&rt, &job, &mut out, &mut errors),
-            Err(WordsFault::Help { text }) => {
-                let _ = deliver(&mut out, text.as_bytes());
-                0
-            }
-            Err(WordsFault::Wrong { text }) => {
-                let _ = deliver(&mut errors, text.as_bytes());
-                WRONG_WORDS
-            }
-            Err(WordsFault::Memory) => tell(&RunFault::OutOfMemory, &mut errors),
-        },
-        Err(AllocError) => tell(&RunFault::OutOfMemory, &mut errors),
+    let status = match job_of_words(&rt) {
+        Ok(job) => start(&rt, &job, &mut out, &mut errors),
+        Err(fault) => explain(&fault, &mut out, &mut errors),
     };
     ExitCode::from(status)
 }
 
-/// The words of the command line.
-fn given_words(rt: &HostRuntime) -> Result<Vec<String>, AllocError> {
-    match env::args(rt) {
-        Ok(words) => words.collect(rt.alloc()),
-        Err(_) => Err(AllocError),
-    }
+/// The job that the program's words ask for.
+fn job_of_words(rt: &HostRuntime) -> Result<Job, WordsFault> {
+    let Ok(given) = env::args(rt) else {
+        return Err(WordsFault::Memory);
+    };
+    let words: Vec<String> = given.collect(rt.alloc())?;
+    command(rt.alloc(), words.as_slice())
 }
 
 /// Opens the job's file and does the job.
@@ -61,11 +47,6 @@ fn start<K: Sink, L: Sink>(rt: &HostRuntime, job: &Job, out: &mut K, errors: &mu
         let mut source = Counted::of(rt.stdin());
         return perform(rt, rt.alloc(), job, &mut source, out, errors);
     }
-    match File::open(rt, job.file.as_str()) {
-        Ok(file) => {
-            let mut source = Counted::of(file);
-            perform(rt, rt.alloc(), job, &mut source, out, errors)
-        }
-        Err(_) => tell(&RunFault::ReadFailed, errors),
-    }
+    let file = File::open(rt, job.file.as_str()).ok();
+    perform_opened(rt, rt.alloc(), job, file.map(Counted::of), out, errors)
 }

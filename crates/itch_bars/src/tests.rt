@@ -10,6 +10,8 @@ use std::io::{self, Read, Write};
 use std::process::Abort;
 use std::test::Fail;
 
+mod streams;
+
 /// A directory, an add order and its execution.
 static DAY: &[u8] =
     b"\x00'R\x00\x07\x00\x00\x00\x00\x00\x00\x00\x00MSFT                        \x00$A\x00\

@@ -1,7 +1,7 @@
-ghost use Rattle.std.specs.Prelude.{◌≡◌, false};
-ghost use Rattle.itch_bars.specs.Statuses.{Did, status_of};
+ghost use Rattle.std.specs.Prelude.{◌≡◌, ◌≢◌, false, MatchOption};
+ghost use Rattle.itch_bars.specs.Statuses.{Did, Explained, Told, status_of};
 
-use crate::words::Job;
+use crate::words::{Job, WordsFault};
 use arrayvec::ArrayString;
 use executor::{RunFault, Sink, Source, deliver, run};
 use std::alloc::Allocator;
@@ -9,6 +9,9 @@ use std::fmt::Write;
 
 /// The most bytes of a fault's line.
 const LONGEST_LINE: usize = 128;
+
+/// The status of wrong words on the command line.
+const WRONG_WORDS: u8 = 2;
 
 /// Does a job: reads the day file from the source, and writes the answer to `out`, or one line that
 /// tells why there is none to `errors`. Gives the program's status. A line that can't be written
@@ -24,8 +27,10 @@ pub fn perform<R, A: Allocator + Copy, S: Source, K: Sink, L: Sink>(
     requires source { S.has_failed source.old ≡ false }
     requires out { K.has_failed out.old ≡ false }
     requires errors { L.has_failed errors.old ≡ false }
-    ensures { Did S.Gave S.HasEnded S.has_failed K.Took K.HasFlushed K.has_failed
+    ensures did { Did S.Gave S.HasEnded S.has_failed K.Took K.HasFlushed K.has_failed
         job.now source.old source.new out.old out.new result }
+    ensures quiet { result ≡ 0 → errors.new ≡ errors.old }
+    ensures told { result ≢ 0 → Told L.Took L.HasFlushed L.has_failed errors.old errors.new }
 {
     let answer = run(rt, alloc, source, job.query.as_str(), job.settings, out);
     match answer {
@@ -34,10 +39,58 @@ pub fn perform<R, A: Allocator + Copy, S: Source, K: Sink, L: Sink>(
     }
 }
 
+/// Does a job on the day file that was opened. One that can't be opened is told before the query is
+/// looked at.
+pub fn perform_opened<R, A: Allocator + Copy, S: Source + Drop, K: Sink, L: Sink>(
+    rt: &R,
+    alloc: A,
+    job: &Job,
+    opened: Option<S>,
+    out: &mut K,
+    errors: &mut L,
+) -> u8
+    requires source { MatchOption opened (Unit {0}) (λ source. S.has_failed source ≡ false) }
+    requires out { K.has_failed out.old ≡ false }
+    requires errors { L.has_failed errors.old ≡ false }
+    ensures did { MatchOption opened
+        ((result ≡ 4) × (out.new ≡ out.old))
+        (λ source. (after : S) × Did S.Gave S.HasEnded S.has_failed K.Took K.HasFlushed K.has_failed
+        job.now source after out.old out.new result) }
+    ensures quiet { result ≡ 0 → errors.new ≡ errors.old }
+    ensures told { result ≢ 0 → Told L.Took L.HasFlushed L.has_failed errors.old errors.new }
+{
+    match opened {
+        Some(mut source) => perform(rt, alloc, job, &mut source, out, errors),
+        None => tell(&RunFault::ReadFailed, errors),
+    }
+}
+
+/// Tells why the words ask for no job: help on `out`, or what is wrong on `errors`. Gives the
+/// program's status. A text that can't be written doesn't change it.
+pub fn explain<K: Sink, L: Sink>(fault: &WordsFault, out: &mut K, errors: &mut L) -> u8
+    requires out { K.has_failed out.old ≡ false }
+    requires errors { L.has_failed errors.old ≡ false }
+    ensures { Explained K.Took K.HasFlushed K.has_failed L.Took L.HasFlushed L.has_failed
+        out.old out.new errors.old errors.new result fault.now }
+{
+    match fault {
+        WordsFault::Help { text } => {
+            let _ = deliver(out, text.as_bytes());
+            0
+        }
+        WordsFault::Wrong { text } => {
+            let _ = deliver(errors, text.as_bytes());
+            WRONG_WORDS
+        }
+        WordsFault::Memory => tell(&RunFault::OutOfMemory, errors),
+    }
+}
+
 /// Writes a fault's line, and gives its status.
 pub fn tell<L: Sink>(fault: &RunFault, errors: &mut L) -> u8
     requires { L.has_failed errors.old ≡ false }
-    ensures { result ≡ status_of fault.now }
+    ensures status { result ≡ status_of fault.now }
+    ensures told { Told L.Took L.HasFlushed L.has_failed errors.old errors.new }
 {
     let mut line = ArrayString::<LONGEST_LINE>::new();
     let _ = write!(line, "fault: {fault}\n");
