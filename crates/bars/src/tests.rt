@@ -104,6 +104,7 @@ MSFT,09:30:00,10.0001,10.0001,10.0000,10.0000,3,3,10.0000+1/3
 fn a_refusal_changes_no_text(rt: HostRuntime) -> Result<(), Fail> {
     let name = name(rt.alloc())?;
     let mut was_refused = false;
+    let mut finished = false;
     for step in 1..100 {
         let heap = LocalHeap::new(rt.alloc(), 16 * step)?;
         let Ok(table) = BarTable::of_sales(
@@ -128,10 +129,11 @@ fn a_refusal_changes_no_text(rt: HostRuntime) -> Result<(), Fail> {
             was_refused = true;
         } else if header.is_ok() {
             assert_eq!(rt; out.as_slice(), ONE_MINUTE.as_bytes());
+            finished = true;
             break;
         }
     }
-    assert!(rt; was_refused);
+    assert!(rt; was_refused && finished);
     Ok(())
 }
 
@@ -162,6 +164,7 @@ fn is_one_bar(table: &BarTable<&LocalHeap>) -> bool {
 #[test]
 fn tables_merge_or_stay(rt: HostRuntime) -> Result<(), Fail> {
     let mut was_refused = false;
+    let mut finished = false;
     for step in 1..200 {
         let heap = LocalHeap::new(rt.alloc(), 16 * step)?;
         let Ok((mut one, other)) = two_tables(&heap) else {
@@ -169,13 +172,14 @@ fn tables_merge_or_stay(rt: HostRuntime) -> Result<(), Fail> {
         };
         if one.merge(&other).is_ok() {
             assert!(rt; is_one_bar(&one));
+            finished = true;
             break;
         }
         assert_eq!(rt; one.items().len(), 1);
         assert_eq!(rt; one.items()[0].trades, 2);
         was_refused = true;
     }
-    assert!(rt; was_refused);
+    assert!(rt; was_refused && finished);
     let heap = LocalHeap::new(rt.alloc(), 1 << 12)?;
     let (one, mut other) = two_tables(&heap)?;
     other.merge(&one)?;

@@ -1,5 +1,5 @@
 -- What a run reads of its source, answers, and hands to its sink.
-use Rattle.std.specs.Prelude.{◌≡◌, ℕ, ◌+◌, ◌≤◌, Bool, true, false, List, length, take, Some, Result, Ok, Err}
+use Rattle.std.specs.Prelude.{◌≡◌, ℕ, ◌+◌, ◌≤◌, ◌⊎◌, Bool, true, false, List, length, take, Some, Result, Ok, Err}
 use Rattle.executor.specs.Answers.{IsAnswer}
 use Rattle.query.specs.Faults.{first_fault}
 use Rattle.query.specs.Grammar.{Means}
@@ -71,7 +71,8 @@ module _ {S K : Type 0}
   Ran words limit before after sink_before sink_after (Err (fault.WriteFailed written)) =
       Wrote words limit before after sink_before sink_after written
   Ran words limit before after sink_before sink_after (Err fault.OutOfMemory) =
-      GaveSome limit before after × (sink_after ≡ sink_before)
+      ((after ≡ before) ⊎ ((query : Meaning) × Means (words_of words) query))
+      × GaveSome limit before after × (sink_after ≡ sink_before)
 
 -- the run's sink failed
 abbrev pub is_write_failed : Result (Unit {0}) RunFault → Bool

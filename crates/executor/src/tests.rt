@@ -162,29 +162,41 @@ fn three_messages_in_each_order(rt: HostRuntime) -> Result<(), Fail> {
     Ok(())
 }
 
+/// The bytes that a sink takes a call and in all, whether its flush succeeds, the answer of a run, and
+/// how many bytes of the text the sink has taken then.
+type Writing = (usize, usize, bool, Result<(), RunFault>, usize);
+
+/// A run to such a sink is answered so.
+fn is_written(rt: &impl Abort, alloc: Global, writing: Writing) -> Result<(), Fail> {
+    let (step, room, flushes, want, taken) = writing;
+    let bytes = Day::of(rt, alloc, &UNNAMED)?.bytes;
+    let mut source = Counted::of(bytes.as_slice());
+    let mut sink = Narrow::of(alloc, step, room, flushes);
+    let told = run(rt, alloc, &mut source, "sales", settings(71), &mut sink);
+    assert_eq!(rt; told, want, "{step} {room}");
+    assert_eq!(rt;
+        Some(sink.taken.as_slice()),
+        UNNAMED_TEXT.get(..taken),
+        "{step} {room}"
+    );
+    assert_eq!(rt; sink.failed(), told.is_err());
+    assert_eq!(rt; sink.is_flushed, told.is_ok());
+    Ok(())
+}
+
 #[test]
 fn a_sink_that_fails(rt: HostRuntime) -> Result<(), Fail> {
-    let bytes = Day::of(&rt, rt.alloc(), &UNNAMED)?.bytes;
     let failed = |written| Err(RunFault::WriteFailed { written });
-    for (step, room, flushes, want, taken) in [
+    for room in 0..75 {
+        let want = failed(room as u64);
+        is_written(&rt, rt.alloc(), (1, room, true, want, room))?;
+    }
+    for writing in [
         (100, 10, true, failed(10), 10),
-        (1, 0, true, failed(0), 0),
-        (1, 74, true, failed(74), 74),
         (2, 100, true, Ok(()), 75),
         (100, 100, false, failed(75), 75),
     ] {
-        let mut source = Counted::of(bytes.as_slice());
-        let mut sink = Narrow::of(rt.alloc(), step, room, flushes);
-        let settings = settings(71);
-        let told = run(&rt, rt.alloc(), &mut source, "sales", settings, &mut sink);
-        assert_eq!(rt; told, want, "{step} {room}");
-        assert_eq!(rt;
-            Some(sink.taken.as_slice()),
-            UNNAMED_TEXT.get(..taken),
-            "{step} {room}"
-        );
-        assert_eq!(rt; sink.failed(), told.is_err());
-        assert_eq!(rt; sink.is_flushed, told.is_ok());
+        is_written(&rt, rt.alloc(), writing)?;
     }
     Ok(())
 }

@@ -1,12 +1,12 @@
 -- Pieces that belong to a list of inputs.
-use Rattle.std.proofs.Common.{◌≡◌, ℕ, ◌<◌, ◌≤◌, Bool, true, List, Option, Some, None, length, slice_get, get_or, set, refl, sym, ◌∙◌, arith, ◌⊎◌, inl, inr, ⊎_elim, subst, is_some, ◌||◌}
+use Rattle.std.proofs.Common.{◌≡◌, ℕ, ◌<◌, ◌≤◌, Bool, true, false, List, Option, Some, None, length, slice_get, get_or, set, refl, sym, ◌∙◌, arith, ◌⊎◌, inl, inr, ⊎_elim, subst, is_some, ◌||◌}
 use Rattle.std.proofs.lemmas.Grind.{get_or-set_at}
 use Rattle.std.proofs.lemmas.List.{get_or-set_other}
 use Rattle.std.proofs.lemmas.Bool.Decides.{eqb_tells}
 use Rattle.std.proofs.lemmas.Option.{slice_get_cases, slice_get_within}
 use Rattle.std.proofs.Math.ListN.{length-set}
 use Rattle.std.specs.Cmp.{IsEquivalence}
-use Rattle.std.specs.Cmp.Lexicographic.{as_long}
+use Rattle.std.specs.Cmp.Lexicographic.{as_long, lists_equiv}
 use Rattle.gathering.specs.Adding.{same_inputs}
 use Rattle.gathering.specs.Kept.{IsKept, either}
 use Rattle.gathering.specs.Views.{PieceView, belongs, is_equal_to}
@@ -25,6 +25,11 @@ Some-inj h = cc
 
 slice_get_none : {X : Type 0} (xs : List X) (i : ℕ) → slice_get xs i ≡ None → length xs ≤ i
 slice_get_none xs i h = ⊎_elim (λ found. cc (found.2, h)) (λ past. past.0) (slice_get_cases xs i).1
+
+both_true : (a b : Bool) → (a ≡ true → b ≡ true) → (b ≡ true → a ≡ true) → a ≡ b
+both_true true b forth back = sym (forth refl)
+both_true false true forth back = back refl
+both_true false false forth back = refl
 
 module _ {A : Type 0} (eq : A → A → Bool) where
   -- the input of its number, which is equal to its own
@@ -66,6 +71,13 @@ module _ {A : Type 0} (eq : A → A → Bool) where
       by y at_y equal (Some x) e =
           let xy : eq x y ≡ true = same_at eq inputs others p.number x y same e at_y in
           laws.symm p.input x ∙ laws.congr x y p.input xy ∙ laws.symm y p.input ∙ equal
+
+  -- the same pieces belong to equal lists
+  pub belongs_as : IsEquivalence eq → (inputs others : List A) (p : PieceView A) → same_inputs eq inputs others ≡ true → belongs eq inputs p ≡ belongs eq others p
+  belongs_as laws inputs others p same =
+      both_true (belongs eq inputs p) (belongs eq others p)
+      (belongs_alike laws others inputs p ((lists_equiv laws).symm others inputs ∙ same))
+      (belongs_alike laws inputs others p same)
 
   -- the united pieces are kept
   pub IsKept-unite : IsEquivalence eq → (inputs others : List A) (own their both : List (Option (PieceView A))) → IsKept eq inputs own → IsKept eq others their → same_inputs eq inputs others ≡ true → length both ≡ length own → ((k : ℕ) → get_or both k None ≡ either (get_or own k None) (get_or their k None)) → IsKept eq inputs both

@@ -2,14 +2,15 @@
 ghost use Rattle.std.specs.Prelude.{◌≡◌, ℕ, List, true, Some, map, slice_get};
 ghost use Rattle.gathering.specs.Adding.{same_inputs};
 ghost use Rattle.gathering.specs.Laws.{AreAlike};
-ghost use Rattle.gathering.specs.Views.{GatheringView, IsFirstMissing, belongs, merged};
+ghost use Rattle.gathering.specs.Views.{GatheringView, PieceView, IsComplete, IsFirstMissing, belongs, merged};
 
 use crate::work::Work;
 
 /// Merging is commutative, associative and idempotent, over what `merge` leaves.
 ///
 /// Where inputs are equal and not identical, what is left in either order is alike: equal inputs one by one, the same
-/// tasks covered, and so one total and one first missing task.
+/// tasks covered, and so one total and one first missing task. Gatherings that are alike refuse the same pieces and the
+/// same gatherings, and are complete together.
 pub fn merge_is_a_join<W: Work>()
     ensures commutative { (a b : GatheringView W.Input) → a.inputs ≡ b.inputs
         → merged a b ≡ merged b a }
@@ -24,6 +25,14 @@ pub fn merge_is_a_join<W: Work>()
         → W.total_of a.inputs ≡ W.total_of b.inputs }
     ensures one_first_missing { (a b : GatheringView W.Input) (t u : ℕ) → AreAlike W.Input.eq a b
         → IsFirstMissing a t → IsFirstMissing b u → t ≡ u }
+    ensures same_strangers { (a b : GatheringView W.Input) (p : PieceView W.Input)
+        → AreAlike W.Input.eq a b
+        → belongs W.Input.eq a.inputs p ≡ belongs W.Input.eq b.inputs p }
+    ensures same_other_inputs { (a b : GatheringView W.Input) (xs : List W.Input)
+        → AreAlike W.Input.eq a b
+        → same_inputs W.Input.eq a.inputs xs ≡ same_inputs W.Input.eq b.inputs xs }
+    ensures complete_together { (a b : GatheringView W.Input) → AreAlike W.Input.eq a b
+        → IsComplete a → IsComplete b }
 {}
 
 /// A list of inputs is the same as itself, its own pieces belong to it, and equal inputs have equal values.

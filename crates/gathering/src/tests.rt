@@ -286,9 +286,13 @@ fn other_work_is_handed_back(rt: HostRuntime) -> Result<(), Fail> {
         };
         assert_eq!(rt; answer, wanted, "piece {number}");
     }
-    match gathering.merge(gathered(alloc, &others, &[0])?) {
-        Ok(()) => assert!(rt; false),
-        Err(refused) => assert_eq!(rt; refused.other.first_missing(), Some(1)),
+    // The eight inputs begin with those of the second.
+    let shorter = inputs_of(alloc, &watch, &[1, 2])?;
+    for (list, task, missing) in [(&others, 0, 1), (&shorter, 1, 0)] {
+        match gathering.merge(gathered(alloc, list, &[task])?) {
+            Ok(()) => assert!(rt; false),
+            Err(refused) => assert_eq!(rt; refused.other.first_missing(), Some(missing)),
+        }
     }
     assert_eq!(rt; gathering.first_missing(), Some(1));
     Ok(())

@@ -1,16 +1,17 @@
 //! The program's words, statuses and lines.
 ghost use Rattle.std.specs.Prelude.{◌≡◌, ◌≤◌, false};
 
-use crate::words::{Job, WordsFault, command};
+use crate::words::Job;
 use crate::work::perform;
 use executor::{Counted, CountedSink, Crew, LONGEST_FILE, Settings, Sink, Source};
 use linked_list_allocator::LocalHeap;
 use std::alloc::{Allocator, Global};
 use std::io::{self, Read, Write};
-use std::process::Abort;
 use std::test::Fail;
 
+mod example;
 mod streams;
+mod words;
 
 /// A directory, an add order and its execution.
 static DAY: &[u8] =
@@ -223,66 +224,5 @@ fn each_allocation_of_a_job_can_be_refused(rt: HostRuntime) -> Result<(), Fail> 
         }
     }
     assert!(rt; refused > 8 && refused < 399);
-    Ok(())
-}
-
-/// The job of words.
-fn told<R: Abort>(rt: &R, alloc: Global, words: &[&str]) -> Result<Option<Job>, Fail> {
-    let mut given = Vec::new(alloc);
-    for word in words {
-        given.push(String::from_str(alloc, word)?)?;
-    }
-    match command(alloc, given.as_slice()) {
-        Ok(job) => Ok(Some(job)),
-        Err(WordsFault::Wrong { text }) => {
-            assert!(rt; text.as_str().starts_with("error: "), "{text}");
-            Ok(None)
-        }
-        Err(WordsFault::Help { text }) => {
-            assert!(rt; text.as_str().contains("Usage: itch_bars"), "{text}");
-            Ok(None)
-        }
-        Err(WordsFault::Memory) => {
-            assert!(rt; false, "memory");
-            Ok(None)
-        }
-    }
-}
-
-#[test]
-fn words_of_a_job(rt: HostRuntime) -> Result<(), Fail> {
-    let alloc = rt.alloc();
-    let Some(job) = told(&rt, alloc, &["itch_bars", "day", "sales"])? else {
-        return Err(Fail::from("no job"));
-    };
-    assert!(rt; job.file.as_str() == "day" && job.query.as_str() == "sales");
-    assert_eq!(rt; job.settings.crew.workers, 4);
-    assert_eq!(rt; job.settings.morsel, 16_777_216);
-    let words = ["itch_bars", "-", "sales", "--workers", "64", "--morsel=1"];
-    let Some(job) = told(&rt, alloc, &words)? else {
-        return Err(Fail::from("no job"));
-    };
-    assert_eq!(rt; job.settings.crew.workers, 64);
-    assert_eq!(rt; job.settings.morsel, 1);
-    Ok(())
-}
-
-#[test]
-fn wrong_words(rt: HostRuntime) -> Result<(), Fail> {
-    let alloc = rt.alloc();
-    assert!(rt; told(&rt, alloc, &["itch_bars"])?.is_none());
-    assert!(rt; told(&rt, alloc, &["itch_bars", "--help"])?.is_none());
-    for option in [
-        "--workers=0",
-        "--workers=65",
-        "--morsel=0",
-        "--morsel=1073741825",
-        "--gatherers=1",
-    ] {
-        assert!(rt;
-            told(&rt, alloc, &["itch_bars", "-", "sales", option])?.is_none(),
-            "{option}"
-        );
-    }
     Ok(())
 }

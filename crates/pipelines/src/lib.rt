@@ -18,9 +18,10 @@ mod rehearse;
 mod worker;
 
 pub use crew::Crew;
+pub use dispatcher::{Dispatcher, Seat};
 pub use event::{Event, apply};
 pub use gate::{FreeGate, Gate};
-pub use gathering::OutOfMemory;
+pub use gathering::{Gathering, Inputs, OutOfMemory, Piece, Work};
 pub use link::Link;
 pub use outcome::{Linked, Outcome, Rehearsed};
 pub use pair::run_pair;

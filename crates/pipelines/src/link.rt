@@ -18,12 +18,12 @@ pub trait Link<A: Work, B: Work> {
     /// What a total is linked to.
     ghost linked: { Self → A.Total → Linked (List B.Input) Self.Kept Self.Stop };
 
-    /// What the total is linked to. Without memory it gives nothing.
+    /// What the total is linked to. Without memory it gives nothing, and the total is gone.
     fn link(
         &self,
         alloc: Global,
-        total: &A::Total,
+        total: A::Total,
     ) -> Result<Linked<Inputs<B>, Self::Kept, Self::Stop>, OutOfMemory>
-        requires { IsTotal A.total_of A.IsAdmissible total.now }
-        ensures { IfOk result (λ l. l ≡ linked self.now total.now) };
+        requires { IsTotal A.total_of A.IsAdmissible total }
+        ensures { IfOk result (λ l. l ≡ linked self.now total) };
 }

@@ -48,8 +48,7 @@ pub fn run_pair<A: Work, B: Work, L: Link<A, B>, G: Gate, R: Threads + Wait + Sy
                 (L.linked link.entry.now (A.total_of (arc_value inputs)))) }
         {
             let total = run_pipeline(scope, rt, alloc, inputs, crew, gate, 1)?;
-            let linked = link.link(alloc, &total)?;
-            drop(total);
+            let linked = link.link(alloc, total)?;
             match linked {
                 Linked::Halt { stop } => Ok(Outcome::Stopped { stop }),
                 Linked::Next { inputs, kept } => {

@@ -37,8 +37,7 @@ pub fn rehearse_pair<A: Work, B: Work, L: Link<A, B>>(
         Ok(total) => total,
         Err(task) => return Ok(Rehearsed::Missing { pipeline: 1, task }),
     };
-    let linked = link.link(alloc, &total)?;
-    drop(total);
+    let linked = link.link(alloc, total)?;
     match linked {
         Linked::Halt { stop } => Ok(Rehearsed::Stopped { stop }),
         Linked::Next { inputs, kept } => {

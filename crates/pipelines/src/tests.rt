@@ -207,15 +207,15 @@ impl Link<Sum, Sum> for OneAndTwo {
     fn link(
         &self,
         alloc: Global,
-        total: &u128,
+        total: u128,
     ) -> Result<Linked<Inputs<Sum>, u128, u128>, OutOfMemory> {
         self.watch.grow()?;
         if self.halts {
-            return Ok(Linked::Halt { stop: *total });
+            return Ok(Linked::Halt { stop: total });
         }
         Ok(Linked::Next {
             inputs: inputs_of(alloc, &self.watch, &[1, 2])?,
-            kept: *total,
+            kept: total,
         })
     }
 }

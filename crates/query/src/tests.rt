@@ -73,6 +73,92 @@ fn texts(rt: HostRuntime) -> Result<(), Fail> {
     Ok(())
 }
 
+// No byte but 0x20 parts words, and none outside of 0x21 to 0x7e stands in a symbol.
+const HOSTILE: [(&str, &str); 19] = [
+    ("é", "query byte 0: unknown word"),
+    ("salesé", "query byte 0: unknown word"),
+    ("sales é", "query byte 6: unknown word"),
+    ("sales where é in A", "query byte 12: unknown word"),
+    ("bars 1é m", "query byte 5: bad number"),
+    ("bars 1 é", "query byte 7: unknown word"),
+    (
+        "sales where time from 09:30:é until 10:00:00",
+        "query byte 22: bad time",
+    ),
+    ("sales where kind in E,É", "query byte 20: unknown word"),
+    ("sales where symbol in A,é", "query byte 22: unknown word"),
+    ("sales where symbol in éééé", "query byte 22: unknown word"),
+    (
+        "sales where symbol in A\u{80},B",
+        "query byte 22: unknown word",
+    ),
+    (
+        "sales where symbol in A\u{7f}",
+        "query byte 22: unknown word",
+    ),
+    (
+        "sales where symbol in A and é",
+        "query byte 28: unknown word",
+    ),
+    ("\0", "query byte 0: unknown word"),
+    ("sales\0", "query byte 0: unknown word"),
+    ("sales \0", "query byte 6: unknown word"),
+    ("sales where symbol in A\0", "query byte 22: unknown word"),
+    ("sales\u{a0}where kind in E", "query byte 0: unknown word"),
+    ("sales where symbol in !,~", "sales where symbol in !,~"),
+];
+
+#[test]
+fn hostile_texts(rt: HostRuntime) -> Result<(), Fail> {
+    for (text, wanted) in HOSTILE {
+        let found = answer(rt.alloc(), text)?;
+        assert_eq!(rt; found.as_str(), wanted, "{text:?}");
+    }
+    Ok(())
+}
+
+// The start, 20,000 times the piece, and the end.
+fn long_text(alloc: Global, start: &str, piece: &str, end: &str) -> Result<String, OutOfMemory> {
+    let mut text = String::new(alloc);
+    text.push_str(start)?;
+    for _ in 0..20_000 {
+        text.push_str(piece)?;
+    }
+    text.push_str(end)?;
+    Ok(text)
+}
+
+#[test]
+fn long_texts(rt: HostRuntime) -> Result<(), Fail> {
+    for (start, piece, end, wanted) in [
+        ("", "sales ", "", "query byte 6: unknown word"),
+        ("", "é ", "", "query byte 0: unknown word"),
+        (
+            "sales where time from 09:30:00 until 09:31:00",
+            " and",
+            "",
+            "query byte 50: unknown word",
+        ),
+        (
+            "sales where kind in E",
+            " and kind in E",
+            "",
+            "query byte 26: condition given twice",
+        ),
+        ("", " ", "", "query ends too early"),
+        ("", " ", "é", "query byte 20000: unknown word"),
+        ("bars", " ", "60 s", "bars 60 s"),
+    ] {
+        let text = long_text(rt.alloc(), start, piece, end)?;
+        let found = answer(rt.alloc(), &text)?;
+        assert_eq!(rt; found.as_str(), wanted);
+    }
+    let listed = long_text(rt.alloc(), "sales where symbol in A", ",MSFT,A", "")?;
+    let found = answer(rt.alloc(), &listed)?;
+    assert!(rt; found == listed);
+    Ok(())
+}
+
 // A heap has memory for a call once its size has grown, 16 bytes at a time.
 const SIZES: usize = 256;
 

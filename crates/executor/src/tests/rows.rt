@@ -37,7 +37,7 @@ pub const NAMED_TEXT: &[u8] =
     b"time,symbol,kind,price,shares,number\n09:30:01.000000005,MSFT,E,410.5000,40,9\n";
 
 /// Files that have a listing.
-pub const LISTED: [Row; 13] = [
+pub const LISTED: [Row; 14] = [
     (&[], Ok("")),
     (&NAMED, Ok("09:30:01.000000005,MSFT,E,410.5000,40,9\n")),
     (&UNNAMED, Ok("09:30:01.000000005,#7,E,410.5000,40,9\n")),
@@ -106,6 +106,15 @@ pub const LISTED: [Row; 13] = [
             Form::P(10, 4_105_200, 18),
         ],
         Ok("09:30:01.000000005,MSFT,P,410.5200,10,18\n"),
+    ),
+    (
+        &[
+            Form::R(7, MSFT),
+            Form::A(1, 4_105_000),
+            Form::E(1, 40, 9),
+            Form::R(7, *b"AB CD   "),
+        ],
+        Ok("09:30:01.000000005,AB?CD,E,410.5000,40,9\n"),
     ),
     (
         &[

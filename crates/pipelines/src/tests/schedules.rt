@@ -77,8 +77,20 @@ fn schedules_of_two_gatherers(rt: HostRuntime) -> Result<(), Fail> {
         merge,
         at_1(3),
     ];
-    let mut without = twice;
-    without[5] = Event::Lose { task: 5 };
+    let without = [
+        at_0(0),
+        at_0(1),
+        at_0(2),
+        at_0(3),
+        at_0(4),
+        at_0(6),
+        at_0(7),
+        at_1(3),
+        merge,
+        at_1(3),
+    ];
+    let mut lost = twice;
+    lost[5] = Event::Lose { task: 5 };
     let out_of_range = [
         Event::Arrive {
             gatherer: 2,
@@ -95,6 +107,10 @@ fn schedules_of_two_gatherers(rt: HostRuntime) -> Result<(), Fail> {
     );
     assert_eq!(rt;
         rehearsed(alloc, 0..0, true, &without, &[])?,
+        ("missing", 1, 5, 9)
+    );
+    assert_eq!(rt;
+        rehearsed(alloc, 0..0, true, &lost, &[])?,
         ("missing", 1, 5, 9)
     );
     assert_eq!(rt;

@@ -1,9 +1,7 @@
 ghost use Rattle.std.specs.Prelude.{◌≡◌, ◌<◌, ◌≤◌, length};
 
-use super::{Number, OneAndTwo, Sum, Watch, hold, inputs_of};
-use crate::{Crew, FreeGate, Gate, KeepingPort, OutOfMemory, Outcome, Port, run_pair, work};
-use dispatcher::Dispatcher;
-use gathering::Piece;
+use super::{OneAndTwo, Watch, hold, inputs_of};
+use crate::{Crew, FreeGate, Gate, OutOfMemory, Outcome, run_pair};
 use std::alloc::Global;
 use std::sync::atomic::{AtomicBool, AtomicU64, Ordering};
 use std::sync::{Arc, Wait};
@@ -27,7 +25,10 @@ enum Held {
 struct Warden {
     held: Held,
     begun: [AtomicBool; 4],
+    second_pipeline: AtomicBool,
     done: [AtomicBool; 2],
+    /// How many runs were begun when a pipeline was done.
+    runs_when_done: [AtomicU64; 2],
     rounds: [AtomicU64; 3],
     gave_up: AtomicBool,
 }
@@ -42,7 +43,9 @@ impl Warden {
                 AtomicBool::new(false),
                 AtomicBool::new(false),
             ],
+            second_pipeline: AtomicBool::new(false),
             done: [AtomicBool::new(false), AtomicBool::new(false)],
+            runs_when_done: [AtomicU64::new(0), AtomicU64::new(0)],
             rounds: [AtomicU64::new(0), AtomicU64::new(0), AtomicU64::new(0)],
             gave_up: AtomicBool::new(false),
         }
@@ -53,6 +56,11 @@ impl Warden {
     {
         self.rounds[round].load(Ordering::SeqCst)
     }
+
+    fn runs_when_done(&self) -> [u64; 2] {
+        let [first, second] = &self.runs_when_done;
+        [first.load(Ordering::SeqCst), second.load(Ordering::SeqCst)]
+    }
 }
 
 impl Gate for Warden {
@@ -61,6 +69,9 @@ impl Gate for Warden {
             return;
         }
         self.rounds[round as usize].fetch_add(1, Ordering::SeqCst);
+        if pipeline == 2 {
+            self.second_pipeline.store(true, Ordering::SeqCst);
+        }
         if task > 1 {
             return;
         }
@@ -74,7 +85,7 @@ impl Gate for Warden {
             Held::UntilTheOther => hold(&self.begun[first + 1 - own], &self.gave_up),
             Held::UntilDone if own == 0 => hold(&self.done[first / 2], &self.gave_up),
             Held::UntilTheSecondPipeline if own == 0 && first == 0 => {
-                hold(&self.begun[3], &self.gave_up);
+                hold(&self.second_pipeline, &self.gave_up);
             }
             _ => {}
         }
@@ -82,16 +93,23 @@ impl Gate for Warden {
 
     fn done(&self, pipeline: u8) {
         if pipeline == 1 || pipeline == 2 {
-            self.done[pipeline as usize - 1].store(true, Ordering::SeqCst);
+            let own = pipeline as usize - 1;
+            for round in &self.rounds {
+                let runs = round.load(Ordering::SeqCst);
+                self.runs_when_done[own].fetch_add(runs, Ordering::SeqCst);
+            }
+            self.done[own].store(true, Ordering::SeqCst);
         }
     }
 }
 
-/// What the runs over the first numbers give, where the link goes on with 1 and 2 or halts.
+/// What the runs over the first numbers give, where the link goes on with 1 and 2 or halts. Each
+/// pipeline has a watch of its own.
 fn outcome<G: Gate, R: Threads + Wait + Sync>(
     rt: &R,
     alloc: Global,
     watch: &Arc<Watch, Global>,
+    second_watch: Arc<Watch, Global>,
     numbers: &[u64],
     halts: bool,
     workers: u32,
@@ -102,7 +120,7 @@ fn outcome<G: Gate, R: Threads + Wait + Sync>(
 {
     let inputs = Arc::new(alloc, inputs_of(alloc, watch, numbers)?)?;
     let link = OneAndTwo {
-        watch: Watch::shared(alloc, 0..0, watch.meets)?,
+        watch: second_watch,
         halts,
     };
     let crew = Crew {
@@ -126,7 +144,10 @@ fn every_crew_gives_one_answer(rt: HostRuntime) -> Result<(), Fail> {
     ] {
         let numbers = &NUMBERS[..count];
         let wanted = (1u128 << count) - 1;
-        match outcome(&rt, alloc, &watch, numbers, halts, workers, &FreeGate)? {
+        let second = Arc::try_clone(&watch)?;
+        match outcome(
+            &rt, alloc, &watch, second, numbers, halts, workers, &FreeGate,
+        )? {
             Outcome::Finished { total, kept } => {
                 assert_eq!(rt; (total, kept, halts), (3, wanted, false));
             }
@@ -141,9 +162,11 @@ fn marked_tasks_are_passed_over(rt: HostRuntime) -> Result<(), Fail> {
     let alloc = rt.alloc();
     let watch = Watch::shared(alloc, 0..0, false)?;
     let gate = Warden::new(Held::NotAtAll);
-    let _ = outcome(&rt, alloc, &watch, &NUMBERS, false, 1, &gate)?;
+    let second = Arc::try_clone(&watch)?;
+    let _ = outcome(&rt, alloc, &watch, second, &NUMBERS, false, 1, &gate)?;
     assert_eq!(rt; (gate.count(0), gate.count(1), gate.count(2)), (10, 0, 0));
-    assert_eq!(rt; watch.runs.load(Ordering::SeqCst), 8);
+    assert_eq!(rt; watch.runs.load(Ordering::SeqCst), 10);
+    assert_eq!(rt; gate.runs_when_done(), [8, 10]);
     Ok(())
 }
 
@@ -156,7 +179,8 @@ fn finishes_when<R: Threads + Wait + Sync>(
 ) -> Result<bool, OutOfMemory> {
     let watch = Watch::shared(alloc, 0..0, false)?;
     let gate = Warden::new(held);
-    let finished = match outcome(rt, alloc, &watch, &NUMBERS, false, 2, &gate)? {
+    let second = Arc::try_clone(&watch)?;
+    let finished = match outcome(rt, alloc, &watch, second, &NUMBERS, false, 2, &gate)? {
         Outcome::Finished { total, kept } => total == 3 && kept == 255,
         Outcome::Stopped { stop: _ } => false,
     };
@@ -185,11 +209,14 @@ fn slow_worker_left_behind(rt: HostRuntime) -> Result<(), Fail> {
 fn runs_at_once(rt: HostRuntime) -> Result<(), Fail> {
     let alloc = rt.alloc();
     let watch = Watch::shared(alloc, 0..0, true)?;
-    match outcome(&rt, alloc, &watch, &[1, 2], false, 2, &FreeGate)? {
+    let second = Watch::shared(alloc, 0..0, true)?;
+    let linked = Arc::try_clone(&second)?;
+    match outcome(&rt, alloc, &watch, linked, &[1, 2], false, 2, &FreeGate)? {
         Outcome::Finished { total, kept } => assert_eq!(rt; (total, kept), (3, 3)),
         Outcome::Stopped { stop: _ } => assert!(rt; false),
     }
     assert!(rt; !watch.gave_up.load(Ordering::SeqCst));
+    assert!(rt; !second.gave_up.load(Ordering::SeqCst));
     Ok(())
 }
 
@@ -200,7 +227,8 @@ fn lost_pieces_are_run_again(rt: HostRuntime) -> Result<(), Fail> {
     for (refuses, answers) in [(8, true), (9, false)] {
         let watch = Watch::shared(alloc, 0..refuses, false)?;
         let gate = Warden::new(Held::NotAtAll);
-        match outcome(&rt, alloc, &watch, &NUMBERS[..4], true, 1, &gate) {
+        let second = Arc::try_clone(&watch)?;
+        match outcome(&rt, alloc, &watch, second, &NUMBERS[..4], true, 1, &gate) {
             Ok(Outcome::Stopped { stop }) => assert_eq!(rt; (stop, answers), (15, true)),
             Ok(Outcome::Finished { total: _, kept: _ }) => assert!(rt; false),
             Err(_) => assert!(rt; !answers),

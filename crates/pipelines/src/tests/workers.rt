@@ -16,11 +16,11 @@ use std::test::Fail;
 
 const NUMBERS: [u64; 8] = [1, 2, 4, 8, 16, 32, 64, 128];
 
-/// Keeps pieces, but refuses one when it holds a piece, where it is set to.
+/// Keeps pieces, but refuses the first one of a task.
 #[derive(Drop)]
 struct Picky {
     port: KeepingPort<Piece<Sum>>,
-    refuses: bool,
+    refuses: Option<u32>,
 }
 
 impl Port<Piece<Sum>> for Picky {
@@ -29,8 +29,8 @@ impl Port<Piece<Sum>> for Picky {
     ghost Tells = { Unit {0} };
 
     fn send(&mut self, piece: Piece<Sum>) -> Result<(), Piece<Sum>> {
-        if self.refuses && self.port.items().len() == 1 {
-            self.refuses = false;
+        if self.refuses == Some(piece.number()) {
+            self.refuses = None;
             return Err(piece);
         }
         self.port.send(piece)
@@ -49,14 +49,18 @@ fn refused_by<P: Port<Piece<Sum>>>(alloc: Global, port: &mut P) -> Result<u32, F
 fn a_worker_alone(rt: HostRuntime) -> Result<(), Fail> {
     let alloc = rt.alloc();
     for (refuses, order) in [
-        (false, [0, 1, 2, 3, 4, 5, 6, 7]),
-        (true, [0, 2, 3, 4, 5, 6, 7, 1]),
+        (None, [0, 1, 2, 3, 4, 5, 6, 7]),
+        (Some(0), [1, 2, 3, 4, 5, 6, 7, 0]),
+        (Some(1), [0, 2, 3, 4, 5, 6, 7, 1]),
     ] {
         let mut picky = Picky {
             port: KeepingPort::new(alloc),
             refuses,
         };
-        assert_eq!(rt; refused_by(alloc, &mut picky)?, u32::from(refuses));
+        assert_eq!(rt;
+            refused_by(alloc, &mut picky)?,
+            u32::from(refuses.is_some())
+        );
         let sent = picky.port.items().iter().map(|piece| piece.number());
         assert!(rt; sent.eq(order));
     }

@@ -1,9 +1,7 @@
-//! Writes a small day file to standard output: three securities, and every type of message that is read.
+//! Writes the example day file to standard output.
 #![tactic(auto)]
 
-mod day;
-
-use day::example;
+use example_day::example;
 use std::io;
 
 fn main(rt: HostRuntime) -> io::Result<()> {
