@@ -32,6 +32,14 @@ impl<A: Allocator> Text<A> {
     {
         self.bytes.as_slice()
     }
+
+    /// Gives the vector back, and takes no memory.
+    pub fn into_vec(self) -> Vec<u8, A>
+        ensures { result.items ≡ self }
+    {
+        let Text { bytes } = self;
+        bytes
+    }
 }
 
 /// What is wrong with a day file. A place is the offset of a frame's length, in bytes from the

@@ -62,7 +62,7 @@ fn told_by_plain(
     assert!(rt; bytes.len() as u64 <= LONGEST_FILE);
     let query = asked(rt, alloc, text)?;
     match plain(alloc, &DayFile::of_bytes(bytes), &query)? {
-        Answer::Printed(text) => Ok(Ok(Vec::from_slice(alloc, text.items())?)),
+        Answer::Printed(text) => Ok(Ok(text.into_vec())),
         Answer::Faulty(fault) => Ok(Err(fault)),
     }
 }

@@ -1,5 +1,5 @@
 -- The program's status, and what it does to its devices.
-use Rattle.std.specs.Prelude.{◌≡◌, ℕ, Bool, false, true, List, Result, Ok, Err, string_bytes, take}
+use Rattle.std.specs.Prelude.{◌≡◌, ◌∷◌, ◌++◌, [], ℕ, Bool, false, true, List, Result, Ok, Err, codes, string_bytes, take}
 use Rattle.executor.specs.Runs.{Ran, is_read_failed, is_write_failed}
 use Rattle.executor.specs.declared.running.RunFault.{RunFault}
 use Rattle.executor.specs.declared.running.RunFault.TheVariants as fault
@@ -42,20 +42,24 @@ module _ {L : Type 0} (Took : L → L → List ℕ → Type 0) (HasFlushed : L �
     pub whole : has_failed after ≡ false → Took before after text × HasFlushed after
     pub part : has_failed after ≡ true → (count : ℕ) × Took before after (take count text)
 
-  -- some line was delivered
+  -- the line of a fault was delivered: some text between `fault: ` and a line feed
   abbrev pub Told : Type 0
-  Told = (line : List ℕ) × Delivered line
+  Told = (text : List ℕ) × Delivered (codes "fault: " ++ text ++ 10 ∷ [])
 
 module _ {K L : Type 0}
     (OutTook : K → K → List ℕ → Type 0) (OutHasFlushed : K → Type 0) (out_failed : K → Bool)
     (Took : L → L → List ℕ → Type 0) (HasFlushed : L → Type 0) (has_failed : L → Bool)
     (out out_after : K) (errors errors_after : L) (status : ℕ) where
-  -- help is delivered to the output, and what is wrong to the errors, of which want of memory is a line; the other
-  -- device takes nothing
+  -- help is delivered to the output; where that fails, a line tells it, with the status of a failed write
+  pub record Helped (text : List ℕ) : Type 0 where
+    pub given : Delivered OutTook OutHasFlushed out_failed out out_after text
+    pub whole : out_failed out_after ≡ false → (status ≡ 0) × (errors_after ≡ errors)
+    pub part : out_failed out_after ≡ true → (status ≡ 5) × Told Took HasFlushed has_failed errors errors_after
+
+  -- help goes to the output, and what is wrong to the errors, of which want of memory is a line; the output takes
+  -- nothing but help
   abbrev pub Explained : WordsFault → Type 0
-  Explained (words.Help text) = (status ≡ 0)
-      × Delivered OutTook OutHasFlushed out_failed out out_after (string_bytes text)
-      × (errors_after ≡ errors)
+  Explained (words.Help text) = Helped (string_bytes text)
   Explained (words.Wrong text) = (status ≡ 2)
       × Delivered Took HasFlushed has_failed errors errors_after (string_bytes text)
       × (out_after ≡ out)

@@ -10,7 +10,7 @@ use executor::{Counted, CountedSink, Sink};
 use std::env;
 use std::fs::File;
 use std::process::ExitCode;
-use words::{Job, WordsFault, command};
+use words::{Job, WordsFault, command, reading_fault};
 use work::{explain, perform, perform_opened};
 
 /// The word for standard input in a file's place.
@@ -31,8 +31,9 @@ fn main(rt: HostRuntime) -> ExitCode {
 
 /// The job that the program's words ask for.
 fn job_of_words(rt: &HostRuntime) -> Result<Job, WordsFault> {
-    let Ok(given) = env::args(rt) else {
-        return Err(WordsFault::Memory);
+    let given = match env::args(rt) {
+        Ok(given) => given,
+        Err(error) => return Err(reading_fault(rt.alloc(), error.kind())),
     };
     let words: Vec<String> = given.collect(rt.alloc())?;
     command(rt.alloc(), words.as_slice())

@@ -1,4 +1,7 @@
-ghost use Rattle.std.specs.Prelude.{◌≡◌, false, IfErr, IfOk, List, [], map, string_bytes};
+ghost use Rattle.std.specs.Prelude.{◌≡◌, ◌∷◌, false, IfErr, IfOk, List, [], map, string_bytes};
+ghost use Rattle.std.specs.declared.io.ErrorKind.TheVariants.{OutOfMemory as RanOut};
+ghost use Rattle.clap.specs.Values.{kind_of};
+ghost use Rattle.clap.specs.declared.error.kind.ErrorKind.TheVariants.{InvalidValue};
 ghost use Rattle.clap.specs.Words.{FailsBy, HasKind, Kinds, app_of, fault_of, found_of};
 ghost use Rattle.clap.specs.Words.{matches_of, rows_of, rule_of};
 ghost use Rattle.itch_bars.specs.CommandLine.{file_rule, morsel_rule, query_rule, the_app};
@@ -9,6 +12,7 @@ use clap::error::ErrorKind;
 use clap::{Arg, ArgAction, ArgMatches, Command, Error, value_parser};
 use executor::{Crew, LONGEST_FILE, Settings};
 use std::alloc::{AllocError, Global};
+use std::io;
 
 /// What help says behind the options.
 const AFTER_HELP: &str = "\
@@ -19,10 +23,11 @@ Behind either, `where` and some of these, joined by `and`:
   symbol in MSFT,AAPL
   time from 09:30:00 until 16:00:00
   kind in E,C,P,Q    executions, executions with a price, trades, crosses
+As in: itch_bars day.itch \"bars 5 m where symbol in MSFT and kind in E,P\"
 
 The answer goes to standard output, and a fault to standard error as one line.
 Statuses: 0 answered, 1 the file has a fault, 2 wrong words or query, 3 out of memory,
-4 the file can't be read, 5 the answer can't be written";
+4 the file can't be read, 5 the output can't be written";
 
 /// What the command line asks for.
 #[derive(Debug, Drop)]
@@ -37,7 +42,7 @@ pub struct Job {
 /// Why there is no job.
 #[derive(Debug, Drop)]
 pub enum WordsFault {
-    /// Help was asked for: status 0.
+    /// Help was asked for: status 0, where it can be written.
     Help { text: String },
     /// The words are wrong: status 2.
     Wrong { text: String },
@@ -53,6 +58,29 @@ impl From<AllocError> for WordsFault {
     fn from(_error: AllocError) -> WordsFault {
         WordsFault::Memory
     }
+}
+
+/// What is told where the words themselves can't be read: that memory ran out, or else that one of
+/// them isn't UTF-8.
+pub fn reading_fault(alloc: Global, reading: io::ErrorKind) -> WordsFault
+    ensures memory { reading ≡ RanOut → result ≡ WordsFault.Memory }
+    ensures wrong { IsFaultOf (InvalidValue ∷ []) result }
+{
+    if reading == io::ErrorKind::OutOfMemory {
+        return WordsFault::Memory;
+    }
+    match not_utf8(alloc) {
+        Ok(error) => words_fault(alloc, &error),
+        Err(AllocError) => WordsFault::Memory,
+    }
+}
+
+/// The error of a word that isn't UTF-8.
+fn not_utf8(alloc: Global) -> Result<Error, AllocError>
+    ensures { IfOk result (λ error. kind_of error ≡ InvalidValue) }
+{
+    let mut command = command_line(alloc)?;
+    command.error(ErrorKind::InvalidValue, "a word is not valid UTF-8")
 }
 
 /// The job that the words of a command line ask for. The first word is the program's name.
@@ -124,7 +152,7 @@ fn workers_option<'a>(alloc: Global) -> Arg<'a>
         .action(ArgAction::Set)
         .value_parser(value_parser!(u32).range(1..=64))
         .default_value("4")
-        .help("Threads that work on the query, 1 to 64; no text depends on them")
+        .help("Threads that work on the query, 1 to 64; no answer depends on them")
 }
 
 /// The least size of a morsel.
@@ -138,7 +166,7 @@ fn morsel_option<'a>(alloc: Global) -> Arg<'a>
         .action(ArgAction::Set)
         .value_parser(value_parser!(u64).range(1..=1_073_741_824))
         .default_value("16777216")
-        .help("Least size of a piece of the file, 1 to 1073741824; no text depends on it")
+        .help("Least size of a piece of the file, 1 to 1073741824; no answer depends on it")
 }
 
 /// The job of what was matched.

@@ -3,11 +3,14 @@ ghost use Rattle.itch_bars.specs.Statuses.{Did, Explained, Told, status_of};
 
 use crate::words::{Job, WordsFault};
 use arrayvec::ArrayString;
-use executor::{RunFault, Sink, Source, deliver, run};
+use executor::{RunFault, Sink, Source, WriteFailed, deliver, run};
 use std::alloc::Allocator;
 use std::fmt::Write;
 
-/// The most bytes of a fault's line.
+/// The most bytes of a fault's text.
+const LONGEST_TEXT: usize = 120;
+
+/// The most bytes of its line.
 const LONGEST_LINE: usize = 128;
 
 /// The status of wrong words on the command line.
@@ -66,7 +69,8 @@ pub fn perform_opened<R, A: Allocator + Copy, S: Source + Drop, K: Sink, L: Sink
 }
 
 /// Tells why the words ask for no job: help on `out`, or what is wrong on `errors`. Gives the
-/// program's status. A text that can't be written doesn't change it.
+/// program's status. Help that can't be written is a failed write, which a line on `errors` tells; a
+/// text that `errors` can't take doesn't change the status.
 pub fn explain<K: Sink, L: Sink>(fault: &WordsFault, out: &mut K, errors: &mut L) -> u8
     requires out { K.has_failed out.old ≡ false }
     requires errors { L.has_failed errors.old ≡ false }
@@ -74,10 +78,10 @@ pub fn explain<K: Sink, L: Sink>(fault: &WordsFault, out: &mut K, errors: &mut L
         out.old out.new errors.old errors.new result fault.now }
 {
     match fault {
-        WordsFault::Help { text } => {
-            let _ = deliver(out, text.as_bytes());
-            0
-        }
+        WordsFault::Help { text } => match deliver(out, text.as_bytes()) {
+            Ok(()) => 0,
+            Err(WriteFailed { written }) => tell(&RunFault::WriteFailed { written }, errors),
+        },
         WordsFault::Wrong { text } => {
             let _ = deliver(errors, text.as_bytes());
             WRONG_WORDS
@@ -92,8 +96,12 @@ pub fn tell<L: Sink>(fault: &RunFault, errors: &mut L) -> u8
     ensures status { result ≡ status_of fault.now }
     ensures told { Told L.Took L.HasFlushed L.has_failed errors.old errors.new }
 {
+    let mut text = ArrayString::<LONGEST_TEXT>::new();
+    let _ = write!(text, "{fault}");
     let mut line = ArrayString::<LONGEST_LINE>::new();
-    let _ = write!(line, "fault: {fault}\n");
+    line.push_str("fault: ");
+    line.push_str(text.as_str());
+    line.push('\n');
     let _ = deliver(errors, line.as_str().as_bytes());
     status(fault)
 }

@@ -3,7 +3,7 @@ ghost use Rattle.std.specs.Prelude.{◌≡◌, ◌≤◌, false};
 
 use super::{DAY, job};
 use crate::words::WordsFault;
-use crate::work::{explain, perform_opened, tell};
+use crate::work::{explain, perform, perform_opened, tell};
 use executor::{Counted, CountedSink, DayFault, LONGEST_FILE, RunFault};
 use std::io::{self, Write};
 use std::test::Fail;
@@ -26,6 +26,26 @@ impl Write for Narrow {
 
     fn flush(&mut self) -> io::Result<()> {
         self.is_flushed = true;
+        Ok(())
+    }
+}
+
+/// A writer that takes two bytes, and no more.
+#[derive(Drop)]
+struct Full {
+    taken: Vec<u8>,
+}
+
+impl Write for Full {
+    fn write(&mut self, bytes: &[u8]) -> io::Result<usize> {
+        let count = bytes.len().min(2 - self.taken.len().min(2));
+        match self.taken.extend_from_slice(&bytes[..count]) {
+            Ok(()) => Ok(count),
+            Err(_) => Err(io::Error::from(io::ErrorKind::OutOfMemory)),
+        }
+    }
+
+    fn flush(&mut self) -> io::Result<()> {
         Ok(())
     }
 }
@@ -72,6 +92,40 @@ fn faults_of_words(rt: HostRuntime) -> Result<(), Fail> {
         );
         assert_eq!(rt; given, status);
         assert!(rt; out.as_slice() == text.as_bytes());
+        assert!(rt; errors.as_slice() == line.as_bytes());
+    }
+    Ok(())
+}
+
+#[test]
+fn outputs_that_are_full(rt: HostRuntime) -> Result<(), Fail> {
+    let alloc = rt.alloc();
+    let help = WordsFault::Help {
+        text: String::from_str(alloc, "tips")?,
+    };
+    let job = job(alloc, "sales", LONGEST_FILE)?;
+    for is_help in [true, false] {
+        let mut errors = Vec::new(alloc);
+        let mut full = Full {
+            taken: Vec::new(alloc),
+        };
+        let mut out = CountedSink::of(&mut full);
+        let mut lines = CountedSink::of(&mut errors);
+        let status = if is_help {
+            explain(&help, &mut out, &mut lines)
+        } else {
+            perform(
+                &rt,
+                alloc,
+                &job,
+                &mut Counted::of(DAY),
+                &mut out,
+                &mut lines,
+            )
+        };
+        assert_eq!(rt; status, 5);
+        assert!(rt; full.taken.as_slice() == "ti".as_bytes());
+        let line = "fault: writing failed after 2 bytes\n";
         assert!(rt; errors.as_slice() == line.as_bytes());
     }
     Ok(())

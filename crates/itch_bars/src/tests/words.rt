@@ -1,8 +1,9 @@
 //! The words of the command line.
-use crate::words::{Job, WordsFault, command};
+use crate::words::{Job, WordsFault, command, reading_fault};
 use crate::work::explain;
 use executor::CountedSink;
 use std::alloc::{AllocError, Global};
+use std::io::ErrorKind;
 use std::str;
 use std::test::Fail;
 
@@ -80,6 +81,18 @@ fn wrong_words(rt: HostRuntime) -> Result<(), Fail> {
 }
 
 #[test]
+fn words_that_cannot_be_read(rt: HostRuntime) -> Result<(), Fail> {
+    let alloc = rt.alloc();
+    let wanting = reading_fault(alloc, ErrorKind::OutOfMemory);
+    assert!(rt; matches!(wanting, WordsFault::Memory));
+    let WordsFault::Wrong { text } = reading_fault(alloc, ErrorKind::InvalidData) else {
+        return Err(Fail::from("no wrong word"));
+    };
+    assert!(rt; text.starts_with("error: a word is not valid UTF-8\n\nUsage: itch_bars"));
+    Ok(())
+}
+
+#[test]
 fn help_is_asked_for(rt: HostRuntime) -> Result<(), Fail> {
     let Err(help) = told(rt.alloc(), &["itch_bars", "--help"])? else {
         return Err(Fail::from("a job"));
@@ -97,6 +110,7 @@ fn help_is_asked_for(rt: HostRuntime) -> Result<(), Fail> {
         "symbol in MSFT,AAPL",
         "time from 09:30:00 until 16:00:00",
         "kind in E,C,P,Q",
+        "itch_bars day.itch \"bars 5 m where symbol in MSFT and kind in E,P\"",
         "Statuses: 0 answered",
     ] {
         assert!(rt; text.contains(part), "{part}");
