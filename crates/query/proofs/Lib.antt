@@ -6,3 +6,4 @@ pub mod KindLists
 pub mod Writings
 pub mod Spellings
 pub mod Listings
+pub mod SortedNames

@@ -1,6 +1,9 @@
 -- Locates that are listed one by one.
-use Rattle.std.proofs.Common.{◌≡◌, ℕ, ◌+◌, ◌<◌, ◌≤◌, Bool, true, false, cond, ◌||◌, List, [], ◌∷◌, ◌++◌, refl, sym, ap, ◌∙◌, subst, arith, nat_lt, eqb}
+use Rattle.std.proofs.Common.{◌≡◌, ℕ, ◌+◌, ◌<◌, ◌≤◌, Bool, true, false, cond, ◌||◌, List, [], ◌∷◌, ◌++◌, refl, sym, ap, ◌∙◌, subst, arith, nat_lt, eqb, IsPermutation}
 use Rattle.std.proofs.lemmas.Bool.{lt-ltb, le-ltb, ltb-true, ltb-false, eqb-true, eqb-false}
+use Rattle.std.proofs.lemmas.List.Sorted.{list_any-IsPermutation}
+use Rattle.std.specs.List.{list_any}
+use Rattle.std.specs.Str.{bytes_eq}
 use Rattle.broken_trades.specs.Among.{is_among}
 
 -- the numbers below i that pass a test
@@ -63,3 +66,8 @@ pub all_listed : (rows : List ℕ) (i : ℕ) (test : ℕ → Bool) → AreBelow 
 all_listed rows i test before k below = before k ∙ ap (λ b. cond b (test k) false) (lt-ltb k i below)
 
 pub ruleset listing = (listed_more, listed_less, all_listed)
+
+-- a name is among the symbols where it is among them in another order
+pub same_symbols : (symbols sorted : List (List ℕ)) (shown name : List ℕ) (b : Bool) → IsPermutation symbols sorted → shown ≡ name → b ≡ list_any (λ symbol. bytes_eq symbol shown) sorted → b ≡ list_any (λ symbol. bytes_eq symbol name) symbols
+same_symbols symbols sorted shown name b moved same found =
+    subst (λ n. b ≡ list_any (λ symbol. bytes_eq symbol n) symbols) same (found ∙ sym (list_any-IsPermutation (λ symbol. bytes_eq symbol shown) symbols sorted moved))

@@ -11,6 +11,7 @@ mod parser;
 pub mod query;
 mod reading;
 mod select;
+mod sorted;
 pub mod symbols;
 mod values;
 mod words;

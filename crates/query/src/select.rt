@@ -7,6 +7,7 @@ ghost use Rattle.time_and_sales.specs.Names.{last_row, name_text};
 
 use crate::OutOfMemory;
 use crate::query::Query;
+use crate::sorted::SortedSymbols;
 use crate::symbols::Symbols;
 use probe::{LocateList, Locates, Selection};
 use std::alloc::Allocator;
@@ -14,7 +15,7 @@ use time_and_sales::Names;
 
 /// The selection of a query: the locates, of 0 to 65,535, whose names the query lists, its span
 /// and its kinds. Where it lists no symbol every locate is selected, and no memory is taken.
-pub fn selection<A: Allocator, B: Allocator, C: Allocator + Clone>(
+pub fn selection<A: Allocator + Clone, B: Allocator, C: Allocator + Clone>(
     alloc: A,
     query: &Query<B>,
     names: &Names<C>,
@@ -40,7 +41,7 @@ pub fn selection<A: Allocator, B: Allocator, C: Allocator + Clone>(
 const LOCATES: u32 = 65_536;
 
 #[tactic(auto, using(crate::proofs::Listings::listing))]
-fn listed<A: Allocator, B: Allocator, C: Allocator + Clone>(
+fn listed<A: Allocator + Clone, B: Allocator, C: Allocator + Clone>(
     alloc: A,
     symbols: &Symbols<B>,
     names: &Names<C>,
@@ -48,10 +49,11 @@ fn listed<A: Allocator, B: Allocator, C: Allocator + Clone>(
     ensures { IfOk result (λ rows. (locate : ℕ) → locate < 2 ^ 16 → is_among rows.items locate
         ≡ has_name (Some symbols.now) (name_text locate (last_row names.now locate))) }
 {
+    let sorted = SortedSymbols::of(alloc.clone()?, symbols)?;
     let mut rows = Vec::new(alloc);
     for number in 0..LOCATES {
         let locate = number as u16;
-        if symbols.hold(names.name(locate).items()) {
+        if sorted.hold(names.name(locate).items()) {
             rows.push(locate)?;
         }
     }

@@ -1,7 +1,6 @@
 //! The symbols that a query lists.
 ghost use Rattle.std.specs.Prelude.{◌≡◌, ◌≤◌, ◌+◌, length, true, false, IfOk, IfSome, MatchOption, vec_len, List, ℕ};
-ghost use Rattle.std.specs.List.{list_all, list_any};
-ghost use Rattle.std.specs.Str.{bytes_eq};
+ghost use Rattle.std.specs.List.{list_all};
 ghost use Rattle.query.specs.Meaning.{are_symbols};
 ghost use Rattle.query.specs.Values.{is_symbol, is_symbol_byte, symbols_of};
 
@@ -103,16 +102,10 @@ impl<A: Allocator> Symbols<A> {
         self.items.as_slice()
     }
 
-    /// Whether a name is among the symbols.
-    pub fn hold(&self, name: &[u8]) -> bool
-        ensures { result ≡ list_any (λ symbol. bytes_eq symbol name.now) self.now }
+    /// Gives the vector back, and takes no memory.
+    pub fn into_vec(self) -> Vec<Symbol, A>
+        ensures { result.items ≡ self }
     {
-        are_among(&self.items, name)
+        self.items
     }
-}
-
-fn are_among(symbols: &[Symbol], name: &[u8]) -> bool
-    ensures { result ≡ list_any (λ symbol. bytes_eq symbol name.now) symbols.now }
-{
-    symbols.iter().any(|symbol| symbol.as_slice() == name)
 }
