@@ -50,6 +50,16 @@ impl<A: Allocator> BarTable<A> {
     {
         self.bars.as_slice()
     }
+
+    /// Gives the vector back, and takes no memory.
+    pub fn into_vec(self) -> Vec<Bar, A>
+        ensures value { result.items ≡ self }
+        ensures by_key { IsByKey result.items }
+        ensures traded { All IsTraded result.items }
+    {
+        let BarTable { bars } = self;
+        bars
+    }
 }
 
 impl<A: Allocator + Clone> BarTable<A> {

@@ -71,6 +71,15 @@ impl<A: Allocator> Breaks<A> {
     {
         self.numbers.as_slice()
     }
+
+    /// Gives the vector back, and takes no memory.
+    pub fn into_vec(self) -> Vec<u64, A>
+        ensures value { result.items ≡ self }
+        ensures rising { IsStrictlyIncreasing result.items }
+    {
+        let Breaks { numbers } = self;
+        numbers
+    }
 }
 
 /// Breaks are equal where they have the same numbers.

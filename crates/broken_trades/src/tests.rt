@@ -12,6 +12,7 @@ fn a_repeated_break_stands_once(rt: HostRuntime) -> Result<(), Fail> {
     breaks.unite(&Breaks::from_rows(vec![in rt.alloc(); 4]?))?;
     assert_eq!(rt; breaks.items(), [3, 4, 9].as_slice());
     assert_eq!(rt; breaks, Breaks::from_rows(vec![in rt.alloc(); 9, 4, 4, 3]?));
+    assert_eq!(rt; breaks.into_vec().as_slice(), [3, 4, 9].as_slice());
     Ok(())
 }
 

@@ -22,7 +22,7 @@ pub use reading::{ReadFault, read_day};
 pub use source::{DeviceFailed, Source};
 pub use truncated::{Truncated, check};
 
-/// A refused growth, number 90.
+/// A vector found no memory to grow in.
 pub type OutOfMemory = std::alloc::AllocError;
 
 /// The most bytes that a day file has: 2 to the 36th.

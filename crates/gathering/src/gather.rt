@@ -49,13 +49,13 @@ pub enum Filed {
     Again,
 }
 
-/// A piece of other work, refused by `file` (30).
+/// A piece of other work, refused by `file`.
 #[derive(Drop)]
 pub struct Stranger<W: Work> {
     pub piece: Piece<W>,
 }
 
-/// A gathering over other inputs, refused by `merge` (31).
+/// A gathering over other inputs, refused by `merge`.
 #[derive(Drop)]
 pub struct OtherInputs<W: Work, A: Allocator = Global> {
     pub other: Gathering<W, A>,
@@ -64,9 +64,9 @@ pub struct OtherInputs<W: Work, A: Allocator = Global> {
 /// Why there is no total.
 #[derive(Drop)]
 pub enum TotalRefused<W: Work, A: Allocator = Global> {
-    /// A task is missing (32).
+    /// A task is missing.
     Missing { gathering: Gathering<W, A> },
-    /// No task is missing, and a growth was refused (90).
+    /// No task is missing, and a growth was refused.
     Memory { gathering: Gathering<W, A> },
 }
 

@@ -1,9 +1,8 @@
 //! Pieces of work, gathered in any order into one total.
 //!
 //! A task is run on one input, and gives a piece. A gathering takes pieces as they come, repeated or not, and is merged
-//! with others over the same inputs. Once each task is covered it gives the total of all inputs, in order. Refusals
-//! have numbers: 30 for a piece of other work, 31 for a gathering over other inputs, 32 for a task that is missing,
-//! and 90 for want of memory.
+//! with others over the same inputs. Once each task is covered it gives the total of all inputs, in order. It refuses a
+//! piece of other work, a gathering over other inputs, and a total where a task is missing or memory runs out.
 #![tactic(auto)]
 
 pub mod gather;

@@ -2,8 +2,8 @@
 ghost use Rattle.std.specs.Prelude.{◌≡◌};
 ghost use Rattle.itch_messages.specs.Layout.{length_of};
 
-/// Refusal 1: a body's first byte is a type that is read, and its length is not that type's. Both
-/// lengths are in bytes.
+/// Why a body is not read: its first byte, `kind`, is a type that is read, and its `length` is not
+/// the one that is `wanted` of that type. Both lengths are in bytes.
 #[derive(Clone, Copy, Debug, PartialEq, Eq)]
 pub struct LengthFault {
     pub kind: u8,

@@ -12,7 +12,7 @@ use crate::message::{
 };
 use std::alloc::{AllocError, Allocator};
 
-/// Refusal 90: a growth was refused.
+/// Why `append` refuses: the vector found no memory to grow in.
 pub type OutOfMemory = AllocError;
 
 /// The type's byte and the header.
