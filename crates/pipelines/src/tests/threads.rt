@@ -20,16 +20,15 @@ enum Held {
     UntilTheSecondPipeline,
 }
 
-/// Counts the runs by their rounds, and holds some.
+/// Holds some runs.
 #[derive(Drop)]
 struct Warden {
     held: Held,
     begun: [AtomicBool; 4],
     second_pipeline: AtomicBool,
     done: [AtomicBool; 2],
-    /// How many runs were begun when a pipeline was done.
-    runs_when_done: [AtomicU64; 2],
-    rounds: [AtomicU64; 3],
+    /// Whether a run of the caller's own was told.
+    is_run_by_caller: AtomicBool,
     gave_up: AtomicBool,
 }
 
@@ -45,34 +44,21 @@ impl Warden {
             ],
             second_pipeline: AtomicBool::new(false),
             done: [AtomicBool::new(false), AtomicBool::new(false)],
-            runs_when_done: [AtomicU64::new(0), AtomicU64::new(0)],
-            rounds: [AtomicU64::new(0), AtomicU64::new(0), AtomicU64::new(0)],
+            is_run_by_caller: AtomicBool::new(false),
             gave_up: AtomicBool::new(false),
         }
-    }
-
-    fn count(&self, round: usize) -> u64
-        requires { round < 3 }
-    {
-        self.rounds[round].load(Ordering::SeqCst)
-    }
-
-    fn runs_when_done(&self) -> [u64; 2] {
-        let [first, second] = &self.runs_when_done;
-        [first.load(Ordering::SeqCst), second.load(Ordering::SeqCst)]
     }
 }
 
 impl Gate for Warden {
     fn before(&self, pipeline: u8, task: u32, round: u8) {
-        if pipeline < 1 || pipeline > 2 || round > 2 {
-            return;
-        }
-        self.rounds[round as usize].fetch_add(1, Ordering::SeqCst);
         if pipeline == 2 {
             self.second_pipeline.store(true, Ordering::SeqCst);
         }
-        if task > 1 {
+        if round == 2 {
+            self.is_run_by_caller.store(true, Ordering::SeqCst);
+        }
+        if pipeline < 1 || pipeline > 2 || task > 1 {
             return;
         }
         let first = 2 * (pipeline as usize - 1);
@@ -93,12 +79,7 @@ impl Gate for Warden {
 
     fn done(&self, pipeline: u8) {
         if pipeline == 1 || pipeline == 2 {
-            let own = pipeline as usize - 1;
-            for round in &self.rounds {
-                let runs = round.load(Ordering::SeqCst);
-                self.runs_when_done[own].fetch_add(runs, Ordering::SeqCst);
-            }
-            self.done[own].store(true, Ordering::SeqCst);
+            self.done[pipeline as usize - 1].store(true, Ordering::SeqCst);
         }
     }
 }
@@ -157,16 +138,87 @@ fn every_crew_gives_one_answer(rt: HostRuntime) -> Result<(), Fail> {
     Ok(())
 }
 
+/// Notes what is told of each run, where one worker makes them one after the other.
+#[derive(Drop)]
+struct Ledger {
+    watch: Arc<Watch, Global>,
+    /// How often a run was told, by its pipeline, its round and its task.
+    told: Vec<AtomicU64>,
+    all: AtomicU64,
+    all_when_done: [AtomicU64; 2],
+    /// A run was told that is none of these, or was made before it was told.
+    is_wrong: AtomicBool,
+}
+
+/// Where a run is noted.
+fn place_of(pipeline: u8, round: u8, task: u32) -> usize {
+    24 * pipeline as usize + 8 * round as usize + task as usize
+}
+
+impl Ledger {
+    fn new(alloc: Global, watch: &Arc<Watch, Global>) -> Result<Self, OutOfMemory> {
+        let mut told = Vec::new(alloc);
+        for _ in 0..72 {
+            told.push(AtomicU64::new(0))?;
+        }
+        Ok(Ledger {
+            watch: Arc::try_clone(watch)?,
+            told,
+            all: AtomicU64::new(0),
+            all_when_done: [AtomicU64::new(0), AtomicU64::new(0)],
+            is_wrong: AtomicBool::new(false),
+        })
+    }
+
+    /// How often each task was told in a round.
+    fn tasks(&self, pipeline: u8, round: u8) -> [u64; 8] {
+        let mut tasks = [0; 8];
+        for (task, count) in tasks.iter_mut().enumerate() {
+            if let Some(told) = self.told.get(place_of(pipeline, round, task as u32)) {
+                *count = told.load(Ordering::SeqCst);
+            }
+        }
+        tasks
+    }
+
+    fn all_when_done(&self) -> [u64; 2] {
+        let [first, second] = &self.all_when_done;
+        [first.load(Ordering::SeqCst), second.load(Ordering::SeqCst)]
+    }
+}
+
+impl Gate for Ledger {
+    fn before(&self, pipeline: u8, task: u32, round: u8) {
+        let earlier = self.all.fetch_add(1, Ordering::SeqCst);
+        let is_one_of_these = (1..=2).contains(&pipeline) && task < 8 && round < 3;
+        match self.told.get(place_of(pipeline, round, task)) {
+            Some(told) if is_one_of_these && self.watch.runs.load(Ordering::SeqCst) == earlier => {
+                told.fetch_add(1, Ordering::SeqCst);
+            }
+            _ => self.is_wrong.store(true, Ordering::SeqCst),
+        }
+    }
+
+    fn done(&self, pipeline: u8) {
+        if pipeline == 1 || pipeline == 2 {
+            let all = self.all.load(Ordering::SeqCst);
+            self.all_when_done[pipeline as usize - 1].store(all, Ordering::SeqCst);
+        }
+    }
+}
+
 #[test]
 fn marked_tasks_are_passed_over(rt: HostRuntime) -> Result<(), Fail> {
     let alloc = rt.alloc();
     let watch = Watch::shared(alloc, 0..0, false)?;
-    let gate = Warden::new(Held::NotAtAll);
+    let gate = Ledger::new(alloc, &watch)?;
     let second = Arc::try_clone(&watch)?;
     let _ = outcome(&rt, alloc, &watch, second, &NUMBERS, false, 1, &gate)?;
-    assert_eq!(rt; (gate.count(0), gate.count(1), gate.count(2)), (10, 0, 0));
+    assert!(rt; !gate.is_wrong.load(Ordering::SeqCst));
+    assert_eq!(rt; gate.tasks(1, 0), [1; 8]);
+    assert_eq!(rt; gate.tasks(2, 0), [1, 1, 0, 0, 0, 0, 0, 0]);
+    assert_eq!(rt; gate.all_when_done(), [8, 10]);
     assert_eq!(rt; watch.runs.load(Ordering::SeqCst), 10);
-    assert_eq!(rt; gate.runs_when_done(), [8, 10]);
     Ok(())
 }
 
@@ -184,7 +236,8 @@ fn finishes_when<R: Threads + Wait + Sync>(
         Outcome::Finished { total, kept } => total == 3 && kept == 255,
         Outcome::Stopped { stop: _ } => false,
     };
-    Ok(finished && gate.count(2) == 0 && !gate.gave_up.load(Ordering::SeqCst))
+    let is_run_by_caller = gate.is_run_by_caller.load(Ordering::SeqCst);
+    Ok(finished && !is_run_by_caller && !gate.gave_up.load(Ordering::SeqCst))
 }
 
 #[test]
@@ -224,17 +277,20 @@ fn runs_at_once(rt: HostRuntime) -> Result<(), Fail> {
 fn lost_pieces_are_run_again(rt: HostRuntime) -> Result<(), Fail> {
     let alloc = rt.alloc();
     // One worker runs each of four tasks twice. The caller's own runs come after those eight.
-    for (refuses, answers) in [(8, true), (9, false)] {
+    let each = [1, 1, 1, 1, 0, 0, 0, 0];
+    let first = [1, 0, 0, 0, 0, 0, 0, 0];
+    for (refuses, answers, by_caller) in [(8, true, each), (9, false, first)] {
         let watch = Watch::shared(alloc, 0..refuses, false)?;
-        let gate = Warden::new(Held::NotAtAll);
+        let gate = Ledger::new(alloc, &watch)?;
         let second = Arc::try_clone(&watch)?;
         match outcome(&rt, alloc, &watch, second, &NUMBERS[..4], true, 1, &gate) {
             Ok(Outcome::Stopped { stop }) => assert_eq!(rt; (stop, answers), (15, true)),
             Ok(Outcome::Finished { total: _, kept: _ }) => assert!(rt; false),
             Err(_) => assert!(rt; !answers),
         }
-        assert_eq!(rt; (gate.count(0), gate.count(1)), (4, 4));
-        assert_eq!(rt; gate.count(2), if answers { 4 } else { 1 });
+        assert!(rt; !gate.is_wrong.load(Ordering::SeqCst));
+        assert_eq!(rt; (gate.tasks(1, 0), gate.tasks(1, 1)), (each, each));
+        assert_eq!(rt; gate.tasks(1, 2), by_caller);
     }
     Ok(())
 }
