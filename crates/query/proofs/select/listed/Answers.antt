@@ -1,8 +1,9 @@
-use Rattle.std.proofs.Common.{◌≡◌, ◌∙◌, ◌+◌, ℕ, sym, subst}
+use Rattle.std.proofs.Common.{◌≡◌, ◌∙◌, ℕ, ap, sym}
 use Rattle.std.specs.Prelude.{Some}
 use Rattle.time_and_sales.specs.Names.{last_row, name_text}
+use Rattle.broken_trades.specs.Among.{is_among}
 use Rattle.query.specs.Selected.{has_name}
-use Rattle.query.proofs.Listings.{AreBelow, listed_less, listed_more, same_symbols}
+use Rattle.query.proofs.Listings.{listed_less, listed_more, same_symbols}
 use Rattle.query.proofs.select.listed.Goals as goal
 use Rattle.query.proofs.select.listed.Goals.{then-hold+in_ok-push, else-hold}
 
@@ -14,11 +15,10 @@ loop-number-preserved g c =
     let name : c.items.result.now ≡ text number = ◌∙◌ {c = text number} c.items.ensures.value c.name.ensures in
     let same : c.hold.result ≡ test number = same_symbols c.args.symbols.now c.in_ok-sorted.sorted c.items.result.now (text number) c.hold.result c.in_ok-sorted.ensures name c.hold.ensures in
     elim c.if-hold.branch [
-      | then-hold+in_ok-push w ↦
-          let more : AreBelow w.push.new.self.items (number + 1) test = subst (λ l. AreBelow l (number + 1) test) (sym w.in_ok-push.ensures.items)
-          (listed_more c.loop-number.rows.items number test c.loop-number.invariant (sym same ∙ w.if-hold.true)) in
-          subst (λ rows. AreBelow rows.items (number + 1) test) (sym w.rows-is) more
-      | else-hold w ↦
-          subst (λ rows. AreBelow rows.items (number + 1) test) (sym w.rows-is)
-          (listed_less c.loop-number.rows.items number test c.loop-number.invariant (sym same ∙ w.if-hold.false))
+      | then-hold+in_ok-push w ↦ λ k.
+          ap (λ rows. is_among rows.items k) w.rows-is ∙ ap (λ l. is_among l k) w.in_ok-push.ensures.items
+          ∙ listed_more c.loop-number.rows.items number test c.loop-number.invariant (sym same ∙ w.if-hold.true) k
+      | else-hold w ↦ λ k.
+          ap (λ rows. is_among rows.items k) w.rows-is
+          ∙ listed_less c.loop-number.rows.items number test c.loop-number.invariant (sym same ∙ w.if-hold.false) k
     ]
