@@ -218,6 +218,7 @@ fn marked_tasks_are_passed_over(rt: HostRuntime) -> Result<(), Fail> {
     assert_eq!(rt; gate.tasks(1, 0), [1; 8]);
     assert_eq!(rt; gate.tasks(2, 0), [1, 1, 0, 0, 0, 0, 0, 0]);
     assert_eq!(rt; gate.all_when_done(), [8, 10]);
+    assert_eq!(rt; gate.all.load(Ordering::SeqCst), 10);
     assert_eq!(rt; watch.runs.load(Ordering::SeqCst), 10);
     Ok(())
 }
@@ -291,6 +292,10 @@ fn lost_pieces_are_run_again(rt: HostRuntime) -> Result<(), Fail> {
         assert!(rt; !gate.is_wrong.load(Ordering::SeqCst));
         assert_eq!(rt; (gate.tasks(1, 0), gate.tasks(1, 1)), (each, each));
         assert_eq!(rt; gate.tasks(1, 2), by_caller);
+        assert_eq!(rt;
+            gate.all.load(Ordering::SeqCst),
+            if answers { 12 } else { 9 }
+        );
     }
     Ok(())
 }
