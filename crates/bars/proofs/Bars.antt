@@ -10,12 +10,12 @@ use Rattle.std.proofs.lemmas.List.Sums.{sum_by-append}
 use Rattle.std.proofs.lemmas.List.Elements.{filter-append, All-from_recursion, All-contains}
 use Rattle.std.proofs.lemmas.List.Sorted.{length_permutation, sum_by-IsPermutation}
 use Rattle.std.proofs.lemmas.Map.Keys.{sorted_head, sorted_tail}
-use Rattle.order_table.specs.Least.{least_of, greatest_of, TellsApart}
+use Rattle.lists.specs.Least.{least_of, greatest_of, TellsApart}
 use Rattle.probe.specs.declared.rows.Sale.{Sale}
 use Rattle.bars.specs.Bars.{Key, Bar, has_key, bar_of, key_cmp, found, AreBarsOf, joined, IsMergeOf}
-use Rattle.order_table.proofs.Lists.{IsPermutation-filter}
-use Rattle.order_table.proofs.Least.{best_of-append, lesser_ranks, greater_ranks, least_of-permutation, greatest_of-permutation, least_of_apart, greatest_of_apart}
-use Rattle.order_table.proofs.Order.{Contains_cons, Contains_head, Contains_later, TellsApart-filter, same_from_items}
+use Rattle.lists.proofs.Lists.{IsPermutation-filter}
+use Rattle.lists.proofs.Least.{best_of-append, lesser_ranks, greater_ranks, least_of-permutation, greatest_of-permutation, least_of_apart, greatest_of_apart}
+use Rattle.lists.proofs.Order.{Contains_cons, Contains_head, Contains_later, TellsApart-filter, same_from_items}
 
 number_of_lesser : (number : Sale → ℕ) (a b : Sale) → number (cond (ltb (number b) (number a)) b a) ≡ min (number a) (number b)
 number_of_lesser number a b =

@@ -4,7 +4,7 @@ use Rattle.std.specs.Prelude.{cond, List, [], ◌∷◌, length, Option, Some, N
 use Rattle.std.specs.Ordering.{nat_cmp, ordering_then}
 use Rattle.std.specs.declared.cmp.Ordering.{Ordering}
 use Rattle.std.specs.List.Sorted.{IsStrictlySortedBy}
-use Rattle.order_table.specs.Least.{least_of, greatest_of}
+use Rattle.lists.specs.Least.{least_of, greatest_of}
 use Rattle.probe.specs.declared.rows.Sale.{Sale}
 pub use Rattle.bars.specs.declared.bar.Bar.{Bar}
 

@@ -3,7 +3,7 @@ ghost use Rattle.std.specs.Prelude.{◌≡◌, ℕ, [], List, OnErr, OnOk, nat_e
 ghost use Rattle.std.specs.Cmp.{partial_equiv_from_equiv};
 ghost use Rattle.std.specs.Cmp.Lexicographic.{nat_list_eq_equiv, pointwise};
 ghost use Rattle.std.specs.List.Sorted.{IsStrictlyIncreasing};
-ghost use Rattle.broken_trades.specs.Among.{HasNumbersOf, IsUnion, is_among};
+ghost use Rattle.lists.specs.Among.{HasNumbersOf, IsUnion, is_among};
 
 use crate::OutOfMemory;
 use std::alloc::{Allocator, Global};

@@ -7,9 +7,7 @@
 pub mod breaks;
 
 pub use breaks::Breaks;
-
-/// Why a call refused: a growth found no memory.
-pub type OutOfMemory = std::alloc::AllocError;
+pub use lists::OutOfMemory;
 
 #[cfg(test)]
 mod tests;

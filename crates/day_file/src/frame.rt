@@ -27,7 +27,7 @@ pub struct Frames<'a> {
 
 impl<'a> Model for Frames<'a> {
     ghost use Rattle.std.specs.Prelude.{List, ◌+◌, ◌≤◌, length};
-    ghost use Rattle.day_file.specs.declared.TheConstants.{LONGEST_FILE};
+    ghost use Rattle.lists.specs.declared.limits.TheConstants.{LONGEST_FILE};
     ghost use Rattle.day_file.specs.Frames.{PlacedBody};
     ghost use Rattle.day_file.specs.Walk.{walk};
 

@@ -22,8 +22,5 @@ pub use reading::{ReadFault, read_day};
 pub use source::{DeviceFailed, Source};
 pub use truncated::{Truncated, check};
 
-/// A vector found no memory to grow in.
-pub type OutOfMemory = std::alloc::AllocError;
-
-/// The most bytes that a day file has: 2 to the 36th.
-pub const LONGEST_FILE: u64 = 68_719_476_736;
+pub use lists::OutOfMemory;
+pub use lists::limits::LONGEST_FILE;

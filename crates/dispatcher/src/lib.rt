@@ -5,8 +5,6 @@
 //! `claim`, `mark` and `is_marked` are one atomic step each: they take no memory and wait for nobody.
 #![tactic(auto)]
 
-use std::alloc::AllocError;
-
 mod claim;
 mod dispatcher;
 mod rule;
@@ -18,8 +16,7 @@ pub use dispatcher::Dispatcher;
 pub use seat::Seat;
 pub use tally::{Marks, SettleRefused, Tally};
 
-/// There was no memory.
-pub type OutOfMemory = AllocError;
+pub use lists::OutOfMemory;
 
 #[cfg(test)]
 mod tests;

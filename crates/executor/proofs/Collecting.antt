@@ -10,7 +10,7 @@ use Rattle.itch_messages.specs.Body.{message_of, has_wrong_length}
 use Rattle.itch_messages.specs.declared.message.Message.{Message}
 use Rattle.itch_messages.specs.declared.message.Message.TheVariants.{Add, Executed, ExecutedAt, Replace, Trade, Cross, Broken, Directory, Skipped}
 use Rattle.day_file.specs.Frames.{PlacedBody}
-use Rattle.order_table.specs.Least.{least_by}
+use Rattle.lists.specs.Least.{least_by}
 use Rattle.executor.specs.Messages.{Placed, placed_at, messages_of, first_wrong, order_row_at, execution_at, own_priced_at, break_of, directory_row_at}
 use Rattle.executor.specs.Rows.{Adds, AreRowsOf, FitRows}
 use Rattle.executor.specs.declared.rows.Rows.{Rows}

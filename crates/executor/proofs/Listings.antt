@@ -6,7 +6,7 @@ use Rattle.std.proofs.lemmas.List.{append-nil, append_assoc, length-append, take
 use Rattle.std.proofs.lemmas.List.Concat.{flat_map-append}
 use Rattle.std.proofs.lemmas.List.Elements.{recursion_from_All}
 use Rattle.std.proofs.lemmas.List.Sorted.{All-permutation, length_permutation}
-use Rattle.broken_trades.specs.Among.{is_among}
+use Rattle.lists.specs.Among.{is_among}
 use Rattle.day_file.specs.Frames.{PlacedBody, StandsFor}
 use Rattle.order_table.specs.Orders.{first_repeated}
 use Rattle.order_table.specs.declared.row.OrderRow.{OrderRow}

@@ -12,8 +12,8 @@ use Rattle.std.proofs.lemmas.List.Sorted.{All-permutation, IsPermutation-map, Is
 use Rattle.itch_messages.specs.declared.message.Message.{Message}
 use Rattle.itch_messages.specs.declared.message.Message.TheVariants.{Add, Executed, ExecutedAt, Replace, Trade, Cross, Broken, Directory, Skipped}
 use Rattle.order_table.specs.declared.row.OrderRow.{OrderRow}
-use Rattle.order_table.proofs.Lists.{filter_map_as_flat_map, filter_map-flat_map, IsPermutation-filter, IsPermutation-both}
-use Rattle.order_table.proofs.Order.{same_from_permutation, sorted-filter_map}
+use Rattle.lists.proofs.Lists.{filter_map_as_flat_map, filter_map-flat_map, IsPermutation-filter, IsPermutation-both}
+use Rattle.lists.proofs.Order.{same_from_permutation, sorted-filter_map}
 use Rattle.probe.specs.declared.rows.Execution.{Execution}
 use Rattle.probe.specs.declared.rows.Sale.{Sale}
 use Rattle.probe.specs.Pricing.{price_of, sale_at, sale_of, priced}

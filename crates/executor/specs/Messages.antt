@@ -4,7 +4,7 @@ use Rattle.itch_messages.specs.Body.{message_of, has_wrong_length}
 use Rattle.itch_messages.specs.declared.message.Message.{Message}
 use Rattle.itch_messages.specs.declared.message.Message.TheVariants.{Add, Executed, ExecutedAt, Replace, Trade, Cross, Broken, Directory, Skipped}
 use Rattle.day_file.specs.Frames.{PlacedBody}
-use Rattle.order_table.specs.Least.{least_by}
+use Rattle.lists.specs.Least.{least_by}
 use Rattle.order_table.specs.declared.row.OrderRow.{OrderRow}
 use Rattle.probe.specs.declared.rows.Execution.{Execution}
 use Rattle.probe.specs.declared.rows.Sale.{Sale}

@@ -20,5 +20,4 @@ pub use running::{RunFault, run};
 pub use settings::{Crew, Settings};
 pub use sink::{CountedSink, Sink, WriteFailed, deliver};
 
-/// A growth was refused.
-pub type OutOfMemory = std::alloc::AllocError;
+pub use lists::OutOfMemory;

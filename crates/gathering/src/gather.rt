@@ -7,10 +7,11 @@ ghost use Rattle.gathering.specs.Kept.{IsKept};
 ghost use Rattle.gathering.specs.Refused.{IsRefusedFor, handed_back};
 ghost use Rattle.gathering.specs.Views.{belongs, merged, IsComplete, IsFirstMissing};
 
+use crate::OutOfMemory;
 use crate::inputs::Inputs;
 use crate::piece::Piece;
 use crate::places::{empty_places, first_empty, unite};
-use crate::work::{OutOfMemory, Work};
+use crate::work::Work;
 use std::alloc::{Allocator, Global};
 use std::marker::Model;
 use std::sync::Arc;

@@ -14,8 +14,9 @@ pub mod work;
 
 pub use gather::{Filed, Gathering, OtherInputs, Stranger, TotalRefused};
 pub use inputs::Inputs;
+pub use lists::OutOfMemory;
 pub use piece::Piece;
-pub use work::{OutOfMemory, Work};
+pub use work::Work;
 
 #[cfg(test)]
 mod tests;

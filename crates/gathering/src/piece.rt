@@ -2,7 +2,8 @@
 ghost use Rattle.std.specs.Prelude.{◌≡◌, IfOk};
 ghost use Rattle.std.specs.Arc.{arc_value};
 
-use crate::work::{OutOfMemory, Work};
+use crate::OutOfMemory;
+use crate::work::Work;
 use std::alloc::Global;
 use std::marker::Model;
 use std::sync::Arc;

@@ -2,7 +2,7 @@
 ghost use Rattle.std.specs.Prelude.{◌≡◌, ◌<◌, ◌≤◌, ℕ, true, List, IfOk, MatchOption, length, get_or, is_some, replicate, None};
 ghost use Rattle.gathering.specs.Kept.{either};
 
-use crate::work::OutOfMemory;
+use crate::OutOfMemory;
 use std::alloc::Allocator;
 
 /// As many places as asked, all empty.

@@ -2,10 +2,8 @@
 ghost use Rattle.std.specs.Prelude.{◌≡◌, List, [], true, IfOk, OnOk, OnErr};
 ghost use Rattle.gathering.specs.Adding.{CanAdd, Adds, same_inputs};
 
-use std::alloc::{AllocError, Global};
-
-/// Want of memory: a growth was refused.
-pub type OutOfMemory = AllocError;
+use lists::OutOfMemory;
+use std::alloc::Global;
 
 /// Work that is done task by task: each input has a value, and each list of inputs a total.
 ///

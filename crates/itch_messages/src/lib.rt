@@ -18,7 +18,8 @@ pub use law::one_body_each;
 pub use layout::LengthFault;
 pub use message::{Add, Broken, Cross, Directory, Executed, ExecutedAt, Message, Replace, Trade};
 pub use reading::read;
-pub use writing::{OutOfMemory, append};
+pub use lists::OutOfMemory;
+pub use writing::append;
 
 #[cfg(test)]
 mod tests;

@@ -10,10 +10,8 @@ use crate::header::Header;
 use crate::message::{
     Add, Broken, Cross, Directory, Executed, ExecutedAt, Message, Replace, Trade,
 };
-use std::alloc::{AllocError, Allocator};
-
-/// Why `append` refuses: the vector found no memory to grow in.
-pub type OutOfMemory = AllocError;
+use lists::OutOfMemory;
+use std::alloc::Allocator;
 
 /// The type's byte and the header.
 fn headed(kind: u8, header: Header) -> Draft

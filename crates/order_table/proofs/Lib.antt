@@ -1,6 +1,2 @@
-pub mod Lists
-pub mod Least
-pub mod Parts
-pub mod Order
 pub mod Repeats
 pub mod PartRows

@@ -9,11 +9,11 @@ use Rattle.std.proofs.Common.{map, take, get_or}
 use Rattle.std.proofs.lemmas.List.{take_more, length-take, length-map, get_or-map, get_or-take}
 use Rattle.std.proofs.lemmas.List.Elements.{All-take, All-contains_itself}
 use Rattle.std.proofs.lemmas.Map.Keys.{apart_from_distinct}
-use Rattle.order_table.specs.Least.{least_of, least_by, TellsApart}
+use Rattle.lists.specs.Least.{least_of, least_by, TellsApart}
 use Rattle.order_table.specs.Orders.{OrderRow, OrderTable, first_row, is_repeated, first_repeated, kept_row, IsTableOf, price_if_before, price_before}
 use Rattle.order_table.specs.Steps.{earlier_row, later_row, Adds}
-use Rattle.order_table.proofs.Least.{better_option, best_by-append, lesser_ranks, best_in, none_beats}
-use Rattle.order_table.proofs.Order.{Contains_cons, Contains_head, Contains_later, Contains-from_filter, TellsApart-filter, TellsApart-from_distinct}
+use Rattle.lists.proofs.Least.{better_option, best_by-append, lesser_ranks, best_in, none_beats}
+use Rattle.lists.proofs.Order.{Contains_cons, Contains_head, Contains_later, Contains-from_filter, TellsApart-filter, TellsApart-from_distinct}
 
 -- ---- the least as a relation
 

@@ -7,7 +7,7 @@ pub use Rattle.order_table.specs.declared.row.OrderRow.{OrderRow}
 use Rattle.order_table.specs.declared.table.Kept.{Kept}
 pub use Rattle.order_table.specs.declared.table.OrderTable.{OrderTable}
 pub use Rattle.order_table.specs.declared.table.Repeated.{Repeated}
-use Rattle.order_table.specs.Least.{least_by}
+use Rattle.lists.specs.Least.{least_by}
 
 -- the row of least place that gives the reference
 abbrev pub first_row : List OrderRow → ℕ → Option OrderRow

@@ -9,11 +9,9 @@
 pub mod row;
 pub mod table;
 
+pub use lists::OutOfMemory;
 pub use row::{OrderRow, partition};
 pub use table::{Built, OrderTable, Repeated};
-
-/// Why a call refused: a growth found no memory.
-pub type OutOfMemory = std::alloc::AllocError;
 
 #[cfg(test)]
 mod tests;

@@ -6,10 +6,10 @@ use borrow.Author.Tests.{ltb-true}
 use Rattle.std.proofs.lemmas.List.Elements.{All-filter, filter-append, filter_passes}
 use Rattle.std.proofs.lemmas.List.Kept.{IsStrictlySortedBy-filter}
 use Rattle.std.proofs.lemmas.List.Sums.{count_by-le-length, length-filter}
-use Rattle.broken_trades.specs.Among.{is_among}
-use Rattle.order_table.specs.Least.{TellsApart}
-use Rattle.order_table.proofs.Lists.{IsPermutation-filter}
-use Rattle.order_table.proofs.Order.{Contains-from_filter, TellsApart-filter}
+use Rattle.lists.specs.Among.{is_among}
+use Rattle.lists.specs.Least.{TellsApart}
+use Rattle.lists.proofs.Lists.{IsPermutation-filter}
+use Rattle.lists.proofs.Order.{Contains-from_filter, TellsApart-filter}
 use Rattle.probe.specs.Pricing.{Sale}
 use Rattle.probe.specs.Trades.{is_kept, kept}
 

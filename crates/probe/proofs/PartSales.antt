@@ -1,10 +1,10 @@
 -- The executions of a part, by their references modulo a number, are priced by the rows of the part as by all rows.
 use Rattle.std.proofs.Common.{◌≡◌, ℕ, ◌<◌, ◌%◌, eqb, List, is_none, option_map, filter, filter_map, ap, ◌∙◌}
 use Rattle.order_table.specs.declared.OrderRow.{OrderRow}
-use Rattle.order_table.specs.Least.{least_by, TellsApart, part, numbers_below}
-use Rattle.order_table.proofs.Lists.{filters_commute, filter_map_on_filter}
-use Rattle.order_table.proofs.Order.{TellsApart-filter}
-use Rattle.order_table.proofs.Parts.{least_of_parts}
+use Rattle.lists.specs.Least.{least_by, TellsApart, part, numbers_below}
+use Rattle.lists.proofs.Lists.{filters_commute, filter_map_on_filter}
+use Rattle.lists.proofs.Order.{TellsApart-filter}
+use Rattle.lists.proofs.Parts.{least_of_parts}
 use Rattle.order_table.proofs.PartRows.{part_rows, price_in_part, price_in_own_part}
 use Rattle.probe.specs.Pricing.{Execution, first_unknown, is_unknown, price_of, priced, sale_at, sale_of}
 

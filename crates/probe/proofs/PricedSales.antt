@@ -3,10 +3,10 @@ use Rattle.std.proofs.Common.{◌≡◌, ℕ, ◌≤◌, List, [], ◌∷◌, �
 use Rattle.std.specs.List.{cons_option}
 use Rattle.std.specs.List.Sorted.{IsStrictlySortedBy}
 use Rattle.std.proofs.lemmas.List.Elements.{filter_map-append}
-use Rattle.order_table.specs.Least.{TellsApart}
+use Rattle.lists.specs.Least.{TellsApart}
 use Rattle.order_table.specs.declared.OrderRow.{OrderRow}
-use Rattle.order_table.proofs.Lists.{IsPermutation-filter_map}
-use Rattle.order_table.proofs.Order.{Contains_cons, Contains_head, Contains_later, sorted-filter_map}
+use Rattle.lists.proofs.Lists.{IsPermutation-filter_map}
+use Rattle.lists.proofs.Order.{Contains_cons, Contains_head, Contains_later, sorted-filter_map}
 use Rattle.probe.specs.Pricing.{Execution, Sale, priced, price_of, sale_at, sale_of}
 
 -- ---- lists of executions

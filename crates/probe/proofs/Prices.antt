@@ -5,7 +5,7 @@ use Rattle.std.proofs.lemmas.List.{append-nil, take_more}
 use Rattle.std.proofs.lemmas.List.Elements.{filter_map-append, filter_more}
 use Rattle.std.proofs.lemmas.List.Sums.{fold-append}
 use Rattle.order_table.specs.declared.OrderRow.{OrderRow}
-use Rattle.order_table.specs.Least.{least_by}
+use Rattle.lists.specs.Least.{least_by}
 use Rattle.probe.specs.Pricing.{Execution, first_unknown, is_unknown, price_of, priced, sale_at, sale_of, unknown_of}
 
 -- the first of some executions and one more: the earlier of the two

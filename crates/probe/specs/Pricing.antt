@@ -1,6 +1,6 @@
 -- The price of an execution, and the sales of a list of executions.
 use Rattle.std.specs.Prelude.{ℕ, Bool, is_none, List, Option, filter, filter_map, option_map}
-use Rattle.order_table.specs.Least.{least_by}
+use Rattle.lists.specs.Least.{least_by}
 use Rattle.order_table.specs.declared.OrderRow.{OrderRow}
 use Rattle.order_table.specs.Orders.{price_before}
 pub use Rattle.probe.specs.declared.rows.Execution.{Execution}

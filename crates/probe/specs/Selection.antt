@@ -1,6 +1,6 @@
 -- Which sales a selection admits.
 use Rattle.std.specs.Prelude.{ℕ, ◌*◌, nat_lt, nat_le, Bool, true, ◌&&◌, Option, Some, None}
-use Rattle.broken_trades.specs.Among.{is_among}
+use Rattle.lists.specs.Among.{is_among}
 use Rattle.probe.specs.declared.rows.Kind.{Kind}
 use Rattle.probe.specs.declared.rows.Kind.TheVariants.{E, C, P, Q}
 use Rattle.probe.specs.declared.rows.Sale.{Sale}

@@ -1,6 +1,6 @@
 -- Which sales of a list are kept.
 use Rattle.std.specs.Prelude.{ℕ, nat_lt, Bool, ◌&&◌, not, List, filter}
-use Rattle.broken_trades.specs.Among.{is_among}
+use Rattle.lists.specs.Among.{is_among}
 use Rattle.probe.specs.declared.rows.Sale.{Sale}
 
 -- no break has the sale's match number, the selection has the sale, and it has shares

@@ -4,7 +4,7 @@ ghost use Rattle.std.specs.Cmp.Lexicographic.{pointwise};
 ghost use Rattle.std.specs.Cmp.Rules.{comparing};
 ghost use Rattle.std.proofs.Common.{rules};
 ghost use Rattle.std.specs.List.Sorted.{IsStrictlyIncreasing};
-ghost use Rattle.broken_trades.specs.Among.{is_among};
+ghost use Rattle.lists.specs.Among.{is_among};
 
 use std::alloc::{Allocator, Global};
 use std::marker::Model;

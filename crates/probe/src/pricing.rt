@@ -2,7 +2,7 @@
 ghost use Rattle.std.specs.Prelude.{◌≡◌, ◌∷◌, ◌++◌, [], IfOk, List, map, nat_eq};
 ghost use Rattle.std.specs.Prelude.{option_map, option_to_list};
 ghost use Rattle.std.specs.List.{IsDistinct};
-ghost use Rattle.order_table.specs.Least.{least_by};
+ghost use Rattle.lists.specs.Least.{least_by};
 ghost use Rattle.order_table.specs.declared.OrderRow.{OrderRow};
 ghost use Rattle.order_table.specs.Orders.{IsTableOf};
 ghost use Rattle.probe.specs.Pricing.{first_unknown, priced, sale_at, unknown_of};

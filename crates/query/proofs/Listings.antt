@@ -4,7 +4,7 @@ use Rattle.std.proofs.lemmas.Bool.{lt-ltb, le-ltb, ltb-true, ltb-false, eqb-true
 use Rattle.std.proofs.lemmas.List.Sorted.{list_any-IsPermutation}
 use Rattle.std.specs.List.{list_any}
 use Rattle.std.specs.Str.{bytes_eq}
-use Rattle.broken_trades.specs.Among.{is_among}
+use Rattle.lists.specs.Among.{is_among}
 
 -- the numbers below i that pass a test
 abbrev pub AreBelow : List ℕ → ℕ → (ℕ → Bool) → Type 0

@@ -30,5 +30,4 @@ pub use writer::write;
 #[cfg(test)]
 mod tests;
 
-/// A growth that the allocator refused.
-pub type OutOfMemory = std::alloc::AllocError;
+pub use lists::OutOfMemory;

@@ -2,7 +2,7 @@
 ghost use Rattle.std.specs.Prelude.{◌≡◌, ◌<◌, ◌^◌, IfOk, None, Some, ℕ};
 ghost use Rattle.probe.specs.declared.selection.Locates.TheVariants.{All};
 ghost use Rattle.query.specs.Selected.{AreLocatesOf, has_name};
-ghost use Rattle.broken_trades.specs.Among.{is_among};
+ghost use Rattle.lists.specs.Among.{is_among};
 ghost use Rattle.time_and_sales.specs.Names.{last_row, name_text};
 
 use crate::OutOfMemory;

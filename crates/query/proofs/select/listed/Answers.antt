@@ -1,7 +1,7 @@
 use Rattle.std.proofs.Common.{◌≡◌, ◌∙◌, ℕ, ap, sym}
 use Rattle.std.specs.Prelude.{Some}
 use Rattle.time_and_sales.specs.Names.{last_row, name_text}
-use Rattle.broken_trades.specs.Among.{is_among}
+use Rattle.lists.specs.Among.{is_among}
 use Rattle.query.specs.Selected.{has_name}
 use Rattle.query.proofs.Listings.{listed_less, listed_more, same_symbols}
 use Rattle.query.proofs.select.listed.Goals as goal

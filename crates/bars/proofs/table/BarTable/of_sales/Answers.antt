@@ -2,8 +2,8 @@ use Rattle.std.proofs.Common.{rules, ◌≡◌, ◌<◌, length, get_or, IsPermu
 use Rattle.std.proofs.lemmas.List.{take_all, length-take-le}
 use Rattle.std.proofs.lemmas.List.Sorted.{All-permutation, IsPermutation-sym, length_permutation}
 use Rattle.std.proofs.lemmas.List.Elements.{All-get_or}
-use Rattle.order_table.proofs.Least.{TellsApart-permutation}
-use Rattle.order_table.proofs.Order.{TellsApart-from_distinct}
+use Rattle.lists.proofs.Least.{TellsApart-permutation}
+use Rattle.lists.proofs.Order.{TellsApart-from_distinct}
 use Rattle.probe.specs.declared.rows.Sale.{Sale}
 use Rattle.bars.specs.Bars.{AreBarsOf}
 use Rattle.bars.specs.Steps.{bar_of_one}

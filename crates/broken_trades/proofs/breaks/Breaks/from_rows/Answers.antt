@@ -1,4 +1,4 @@
-use Rattle.broken_trades.proofs.Numbers.{made_rises, made_has}
+use Rattle.lists.proofs.Among.{made_rises, made_has}
 use Rattle.broken_trades.proofs.breaks.Breaks.from_rows.Goals as goal
 
 pub invariant_of-result : goal.invariant_of-result

@@ -1,6 +1,6 @@
 use Rattle.std.proofs.Common.{◌||◌, ◌∙◌, ap}
-use Rattle.broken_trades.specs.Among.{is_among}
-use Rattle.broken_trades.proofs.Numbers.{among-append, made_rises, made_has}
+use Rattle.lists.specs.Among.{is_among}
+use Rattle.lists.proofs.Among.{among-append, made_rises, made_has}
 use Rattle.broken_trades.proofs.breaks.Breaks.unite.Goals as goal
 
 pub invariant_of-self-2 : goal.invariant_of-self-2

@@ -1,4 +1,4 @@
-use Rattle.broken_trades.proofs.Numbers.{made_has, made_rises}
+use Rattle.lists.proofs.Among.{made_has, made_rises}
 use Rattle.probe.proofs.locates.LocateList.from_rows.Goals as goal
 
 pub invariant_of-result : goal.invariant_of-result

@@ -1,9 +1,11 @@
 -- Lists that std has no lemmas on: filters under filters, and permutations of what lists are joined from.
-use Rattle.std.proofs.Common.{◌≡◌, ℕ, zero, suc, ◌<◌, Bool, true, false, ◌||◌, cond, List, [], ◌∷◌, ◌++◌, length, get_or, set, swap, Option, Some, None, filter, filter_map, flat_map, option_to_list, IsPermutation, refl, ap, ap₂, ◌∙◌, subst, arith, append_assoc}
+use Rattle.std.proofs.Common.{◌≡◌, ℕ, zero, suc, ◌<◌, Bool, true, false, ◌||◌, cond, List, [], ◌∷◌, ◌++◌, length, get_or, set, swap, Option, Some, None}
+use Rattle.std.proofs.Common.{filter, filter_map, flat_map, option_to_list, IsPermutation, refl, ap, ap₂, ◌∙◌, subst, arith, append_assoc}
 use Rattle.std.specs.List.{list_any, cons_option}
 use Rattle.std.proofs.lemmas.Bool.{both_ways}
 use Rattle.std.proofs.lemmas.List.Elements.{filter-append, filter_map-append}
-use Rattle.std.proofs.lemmas.List.Sorted.{IsPermutation-refl, IsPermutation-keeps, IsPermutation-trans, IsPermutation-append_left, IsPermutation-append_right, IsPermutation-append_comm}
+use Rattle.std.proofs.lemmas.List.Sorted.{IsPermutation-refl, IsPermutation-keeps, IsPermutation-trans, IsPermutation-append_left, IsPermutation-append_right}
+use Rattle.std.proofs.lemmas.List.Sorted.{IsPermutation-append_comm}
 
 -- ---- one list is another
 
@@ -23,7 +25,8 @@ pub filter_of_filter : {X : Type 0} (p q : X → Bool) → ((x : X) → p x ≡ 
 filter_of_filter p q implies [] = refl
 filter_of_filter {X} p q implies (x ∷ xs) = go (q x) refl (p x) refl (filter_of_filter p q implies xs)
   where
-    go : (b : Bool) → q x ≡ b → (c : Bool) → p x ≡ c → filter p (filter q xs) ≡ filter p xs → filter p (cond b (x ∷ filter q xs) (filter q xs)) ≡ cond c (x ∷ filter p xs) (filter p xs)
+    go : (b : Bool) → q x ≡ b → (c : Bool) → p x ≡ c → filter p (filter q xs) ≡ filter p xs → filter p (cond b (x ∷ filter q xs) (filter q xs)) ≡ cond c
+        (x ∷ filter p xs) (filter p xs)
     go true e true f h = rw f (ap (λ l. x ∷ l) h)
     go true e false f h = rw f h
     go false e true f h = absurd (both_ways _ e (implies x f))
@@ -34,18 +37,21 @@ pub any_of_filter : {X : Type 0} (p q : X → Bool) → ((x : X) → p x ≡ tru
 any_of_filter p q implies [] = refl
 any_of_filter {X} p q implies (x ∷ xs) = go (q x) refl (p x) refl (any_of_filter p q implies xs)
   where
-    go : (b : Bool) → q x ≡ b → (c : Bool) → p x ≡ c → list_any p (filter q xs) ≡ list_any p xs → list_any p (cond b (x ∷ filter q xs) (filter q xs)) ≡ (c || list_any p xs)
+    go : (b : Bool) → q x ≡ b → (c : Bool) → p x ≡ c → list_any p (filter q xs) ≡ list_any p xs → list_any p (cond b (x ∷ filter q xs) (filter q xs)) ≡
+        (c || list_any p xs)
     go true e true f h = rw f refl
     go true e false f h = rw f h
     go false e true f h = absurd (both_ways _ e (implies x f))
     go false e false f h = h
 
 -- two maps that agree on what a filter keeps
-pub filter_map_on_filter : {X Y : Type 0} (f g : X → Option Y) (q : X → Bool) → ((x : X) → q x ≡ true → f x ≡ g x) → (xs : List X) → filter_map f (filter q xs) ≡ filter_map g (filter q xs)
+pub filter_map_on_filter : {X Y : Type 0} (f g : X → Option Y) (q : X → Bool) → ((x : X) → q x ≡ true → f x ≡ g x) → (xs : List X)
+    → filter_map f (filter q xs) ≡ filter_map g (filter q xs)
 filter_map_on_filter f g q agree [] = refl
 filter_map_on_filter {X} {Y} f g q agree (x ∷ xs) = go (q x) refl (filter_map_on_filter f g q agree xs)
   where
-    go : (b : Bool) → q x ≡ b → filter_map f (filter q xs) ≡ filter_map g (filter q xs) → filter_map f (cond b (x ∷ filter q xs) (filter q xs)) ≡ filter_map g (cond b (x ∷ filter q xs) (filter q xs))
+    go : (b : Bool) → q x ≡ b → filter_map f (filter q xs) ≡ filter_map g (filter q xs) → filter_map f (cond b (x ∷ filter q xs) (filter q xs)) ≡ filter_map g
+        (cond b (x ∷ filter q xs) (filter q xs))
     go true e h = ap₂ cons_option (agree x e) h
     go false e h = h
 
@@ -65,7 +71,8 @@ pub filter-flat_map : {A B : Type 0} (p : B → Bool) (f : A → List B) (xs : L
 filter-flat_map p f [] = refl
 filter-flat_map p f (x ∷ xs) = filter-append p (f x) (flat_map f xs) ∙ ap (λ l. filter p (f x) ++ l) (filter-flat_map p f xs)
 
-pub filter_map-flat_map : {A B C : Type 0} (h : B → Option C) (f : A → List B) (xs : List A) → filter_map h (flat_map f xs) ≡ flat_map (λ x. filter_map h (f x)) xs
+pub filter_map-flat_map : {A B C : Type 0} (h : B → Option C) (f : A → List B) (xs : List A)
+    → filter_map h (flat_map f xs) ≡ flat_map (λ x. filter_map h (f x)) xs
 filter_map-flat_map h f [] = refl
 filter_map-flat_map h f (x ∷ xs) = filter_map-append h (f x) (flat_map f xs) ∙ ap (λ l. filter_map h (f x) ++ l) (filter_map-flat_map h f xs)
 
@@ -119,4 +126,5 @@ IsPermutation-both f g [] = IsPermutation-refl []
 IsPermutation-both f g (x ∷ xs) =
     let more = IsPermutation-append_right (f x ++ g x) _ _ (IsPermutation-both f g xs) in
     let turned = IsPermutation-append_right (f x) _ _ (IsPermutation-append_left (flat_map g xs) _ _ (IsPermutation-append_comm (g x) (flat_map f xs))) in
-    IsPermutation-trans _ _ _ more (rw (append_assoc (f x) (g x), ← append_assoc (g x), append_assoc (f x) (flat_map f xs), ← append_assoc (flat_map f xs)) turned)
+    IsPermutation-trans _ _ _ more (rw (append_assoc (f x) (g x), ← append_assoc (g x), append_assoc (f x) (flat_map f xs), ← append_assoc (flat_map f xs))
+    turned)

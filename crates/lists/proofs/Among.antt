@@ -1,5 +1,6 @@
--- Lists of match numbers: membership after a sort and a `dedup`, by a binary search, and as all that a rising list is.
-use Rattle.std.proofs.Common.{◌≡◌, ℕ, zero, suc, ◌+◌, ◌<◌, ◌≤◌, Bool, true, false, ◌||◌, eqb, is_ok, List, [], ◌∷◌, ◌++◌, length, get_or, Result, Ok, Err, Contains, refl, sym, ap, ap₂, ◌∙◌, subst, arith, ◌⊎◌, inl, inr, ⊎_elim, IsSorted, IsPermutation, nat_cmp}
+-- Lists of numbers: membership after a sort and a `dedup`, by a binary search, and as all that a rising list is.
+use Rattle.std.proofs.Common.{◌≡◌, ℕ, zero, suc, ◌+◌, ◌<◌, ◌≤◌, Bool, true, false, ◌||◌, eqb, is_ok, List, [], ◌∷◌, ◌++◌, length, get_or, Result, Ok, Err}
+use Rattle.std.proofs.Common.{Contains, refl, sym, ap, ap₂, ◌∙◌, subst, arith, ◌⊎◌, inl, inr, ⊎_elim, IsSorted, IsPermutation, nat_cmp}
 use Rattle.std.proofs.Math.Nat.{eq-or-lt_of_le}
 use Rattle.std.specs.List.{dedup}
 use Rattle.std.specs.List.Retain.{IsFiltered, DiffersFromLast}
@@ -11,10 +12,10 @@ use Rattle.std.proofs.lemmas.List.Filters.{dedup_is}
 use Rattle.std.proofs.lemmas.List.Kept.{Contains-dedup_nat, Contains-from_dedup, AllPairs-from_increasing}
 use Rattle.std.proofs.lemmas.List.Sorted.{list_any-IsPermutation, searched}
 use Rattle.std.proofs.lemmas.Map.Keys.{IsStrictlyIncreasing-dedup}
-use Rattle.broken_trades.specs.Among.{is_among}
+use Rattle.lists.specs.Among.{is_among}
 
 abbrev is_number : ℕ → ℕ → Bool
-is_number wanted trade_no = eqb trade_no wanted
+is_number wanted number = eqb number wanted
 
 pub among_from : (numbers : List ℕ) (n : ℕ) → Contains numbers n → is_among numbers n ≡ true
 among_from numbers n c = list_any-from_Any (is_number n) numbers (c.0, n, c.1, c.2, eq-eqb _ _ refl)
@@ -36,7 +37,8 @@ same_members xs ys n to from = go (is_among xs n) refl (is_among ys n) refl
 
 -- ---- sorted, and without repeats
 
-module _ (rows sorted made : List ℕ) (moved : IsPermutation rows sorted) (order : IsSorted nat_cmp sorted) (kept : IsFiltered (DiffersFromLast eqb) [] sorted made) where
+module _ (rows sorted made : List ℕ) (moved : IsPermutation rows sorted) (order : IsSorted nat_cmp sorted)
+    (kept : IsFiltered (DiffersFromLast eqb) [] sorted made) where
   pub made_rises : IsStrictlyIncreasing made
   made_rises = subst IsStrictlyIncreasing (sym (dedup_is eqb sorted made kept)) (IsStrictlyIncreasing-dedup sorted order)
 
@@ -54,7 +56,8 @@ among-append xs ys n = list_any-append (is_number n) xs ys
 -- numbers that rise do not fall
 rises_along : (numbers : List ℕ) → IsStrictlyIncreasing numbers → (i j : ℕ) → i ≤ j → j < length numbers → get_or numbers i 0 ≤ get_or numbers j 0
 rises_along numbers rise i j h within =
-    ⊎_elim (λ (same : i ≡ j). omega (arith, ap (λ k. get_or numbers k 0) same)) (λ (less : i < j). omega (arith, AllPairs-from_increasing numbers rise i j 0 less within)) (eq-or-lt_of_le h)
+    ⊎_elim (λ (same : i ≡ j). omega (arith, ap (λ k. get_or numbers k 0) same))
+    (λ (less : i < j). omega (arith, AllPairs-from_increasing numbers rise i j 0 less within)) (eq-or-lt_of_le h)
 
 not_among : (numbers : List ℕ) (n : ℕ) → (Contains numbers n → ⊥) → is_among numbers n ≡ false
 not_among numbers n none = go (is_among numbers n) refl
@@ -64,7 +67,8 @@ not_among numbers n none = go (is_among numbers n) refl
     go false e = refl
 
 -- what a binary search of rising numbers finds is among them, and nothing else is
-pub found_among : (numbers : List ℕ) (n : ℕ) (r : Result ℕ ℕ) → IsStrictlyIncreasing numbers → IsBinarySearchResult (λ y. nat_cmp y n) numbers r → is_ok r ≡ is_among numbers n
+pub found_among : (numbers : List ℕ) (n : ℕ) (r : Result ℕ ℕ) → IsStrictlyIncreasing numbers → IsBinarySearchResult (λ y. nat_cmp y n) numbers r
+    → is_ok r ≡ is_among numbers n
 found_among numbers n (Ok i) rise is =
     let at = searched numbers n (Ok i) is (rises_along numbers rise) in
     sym (among_from numbers n (i, at.0, get_or_default numbers i n 0 at.0 ∙ at.1))
@@ -96,14 +100,17 @@ rest_rises x xs rise k within =
     let next : suc k + 1 ≡ suc (k + 1) = omega arith in
     subst (λ m. get_or xs k 0 < get_or (x ∷ xs) m 0) next (rise (suc k) (omega (arith, within)))
 
-same_head : (x : ℕ) (xs : List ℕ) (y : ℕ) (ys : List ℕ) → IsStrictlyIncreasing (x ∷ xs) → IsStrictlyIncreasing (y ∷ ys) → Contains (y ∷ ys) x → Contains (x ∷ xs) y → x ≡ y
+same_head : (x : ℕ) (xs : List ℕ) (y : ℕ) (ys : List ℕ) → IsStrictlyIncreasing (x ∷ xs) → IsStrictlyIncreasing (y ∷ ys) → Contains (y ∷ ys) x
+    → Contains (x ∷ xs) y → x ≡ y
 same_head x xs y ys rise rises one other =
-    ⊎_elim (λ e. sym e) (λ c. ⊎_elim (λ e. e) (λ d. absurd (omega (arith, above_head x xs y rise d, above_head y ys x rises c))) (head_or_later x xs y other)) (head_or_later y ys x one)
+    ⊎_elim (λ e. sym e) (λ c. ⊎_elim (λ e. e) (λ d. absurd (omega (arith, above_head x xs y rise d, above_head y ys x rises c))) (head_or_later x xs y other))
+    (head_or_later y ys x one)
 
 in_rest : (x : ℕ) (xs ys : List ℕ) (n : ℕ) → IsStrictlyIncreasing (x ∷ xs) → Contains xs n → Contains (x ∷ ys) n → Contains ys n
 in_rest x xs ys n rise c d = ⊎_elim (λ e. absurd (omega (arith, above_head x xs n rise c, e))) (λ r. r) (head_or_later x ys n d)
 
-same_items : (xs ys : List ℕ) → IsStrictlyIncreasing xs → IsStrictlyIncreasing ys → ((n : ℕ) → Contains xs n → Contains ys n) → ((n : ℕ) → Contains ys n → Contains xs n) → xs ≡ ys
+same_items : (xs ys : List ℕ) → IsStrictlyIncreasing xs → IsStrictlyIncreasing ys → ((n : ℕ) → Contains xs n → Contains ys n)
+    → ((n : ℕ) → Contains ys n → Contains xs n) → xs ≡ ys
 same_items [] [] rise rises to from = refl
 same_items [] (y ∷ ys) rise rises to from = let none = from y (at_head y ys) in absurd (omega (arith, none.1))
 same_items (x ∷ xs) [] rise rises to from = let none = to x (at_head x xs) in absurd (omega (arith, none.1))

@@ -1,0 +1,5 @@
+pub mod Lists
+pub mod Least
+pub mod Parts
+pub mod Order
+pub mod Among
