@@ -1,15 +1,14 @@
 -- The executions of a part, by their references modulo a number, are priced by the rows of the part as by all rows.
 use Rattle.std.proofs.Common.{◌≡◌, ℕ, ◌<◌, ◌%◌, eqb, List, is_none, option_map, filter, filter_map, ap, ◌∙◌}
 use Rattle.order_table.specs.declared.OrderRow.{OrderRow}
-use Rattle.lists.specs.Least.{least_by, TellsApart, part, numbers_below}
+use Rattle.lists.specs.Least.{least_by, TellsApart, numbers_below}
 use Rattle.lists.proofs.Lists.{filters_commute, filter_map_on_filter}
 use Rattle.lists.proofs.Order.{TellsApart-filter}
 use Rattle.lists.proofs.Parts.{least_of_parts}
-use Rattle.order_table.proofs.PartRows.{part_rows, price_in_part, price_in_own_part}
+use Rattle.order_table.specs.Parts.{part_rows}
+use Rattle.order_table.proofs.PartRows.{price_in_part, price_in_own_part}
+use Rattle.probe.specs.Parts.{part_executions}
 use Rattle.probe.specs.Pricing.{Execution, first_unknown, is_unknown, price_of, priced, sale_at, sale_of}
-
-abbrev pub part_executions : ℕ → List Execution → ℕ → List Execution
-part_executions n executions b = part n (λ execution. execution.order_no) executions b
 
 -- an execution has the price that it has in the whole
 pub execution_in_part : (n : ℕ) (rows : List OrderRow) (execution : Execution) → price_of (part_rows n rows (execution.order_no % n)) execution ≡ price_of rows execution

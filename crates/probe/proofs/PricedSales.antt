@@ -5,8 +5,8 @@ use Rattle.std.specs.List.Sorted.{IsStrictlySortedBy}
 use Rattle.std.proofs.lemmas.List.Elements.{filter_map-append}
 use Rattle.lists.specs.Least.{TellsApart}
 use Rattle.order_table.specs.declared.OrderRow.{OrderRow}
-use Rattle.lists.proofs.Lists.{IsPermutation-filter_map}
-use Rattle.lists.proofs.Order.{Contains_cons, Contains_head, Contains_later, sorted-filter_map}
+use Rattle.lists.proofs.Lists.{IsPermutation-filter_map, length-filter_map}
+use Rattle.lists.proofs.Order.{Contains-from_filter_map, sorted-filter_map}
 use Rattle.probe.specs.Pricing.{Execution, Sale, priced, price_of, sale_at, sale_of}
 
 -- ---- lists of executions
@@ -18,10 +18,7 @@ pub priced-permutation : (rows : List OrderRow) (xs ys : List Execution) → IsP
 priced-permutation rows = IsPermutation-filter_map (sale_of rows)
 
 pub length-priced : (rows : List OrderRow) (executions : List Execution) → length (priced rows executions) ≤ length executions
-length-priced rows [] = omega arith
-length-priced rows (e ∷ es) =
-    let more = length-priced rows es in
-    elim (sale_of rows e) as (λ o. length (cons_option o (priced rows es)) ≤ length (e ∷ es)) [ None ↦ omega arith | Some sale ↦ omega arith ]
+length-priced rows = length-filter_map (sale_of rows)
 
 -- ---- one sale
 
@@ -39,17 +36,7 @@ sale_keeps rows execution sale = go (price_of rows execution)
 -- each sale is that of one of the executions
 pub priced_contains : (rows : List OrderRow) (executions : List Execution) (sale : Sale) → Contains (priced rows executions) sale
     → (execution : Execution) × Contains executions execution × (sale_of rows execution ≡ Some sale)
-priced_contains rows [] sale = λ c. absurd (omega (arith, c.1))
-priced_contains rows (e ∷ es) sale = go (sale_of rows e) refl (priced_contains rows es sale)
-  where
-    go : (o : Option Sale) → sale_of rows e ≡ o → (Contains (priced rows es) sale → (execution : Execution) × Contains es execution × (sale_of rows execution ≡ Some sale))
-        → Contains (cons_option o (priced rows es)) sale → (execution : Execution) × Contains (e ∷ es) execution × (sale_of rows execution ≡ Some sale)
-    go None at more = λ c. (let f = more c in (f.0, Contains_later e f.0 es f.1, f.2))
-    go (Some first) at more = λ c.
-        ⊎_elim
-        (λ same. (e, Contains_head e es, at ∙ ap Some same))
-        (λ later. let f = more later in (f.0, Contains_later e f.0 es f.1, f.2))
-        (Contains_cons first sale (priced rows es) c)
+priced_contains rows = Contains-from_filter_map (sale_of rows)
 
 -- ---- places
 

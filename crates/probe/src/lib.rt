@@ -18,6 +18,3 @@ pub use order_table::{OrderTable, OutOfMemory};
 pub use pricing::{Priced, price_all};
 pub use rows::{Execution, Kind, Sale, Unknown};
 pub use selection::{Kinds, Locates, Selection, Span};
-
-#[cfg(test)]
-mod tests;

@@ -1,5 +1,5 @@
 use Rattle.order_table.specs.Orders.{OrderRow}
-use Rattle.order_table.proofs.Repeats.{table_more, repeated_stays, repeated_new}
+use Rattle.order_table.proofs.OneMoreRow.{table_more, repeated_stays, repeated_new}
 use Rattle.order_table.proofs.table.OrderTable.build.Goals.{in-Some, in_default}
 use Rattle.order_table.proofs.table.OrderTable.build.Goals as goal
 
