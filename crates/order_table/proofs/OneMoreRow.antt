@@ -1,5 +1,6 @@
 -- What one more order row makes of the first row of a reference and of the first repeated row.
-use Rattle.std.proofs.Common.{◌≡◌, ℕ, ◌+◌, ◌<◌, Bool, true, false, ◌&&◌, cond, eqb, ltb, length, List, [], ◌∷◌, ◌++◌, Option, Some, None, filter, Contains, refl, sym, ap, ◌∙◌, subst, arith, ◌⊎◌, ◌≢◌, inl, inr, ⊎_elim}
+use Rattle.std.proofs.Common.{◌≡◌, ℕ, ◌+◌, ◌<◌, Bool, true, false, ◌&&◌, cond, eqb, ltb, length, List, [], ◌∷◌, ◌++◌, Option, Some, None, filter, Contains}
+use Rattle.std.proofs.Common.{refl, sym, ap, ◌∙◌, subst, arith, ◌⊎◌, ◌≢◌, inl, inr, ⊎_elim}
 use Rattle.std.specs.List.{IsDistinct}
 use Rattle.std.proofs.lemmas.Bool.{cases_order, both_ways, eq-eqb, eqb-true, and_parts, and_from, or_left, ltb-true, ltb-false, lt-ltb}
 use Rattle.std.proofs.lemmas.List.{append-nil}
@@ -36,13 +37,16 @@ pub first_row_push : (rows : List OrderRow) (row : OrderRow) (order_no : ℕ)
     → first_row (rows ++ row ∷ []) order_no ≡ cond (eqb row.order_no order_no) (Some (earlier_row (first_row rows order_no) row)) (first_row rows order_no)
 first_row_push rows row order_no =
     ap (least_by place_of) (filter-append (λ (r : OrderRow). eqb r.order_no order_no) rows (row ∷ []))
-    ∙ elim (eqb row.order_no order_no) as (λ b. least_by place_of (filter (λ (r : OrderRow). eqb r.order_no order_no) rows ++ cond b (row ∷ []) []) ≡ cond b (Some (earlier_row (first_row rows order_no) row)) (first_row rows order_no))
+    ∙ elim (eqb row.order_no order_no) as (λ b. least_by place_of (filter (λ (r : OrderRow). eqb r.order_no order_no) rows ++ cond b (row ∷ []) [])
+    ≡ cond b (Some (earlier_row (first_row rows order_no) row)) (first_row rows order_no))
     [ true ↦ best_by-append _ (lesser_ranks place_of) _ (row ∷ []) ∙ earlier_is _ row | false ↦ ap (least_by place_of) (append-nil _) ]
 
-is_repeated_by : (rows : List OrderRow) (row other : OrderRow) → Contains rows other → other.order_no ≡ row.order_no → other.place < row.place → is_repeated rows row ≡ true
+is_repeated_by : (rows : List OrderRow) (row other : OrderRow) → Contains rows other → other.order_no ≡ row.order_no → other.place < row.place
+    → is_repeated rows row ≡ true
 is_repeated_by rows row other c e l = list_any-from_Any (repeats row) rows (c.0, other, c.1, c.2, and_from _ _ (eq-eqb _ _ e) (lt-ltb _ _ l))
 
-repeated_by : (rows : List OrderRow) (row : OrderRow) → is_repeated rows row ≡ true → (other : OrderRow) × Contains rows other × (other.order_no ≡ row.order_no) × (other.place < row.place)
+repeated_by : (rows : List OrderRow) (row : OrderRow) → is_repeated rows row ≡ true
+    → (other : OrderRow) × Contains rows other × (other.order_no ≡ row.order_no) × (other.place < row.place)
 repeated_by rows row h =
     let a = Any-from_list_any (repeats row) rows h in
     let p = and_parts _ _ a.4 in
@@ -52,7 +56,8 @@ earlier_none : (o : Option OrderRow) → earlier_of o None ≡ o
 earlier_none None = refl
 earlier_none (Some row) = refl
 
-module _ (rows : List OrderRow) (row : OrderRow) (apart : TellsApart place_of (rows ++ row ∷ [])) (new : (y : OrderRow) → Contains rows y → y.place ≢ row.place) where
+module _ (rows : List OrderRow) (row : OrderRow) (apart : TellsApart place_of (rows ++ row ∷ []))
+    (new : (y : OrderRow) → Contains rows y → y.place ≢ row.place) where
   abbrev all : List OrderRow
   all = rows ++ row ∷ []
 
@@ -127,7 +132,8 @@ module _ (rows : List OrderRow) (row : OrderRow) (apart : TellsApart place_of (r
           n)
           (split y c))
           stays
-          (Contains-filter (is_repeated all) all k (Contains-append_left rows (row ∷ []) k k_in) (is_repeated_by all k row (Contains-push rows row) (sym k_same) less))
+          (Contains-filter (is_repeated all) all k (Contains-append_left rows (row ∷ []) k k_in)
+          (is_repeated_by all k row (Contains-push rows row) (sym k_same) less))
       go false e =
           let less : k.place < row.place = omega (arith, ltb-false _ _ e, new k k_in) in
           least_with place_of before after (first_repeated rows) row (least_is place_of before)
@@ -138,10 +144,12 @@ module _ (rows : List OrderRow) (row : OrderRow) (apart : TellsApart place_of (r
           n)
           (split y c))
           stays
-          (Contains-filter (is_repeated all) all row (Contains-push rows row) (is_repeated_by all row k (Contains-append_left rows (row ∷ []) k k_in) k_same less))
+          (Contains-filter (is_repeated all) all row (Contains-push rows row)
+          (is_repeated_by all row k (Contains-append_left rows (row ∷ []) k k_in) k_same less))
 
   pub first_repeated_push : first_repeated (rows ++ row ∷ []) ≡ earlier_of (first_repeated rows) (repeating_row (first_row rows row.order_no) row)
-  first_repeated_push = least_only place_of after _ (TellsApart-filter place_of (is_repeated all) all apart) (step (first_row rows row.order_no) (least_is place_of same))
+  first_repeated_push = least_only place_of after _ (TellsApart-filter place_of (is_repeated all) all apart)
+      (step (first_row rows row.order_no) (least_is place_of same))
 
 -- ---- the loop that builds a table
 
@@ -159,33 +167,41 @@ module _ (rows : List OrderRow) (i : ℕ) (d : OrderRow) (within : i < length ro
       ∙ ap (λ o. cond (eqb now.order_no q) (Some (earlier_row o now)) o) (before q)
       ∙ sym (ap (λ l. first_row l q) (take_more rows i d within) ∙ first_row_push so_far now q)
 
-  repeated_more : IsDistinct eqb (map place_of rows) → first_repeated (take (i + 1) rows) ≡ earlier_of (first_repeated so_far) (repeating_row (first_row so_far now.order_no) now)
+  repeated_more : IsDistinct eqb (map place_of rows)
+      → first_repeated (take (i + 1) rows) ≡ earlier_of (first_repeated so_far) (repeating_row (first_row so_far now.order_no) now)
   repeated_more distinct =
       ap first_repeated (take_more rows i d within)
       ∙ first_repeated_push so_far now
-      (subst (TellsApart place_of) (take_more rows i d within) (λ x y p q e. TellsApart-from_distinct place_of rows distinct x y (inside (i + 1) x p) (inside (i + 1) y q) e))
+      (subst (TellsApart place_of) (take_more rows i d within) (λ x y p q e. TellsApart-from_distinct place_of rows distinct x y (inside (i + 1) x p)
+      (inside (i + 1) y q) e))
       (λ y c e. both_ways _
       (apart_from_distinct eqb (map place_of rows) c.0 i 0 distinct (omega (arith, c.1, length-take i rows)) (omega (arith, within, length-map rows place_of)))
-      (eq-eqb _ _ (get_or-map place_of rows c.0 y 0 (omega (arith, c.1, length-take i rows, within)) ∙ ap place_of (sym (get_or-take i rows c.0 y (omega (arith, c.1, length-take i rows))) ∙ c.2) ∙ e ∙ sym (get_or-map place_of rows i d 0 within))))
+      (eq-eqb _ _ (get_or-map place_of rows c.0 y 0 (omega (arith, c.1, length-take i rows, within))
+      ∙ ap place_of (sym (get_or-take i rows c.0 y (omega (arith, c.1, length-take i rows))) ∙ c.2) ∙ e ∙ sym (get_or-map place_of rows i d 0 within))))
     where
       inside : (n : ℕ) (x : OrderRow) → Contains (take n rows) x → Contains rows x
       inside n x c = All-contains (Contains rows) (take n rows) x (All-take (Contains rows) n rows (All-contains_itself rows)) c
 
-  module _ {A : Type 0} (old : OrderTable A) (repeated : Option OrderRow) (distinct : IsDistinct eqb (map place_of rows)) (table : IsTableOf so_far old) (before : repeated ≡ first_repeated so_far) where
+  module _ {A : Type 0} (old : OrderTable A) (repeated : Option OrderRow) (distinct : IsDistinct eqb (map place_of rows)) (table : IsTableOf so_far old)
+      (before : repeated ≡ first_repeated so_far) where
     up_to_here : first_repeated (take (i + 1) rows) ≡ earlier_of repeated (repeating_row (kept_row old now.order_no) now)
-    up_to_here = repeated_more distinct ∙ ap (λ o. earlier_of (first_repeated so_far) (repeating_row o now)) (sym (table now.order_no)) ∙ ap (λ r. earlier_of r (repeating_row (kept_row old now.order_no) now)) (sym before)
+    up_to_here = repeated_more distinct ∙ ap (λ o. earlier_of (first_repeated so_far) (repeating_row o now)) (sym (table now.order_no))
+        ∙ ap (λ r. earlier_of r (repeating_row (kept_row old now.order_no) now)) (sym before)
 
     -- the first repeated row, where one more row repeats none and is repeated by none
-    pub repeated_stays : (later : Option OrderRow) → later ≡ repeating_row (kept_row old now.order_no) now → later ≡ None → repeated ≡ first_repeated (take (i + 1) rows)
+    pub repeated_stays : (later : Option OrderRow) → later ≡ repeating_row (kept_row old now.order_no) now → later ≡ None
+        → repeated ≡ first_repeated (take (i + 1) rows)
     repeated_stays later is none = sym (up_to_here ∙ ap (earlier_of repeated) (sym is ∙ none) ∙ earlier_none repeated)
 
     -- and where it is one of two
-    pub repeated_new : (later : Option OrderRow) (row earlier : OrderRow) → later ≡ repeating_row (kept_row old now.order_no) now → later ≡ Some row → earlier ≡ earlier_row repeated row
+    pub repeated_new : (later : Option OrderRow) (row earlier : OrderRow) → later ≡ repeating_row (kept_row old now.order_no) now → later ≡ Some row
+        → earlier ≡ earlier_row repeated row
         → Some earlier ≡ first_repeated (take (i + 1) rows)
     repeated_new later row earlier is some chosen = ap Some chosen ∙ sym (up_to_here ∙ ap (earlier_of repeated) (sym is ∙ some) ∙ earlier_is repeated row)
 
 -- ---- the table of some rows
 
 -- the price that a table of the rows gives is that of the rows
-pub price_of_table : {A : Type 0} (rows : List OrderRow) (table : OrderTable A) → IsTableOf rows table → (order_no place : ℕ) → price_if_before place (kept_row table order_no) ≡ price_before rows order_no place
+pub price_of_table : {A : Type 0} (rows : List OrderRow) (table : OrderTable A) → IsTableOf rows table → (order_no place : ℕ)
+    → price_if_before place (kept_row table order_no) ≡ price_before rows order_no place
 price_of_table rows table is order_no place = ap (price_if_before place) (is order_no)
