@@ -1,9 +1,9 @@
 -- One more execution: what it adds to the sales, and to the first that has no price.
-use Rattle.std.proofs.Common.{◌≡◌, ℕ, ◌+◌, ◌<◌, Bool, true, false, cond, ltb, length, get_or, take, List, [], ◌∷◌, ◌++◌, Option, Some, None, is_none, option_map, option_to_list, filter, refl, sym, ap, ◌∙◌}
-use Rattle.std.specs.List.{best_of, cons_option}
+use Rattle.std.proofs.Common.{◌≡◌, ℕ, ◌+◌, ◌<◌, cond, length, get_or, take, List, [], ◌∷◌, ◌++◌, Option, Some, None, is_none}
+use Rattle.std.proofs.Common.{option_map, option_to_list, filter, refl, sym, ap, ◌∙◌}
+use Rattle.std.specs.List.{cons_option}
 use Rattle.std.proofs.lemmas.List.{append-nil, take_more}
 use Rattle.std.proofs.lemmas.List.Elements.{filter_map-append, filter_more}
-use Rattle.std.proofs.lemmas.List.Sums.{fold-append}
 use Rattle.order_table.specs.declared.OrderRow.{OrderRow}
 use Rattle.lists.specs.Least.{least_by}
 use Rattle.lists.proofs.Least.{least_made_more}
@@ -32,7 +32,8 @@ module _ (rows : List OrderRow) (executions : List Execution) (i : ℕ) (d : Exe
   -- and leaves the first that has none
   pub unknown_stays : (price : ℕ) → Some price ≡ price_of rows (get_or executions i d)
       → first_unknown rows (take (i + 1) executions) ≡ first_unknown rows (take i executions)
-  unknown_stays price some = ap (least_by (λ execution. execution.place)) (unpriced_more (Some price) some ∙ append-nil (filter (is_unknown rows) (take i executions)))
+  unknown_stays price some = ap (least_by (λ execution. execution.place))
+      (unpriced_more (Some price) some ∙ append-nil (filter (is_unknown rows) (take i executions)))
 
   -- one with none adds no sale
   pub priced_stays : None ≡ price_of rows (get_or executions i d) → priced rows (take (i + 1) executions) ≡ priced rows (take i executions)
@@ -41,8 +42,10 @@ module _ (rows : List OrderRow) (executions : List Execution) (i : ℕ) (d : Exe
   -- and may be the first
   pub unknown_more : None ≡ price_of rows (get_or executions i d)
       → option_map unknown_of (first_unknown rows (take (i + 1) executions))
-      ≡ least_by (λ unknown. unknown.place) (option_to_list (option_map unknown_of (first_unknown rows (take i executions))) ++ unknown_of (get_or executions i d) ∷ [])
+      ≡ least_by (λ unknown. unknown.place)
+      (option_to_list (option_map unknown_of (first_unknown rows (take i executions))) ++ unknown_of (get_or executions i d) ∷ [])
   unknown_more none =
       ap (λ l. option_map unknown_of (least_by (λ (execution : Execution). execution.place) l)) (unpriced_more None none)
-      ∙ least_made_more (λ (unknown : Unknown). unknown.place) (λ (execution : Execution). execution.place) unknown_of (λ execution. refl) (filter (is_unknown rows) (take i executions))
+      ∙ least_made_more (λ (unknown : Unknown). unknown.place) (λ (execution : Execution). execution.place) unknown_of (λ execution. refl)
+      (filter (is_unknown rows) (take i executions))
       (get_or executions i d)

@@ -1,6 +1,5 @@
 -- The sales of priced executions: of lists joined and in another order, and what each sale has of its execution.
-use Rattle.std.proofs.Common.{◌≡◌, ℕ, ◌≤◌, List, [], ◌∷◌, ◌++◌, length, Option, Some, None, option_map, Contains, IsPermutation, nat_cmp, refl, sym, ap, ◌∙◌, arith, ⊎_elim}
-use Rattle.std.specs.List.{cons_option}
+use Rattle.std.proofs.Common.{◌≡◌, ℕ, ◌≤◌, List, ◌++◌, length, Option, Some, None, option_map, Contains, IsPermutation, nat_cmp, sym, ap, ◌∙◌}
 use Rattle.std.specs.List.Sorted.{IsStrictlySortedBy}
 use Rattle.std.proofs.lemmas.List.Elements.{filter_map-append}
 use Rattle.lists.specs.Least.{TellsApart}
@@ -27,7 +26,8 @@ pub sale_keeps : (rows : List OrderRow) (execution : Execution) (sale : Sale) �
     → (sale.place ≡ execution.place) × (sale.time ≡ execution.time) × (sale.locate ≡ execution.locate)
 sale_keeps rows execution sale = go (price_of rows execution)
   where
-    go : (o : Option ℕ) → option_map (sale_at execution) o ≡ Some sale → (sale.place ≡ execution.place) × (sale.time ≡ execution.time) × (sale.locate ≡ execution.locate)
+    go : (o : Option ℕ) → option_map (sale_at execution) o ≡ Some sale
+        → (sale.place ≡ execution.place) × (sale.time ≡ execution.time) × (sale.locate ≡ execution.locate)
     go None e = absurd (cc)
     go (Some price) e =
         let same : sale_at execution price ≡ sale = cc in
@@ -40,7 +40,8 @@ priced_contains rows = Contains-from_filter_map (sale_of rows)
 
 -- ---- places
 
-pub TellsApart-priced : (rows : List OrderRow) (executions : List Execution) → TellsApart (λ execution. execution.place) executions → TellsApart (λ sale. sale.place) (priced rows executions)
+pub TellsApart-priced : (rows : List OrderRow) (executions : List Execution) → TellsApart (λ execution. execution.place) executions
+    → TellsApart (λ sale. sale.place) (priced rows executions)
 TellsApart-priced rows executions apart x y p q same =
     let f = priced_contains rows executions x p in
     let g = priced_contains rows executions y q in
