@@ -1,5 +1,5 @@
 //! A set of match numbers.
-ghost use Rattle.std.specs.Prelude.{◌≡◌, ℕ, [], List, OnErr, OnOk, nat_eq};
+ghost use Rattle.std.specs.Prelude.{◌≡◌, ℕ, [], IsOk, List, OnErr, OnOk, nat_eq};
 ghost use Rattle.std.specs.Cmp.{partial_equiv_from_equiv};
 ghost use Rattle.std.specs.Cmp.Lexicographic.{nat_list_eq_equiv, pointwise};
 ghost use Rattle.std.specs.List.Sorted.{IsStrictlyIncreasing};
@@ -38,8 +38,7 @@ impl<A: Allocator> Breaks<A> {
         ensures numbers { HasNumbersOf rows.items result }
         ensures rising { IsStrictlyIncreasing result }
     {
-        rows.sort_unstable();
-        rows.dedup();
+        make_rising(&mut rows);
         Breaks { numbers: rows }
     }
 
@@ -51,15 +50,16 @@ impl<A: Allocator> Breaks<A> {
         self.numbers.binary_search(&trade_no).is_ok()
     }
 
-    /// Takes in the breaks of the other. Refused where there is no memory for them.
+    /// Takes in the breaks of the other. It is refused if there is no memory for them, and never if
+    /// there are none.
     pub fn unite<B: Allocator>(&mut self, other: &Breaks<B>) -> Result<(), OutOfMemory>
         ensures numbers { OnOk result (IsUnion self.old other.now self.new) }
         ensures rising { IsStrictlyIncreasing self.new }
         ensures err { OnErr result (self.new ≡ self.old) }
+        ensures none { other.now ≡ [] → IsOk result }
     {
         self.numbers.extend_from_slice(other.items())?;
-        self.numbers.sort_unstable();
-        self.numbers.dedup();
+        make_rising(&mut self.numbers);
         Ok(())
     }
 
@@ -82,7 +82,16 @@ impl<A: Allocator> Breaks<A> {
     }
 }
 
-/// Breaks are equal where they have the same numbers.
+/// Sorts the numbers, and leaves each of them once.
+fn make_rising<A: Allocator>(numbers: &mut Vec<u64, A>)
+    ensures numbers { HasNumbersOf numbers.old.items numbers.new.items }
+    ensures rising { IsStrictlyIncreasing numbers.new.items }
+{
+    numbers.sort_unstable();
+    numbers.dedup();
+}
+
+/// Breaks are equal if they have the same numbers.
 impl<A: Allocator> PartialEq for Breaks<A> {
     ghost eq = { pointwise nat_eq };
 

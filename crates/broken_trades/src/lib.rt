@@ -8,6 +8,3 @@ pub mod breaks;
 
 pub use breaks::Breaks;
 pub use lists::OutOfMemory;
-
-#[cfg(test)]
-mod tests;

@@ -1,6 +1,6 @@
 -- Lists that std has no lemmas on: filters under filters, and permutations of what lists are joined from.
-use Rattle.std.proofs.Common.{◌≡◌, ℕ, zero, suc, ◌<◌, Bool, true, false, ◌||◌, cond, List, [], ◌∷◌, ◌++◌, length, get_or, set, swap, Option, Some, None}
-use Rattle.std.proofs.Common.{filter, filter_map, flat_map, option_to_list, IsPermutation, refl, ap, ap₂, ◌∙◌, subst, arith, append_assoc}
+use Rattle.std.proofs.Common.{◌≡◌, ℕ, zero, suc, ◌<◌, ◌≤◌, Bool, true, false, ◌||◌, cond, List, [], ◌∷◌, ◌++◌, length, get_or, set, swap, Option, Some, None}
+use Rattle.std.proofs.Common.{filter, filter_map, flat_map, map, option_map, option_to_list, IsPermutation, refl, ap, ap₂, ◌∙◌, subst, arith, append_assoc}
 use Rattle.std.specs.List.{list_any, cons_option}
 use Rattle.std.proofs.lemmas.Bool.{both_ways}
 use Rattle.std.proofs.lemmas.List.Elements.{filter-append, filter_map-append}
@@ -60,6 +60,32 @@ filter_map_as_flat_map h [] = refl
 filter_map_as_flat_map h (x ∷ xs) =
     elim (h x) as (λ o. cons_option o (filter_map h xs) ≡ option_to_list o ++ flat_map (λ y. option_to_list (h y)) xs)
     [ None ↦ filter_map_as_flat_map h xs | Some y ↦ ap (λ l. y ∷ l) (filter_map_as_flat_map h xs) ]
+
+-- what is made of the items that are made
+pub filter_map-option_map : {X Y Z : Type 0} (f : Y → Z) (g : X → Option Y) (xs : List X) → filter_map (λ x. option_map f (g x)) xs ≡ map f (filter_map g xs)
+filter_map-option_map f g [] = refl
+filter_map-option_map f g (x ∷ xs) =
+    elim (g x) as (λ o. cons_option (option_map f o) (filter_map (λ y. option_map f (g y)) xs) ≡ map f (cons_option o (filter_map g xs)))
+    [ None ↦ filter_map-option_map f g xs | Some y ↦ ap (λ l. f y ∷ l) (filter_map-option_map f g xs) ]
+
+pub filter_map-map : {X Y Z : Type 0} (h : Y → Option Z) (f : X → Y) (xs : List X) → filter_map h (map f xs) ≡ filter_map (λ x. h (f x)) xs
+filter_map-map h f [] = refl
+filter_map-map h f (x ∷ xs) = ap (cons_option (h (f x))) (filter_map-map h f xs)
+
+pub cons_nil : {X : Type 0} (o : Option X) → cons_option o [] ≡ option_to_list o
+cons_nil None = refl
+cons_nil (Some x) = refl
+
+-- one more item
+pub map_more : {X Y : Type 0} (f : X → Y) (xs : List X) (x : X) → map f (xs ++ x ∷ []) ≡ map f xs ++ f x ∷ []
+map_more f [] x = refl
+map_more f (y ∷ ys) x = ap (λ l. f y ∷ l) (map_more f ys x)
+
+pub length-filter_map : {X Y : Type 0} (h : X → Option Y) (xs : List X) → length (filter_map h xs) ≤ length xs
+length-filter_map h [] = omega arith
+length-filter_map h (x ∷ xs) =
+    let more = length-filter_map h xs in
+    elim (h x) as (λ o. length (cons_option o (filter_map h xs)) ≤ length (x ∷ xs)) [ None ↦ omega arith | Some y ↦ omega arith ]
 
 pub filter_as_flat_map : {X : Type 0} (p : X → Bool) (xs : List X) → filter p xs ≡ flat_map (λ x. cond (p x) (x ∷ []) []) xs
 filter_as_flat_map p [] = refl

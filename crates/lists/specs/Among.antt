@@ -1,4 +1,5 @@
 -- Which numbers a list has.
+-- To be believed.
 use Rattle.std.specs.Prelude.{◌≡◌, ℕ, ◌==◌, Bool, ◌||◌, List}
 use Rattle.std.specs.List.{list_any}
 

@@ -1,2 +1,2 @@
-pub mod Repeats
+pub mod OneMoreRow
 pub mod PartRows

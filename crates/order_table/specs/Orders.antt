@@ -1,4 +1,5 @@
 -- Order rows: which row prices a reference, which row repeats one, and what a table keeps.
+-- To be believed.
 use Rattle.std.specs.Prelude.{◌≡◌, ℕ, ◌==◌, nat_lt, nat_eq, Bool, ◌&&◌, if◌then◌else◌}
 use Rattle.std.specs.Prelude.{List, Option, Some, None, filter, option_map}
 use Rattle.std.specs.List.{list_any}

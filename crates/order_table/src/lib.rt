@@ -12,6 +12,3 @@ pub mod table;
 pub use lists::OutOfMemory;
 pub use row::{OrderRow, partition};
 pub use table::{Built, OrderTable, Repeated};
-
-#[cfg(test)]
-mod tests;

@@ -1,7 +1,7 @@
 //! The first row of each order reference.
 ghost use Rattle.std.specs.Prelude.{◌≡◌, IfOk, List, OnOk, map, nat_eq, option_map};
 ghost use Rattle.std.specs.List.{IsDistinct};
-ghost use Rattle.order_table.specs.Steps.{Adds, Puts, earlier_row, later_row};
+ghost use Rattle.order_table.specs.OneMoreRow.{KeepsEarlierRow, PutsRow, earlier_row, repeating_row};
 ghost use Rattle.order_table.specs.Orders.{IsTableOf, first_repeated, repeated_of};
 ghost use Rattle.order_table.specs.Orders.{kept_row, price_before, price_if_before, row_of};
 
@@ -105,9 +105,9 @@ impl<A: Allocator + Clone> OrderTable<A> {
     /// Keeps the earlier of the row and the one that stood under its reference, and gives the
     /// later.
     fn add(&mut self, row: OrderRow) -> Result<Option<OrderRow>, OutOfMemory>
-        ensures table { OnOk result (Adds self.old self.new row) }
+        ensures table { OnOk result (KeepsEarlierRow self.old self.new row) }
         ensures later { IfOk result (λ later.
-            later ≡ later_row (kept_row self.old row.order_no) row) }
+            later ≡ repeating_row (kept_row self.old row.order_no) row) }
     {
         let Some(kept) = self.put(row)? else {
             return Ok(None);
@@ -121,7 +121,7 @@ impl<A: Allocator + Clone> OrderTable<A> {
 
     /// Puts the row under its reference, and gives the one that stood there.
     fn put(&mut self, row: OrderRow) -> Result<Option<OrderRow>, OutOfMemory>
-        ensures table { OnOk result (Puts self.old self.new row) }
+        ensures table { OnOk result (PutsRow self.old self.new row) }
         ensures before { IfOk result (λ before. before ≡ kept_row self.old row.order_no) }
     {
         let kept = Kept {

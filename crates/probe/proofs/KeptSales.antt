@@ -15,10 +15,12 @@ use Rattle.probe.specs.Trades.{is_kept, kept}
 
 -- ---- lists of sales
 
-pub kept-append : (breaks : List ℕ) (selection : Sale → Bool) (xs ys : List Sale) → kept breaks selection (xs ++ ys) ≡ kept breaks selection xs ++ kept breaks selection ys
+pub kept-append : (breaks : List ℕ) (selection : Sale → Bool) (xs ys : List Sale)
+    → kept breaks selection (xs ++ ys) ≡ kept breaks selection xs ++ kept breaks selection ys
 kept-append breaks selection xs ys = filter-append (is_kept breaks selection) xs ys
 
-pub kept-permutation : (breaks : List ℕ) (selection : Sale → Bool) (xs ys : List Sale) → IsPermutation xs ys → IsPermutation (kept breaks selection xs) (kept breaks selection ys)
+pub kept-permutation : (breaks : List ℕ) (selection : Sale → Bool) (xs ys : List Sale) → IsPermutation xs ys
+    → IsPermutation (kept breaks selection xs) (kept breaks selection ys)
 kept-permutation breaks selection = IsPermutation-filter (is_kept breaks selection)
 
 pub length-kept : (breaks : List ℕ) (selection : Sale → Bool) (sales : List Sale) → length (kept breaks selection sales) ≤ length sales
@@ -27,16 +29,19 @@ length-kept breaks selection sales = omega (arith, length-filter (is_kept breaks
 -- ---- other breaks and other selections
 
 -- breaks with the same numbers keep the same sales
-pub kept_by_breaks : (xs ys : List ℕ) (selection : Sale → Bool) (sales : List Sale) → ((trade_no : ℕ) → is_among xs trade_no ≡ is_among ys trade_no) → kept xs selection sales ≡ kept ys selection sales
+pub kept_by_breaks : (xs ys : List ℕ) (selection : Sale → Bool) (sales : List Sale) → ((trade_no : ℕ) → is_among xs trade_no ≡ is_among ys trade_no)
+    → kept xs selection sales ≡ kept ys selection sales
 kept_by_breaks xs ys selection sales same = λ i. filter (λ (sale : Sale). not (same sale.trade_no i) && (selection sale && ltb 0 sale.shares)) sales
 
 -- so do selections that admit the same
-pub kept_by_selections : (breaks : List ℕ) (p q : Sale → Bool) (sales : List Sale) → ((sale : Sale) → p sale ≡ q sale) → kept breaks p sales ≡ kept breaks q sales
+pub kept_by_selections : (breaks : List ℕ) (p q : Sale → Bool) (sales : List Sale) → ((sale : Sale) → p sale ≡ q sale)
+    → kept breaks p sales ≡ kept breaks q sales
 kept_by_selections breaks p q sales same = λ i. filter (λ (sale : Sale). not (is_among breaks sale.trade_no) && (same sale i && ltb 0 sale.shares)) sales
 
 -- ---- the sales that are kept
 
-pub Contains-from_kept : (breaks : List ℕ) (selection : Sale → Bool) (sales : List Sale) (sale : Sale) → Contains (kept breaks selection sales) sale → Contains sales sale
+pub Contains-from_kept : (breaks : List ℕ) (selection : Sale → Bool) (sales : List Sale) (sale : Sale) → Contains (kept breaks selection sales) sale
+    → Contains sales sale
 Contains-from_kept breaks selection = Contains-from_filter (is_kept breaks selection)
 
 pub All-kept : (breaks : List ℕ) (selection : Sale → Bool) (P : Sale → Type 0) (sales : List Sale) → All P sales → All P (kept breaks selection sales)
@@ -49,7 +54,8 @@ kept_have_shares breaks selection sales k d below =
     let rest = and_parts _ _ (and_parts _ _ passed).1 in
     ltb-true 0 _ rest.1
 
-pub TellsApart-kept : (breaks : List ℕ) (selection : Sale → Bool) (sales : List Sale) → TellsApart (λ sale. sale.place) sales → TellsApart (λ sale. sale.place) (kept breaks selection sales)
+pub TellsApart-kept : (breaks : List ℕ) (selection : Sale → Bool) (sales : List Sale) → TellsApart (λ sale. sale.place) sales
+    → TellsApart (λ sale. sale.place) (kept breaks selection sales)
 TellsApart-kept breaks selection = TellsApart-filter (λ (sale : Sale). sale.place) (is_kept breaks selection)
 
 pub kept-by_place : (breaks : List ℕ) (selection : Sale → Bool) (sales : List Sale) → IsStrictlySortedBy (λ a b. nat_cmp a.place b.place) sales

@@ -1,4 +1,4 @@
-mod Prices
+mod OneMoreExecution
 pub mod KeptSales
 pub mod PricedSales
 pub mod PartSales

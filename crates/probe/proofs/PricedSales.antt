@@ -1,12 +1,11 @@
 -- The sales of priced executions: of lists joined and in another order, and what each sale has of its execution.
-use Rattle.std.proofs.Common.{◌≡◌, ℕ, ◌≤◌, List, [], ◌∷◌, ◌++◌, length, Option, Some, None, option_map, Contains, IsPermutation, nat_cmp, refl, sym, ap, ◌∙◌, arith, ⊎_elim}
-use Rattle.std.specs.List.{cons_option}
+use Rattle.std.proofs.Common.{◌≡◌, ℕ, ◌≤◌, List, ◌++◌, length, Option, Some, None, option_map, Contains, IsPermutation, nat_cmp, sym, ap, ◌∙◌}
 use Rattle.std.specs.List.Sorted.{IsStrictlySortedBy}
 use Rattle.std.proofs.lemmas.List.Elements.{filter_map-append}
 use Rattle.lists.specs.Least.{TellsApart}
 use Rattle.order_table.specs.declared.OrderRow.{OrderRow}
-use Rattle.lists.proofs.Lists.{IsPermutation-filter_map}
-use Rattle.lists.proofs.Order.{Contains_cons, Contains_head, Contains_later, sorted-filter_map}
+use Rattle.lists.proofs.Lists.{IsPermutation-filter_map, length-filter_map}
+use Rattle.lists.proofs.Order.{Contains-from_filter_map, sorted-filter_map}
 use Rattle.probe.specs.Pricing.{Execution, Sale, priced, price_of, sale_at, sale_of}
 
 -- ---- lists of executions
@@ -18,10 +17,7 @@ pub priced-permutation : (rows : List OrderRow) (xs ys : List Execution) → IsP
 priced-permutation rows = IsPermutation-filter_map (sale_of rows)
 
 pub length-priced : (rows : List OrderRow) (executions : List Execution) → length (priced rows executions) ≤ length executions
-length-priced rows [] = omega arith
-length-priced rows (e ∷ es) =
-    let more = length-priced rows es in
-    elim (sale_of rows e) as (λ o. length (cons_option o (priced rows es)) ≤ length (e ∷ es)) [ None ↦ omega arith | Some sale ↦ omega arith ]
+length-priced rows = length-filter_map (sale_of rows)
 
 -- ---- one sale
 
@@ -30,7 +26,8 @@ pub sale_keeps : (rows : List OrderRow) (execution : Execution) (sale : Sale) �
     → (sale.place ≡ execution.place) × (sale.time ≡ execution.time) × (sale.locate ≡ execution.locate)
 sale_keeps rows execution sale = go (price_of rows execution)
   where
-    go : (o : Option ℕ) → option_map (sale_at execution) o ≡ Some sale → (sale.place ≡ execution.place) × (sale.time ≡ execution.time) × (sale.locate ≡ execution.locate)
+    go : (o : Option ℕ) → option_map (sale_at execution) o ≡ Some sale
+        → (sale.place ≡ execution.place) × (sale.time ≡ execution.time) × (sale.locate ≡ execution.locate)
     go None e = absurd (cc)
     go (Some price) e =
         let same : sale_at execution price ≡ sale = cc in
@@ -39,21 +36,12 @@ sale_keeps rows execution sale = go (price_of rows execution)
 -- each sale is that of one of the executions
 pub priced_contains : (rows : List OrderRow) (executions : List Execution) (sale : Sale) → Contains (priced rows executions) sale
     → (execution : Execution) × Contains executions execution × (sale_of rows execution ≡ Some sale)
-priced_contains rows [] sale = λ c. absurd (omega (arith, c.1))
-priced_contains rows (e ∷ es) sale = go (sale_of rows e) refl (priced_contains rows es sale)
-  where
-    go : (o : Option Sale) → sale_of rows e ≡ o → (Contains (priced rows es) sale → (execution : Execution) × Contains es execution × (sale_of rows execution ≡ Some sale))
-        → Contains (cons_option o (priced rows es)) sale → (execution : Execution) × Contains (e ∷ es) execution × (sale_of rows execution ≡ Some sale)
-    go None at more = λ c. (let f = more c in (f.0, Contains_later e f.0 es f.1, f.2))
-    go (Some first) at more = λ c.
-        ⊎_elim
-        (λ same. (e, Contains_head e es, at ∙ ap Some same))
-        (λ later. let f = more later in (f.0, Contains_later e f.0 es f.1, f.2))
-        (Contains_cons first sale (priced rows es) c)
+priced_contains rows = Contains-from_filter_map (sale_of rows)
 
 -- ---- places
 
-pub TellsApart-priced : (rows : List OrderRow) (executions : List Execution) → TellsApart (λ execution. execution.place) executions → TellsApart (λ sale. sale.place) (priced rows executions)
+pub TellsApart-priced : (rows : List OrderRow) (executions : List Execution) → TellsApart (λ execution. execution.place) executions
+    → TellsApart (λ sale. sale.place) (priced rows executions)
 TellsApart-priced rows executions apart x y p q same =
     let f = priced_contains rows executions x p in
     let g = priced_contains rows executions y q in

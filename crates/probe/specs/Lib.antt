@@ -1,3 +1,4 @@
 pub mod Pricing
 pub mod Selection
 pub mod Trades
+pub mod Parts

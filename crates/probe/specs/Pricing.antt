@@ -1,4 +1,5 @@
 -- The price of an execution, and the sales of a list of executions.
+-- To be believed.
 use Rattle.std.specs.Prelude.{ℕ, Bool, is_none, List, Option, filter, filter_map, option_map}
 use Rattle.lists.specs.Least.{least_by}
 use Rattle.order_table.specs.declared.OrderRow.{OrderRow}

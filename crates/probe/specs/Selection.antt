@@ -1,6 +1,8 @@
 -- Which sales a selection admits.
+-- To be believed.
 use Rattle.std.specs.Prelude.{ℕ, ◌*◌, nat_lt, nat_le, Bool, true, ◌&&◌, Option, Some, None}
 use Rattle.lists.specs.Among.{is_among}
+use Rattle.lists.specs.declared.limits.TheConstants.{NANOSECONDS}
 use Rattle.probe.specs.declared.rows.Kind.{Kind}
 use Rattle.probe.specs.declared.rows.Kind.TheVariants.{E, C, P, Q}
 use Rattle.probe.specs.declared.rows.Sale.{Sale}
@@ -17,7 +19,8 @@ has_locate (Listed list) locate = is_among list locate
 
 -- a time in nanoseconds is in a span of seconds: from its first time on, and before its second
 abbrev pub is_within : Span → ℕ → Bool
-is_within span time = nat_le (span.since * 1000000000) time && nat_lt time (span.until * 1000000000)
+is_within span time =
+    nat_le (span.since * NANOSECONDS) time && nat_lt time (span.until * NANOSECONDS)
 
 -- a kind is among those that are chosen
 abbrev pub has_kind : Kinds → Kind → Bool

@@ -1,4 +1,5 @@
 -- Which sales of a list are kept.
+-- To be believed.
 use Rattle.std.specs.Prelude.{ℕ, nat_lt, Bool, ◌&&◌, not, List, filter}
 use Rattle.lists.specs.Among.{is_among}
 use Rattle.probe.specs.declared.rows.Sale.{Sale}

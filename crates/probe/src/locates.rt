@@ -4,7 +4,7 @@ ghost use Rattle.std.specs.Cmp.Lexicographic.{pointwise};
 ghost use Rattle.std.specs.Cmp.Rules.{comparing};
 ghost use Rattle.std.proofs.Common.{rules};
 ghost use Rattle.std.specs.List.Sorted.{IsStrictlyIncreasing};
-ghost use Rattle.lists.specs.Among.{is_among};
+ghost use Rattle.lists.specs.Among.{HasNumbersOf, is_among};
 
 use std::alloc::{Allocator, Global};
 use std::marker::Model;
@@ -28,7 +28,7 @@ impl<A: Allocator> LocateList<A> {
     /// The locates of `rows`, which has them in any order and any number of times. Sorts in the
     /// vector that it is handed, and takes no memory.
     pub fn from_rows(mut rows: Vec<u16, A>) -> Self
-        ensures numbers { (locate : ℕ) → is_among result locate ≡ is_among rows.items locate }
+        ensures numbers { HasNumbersOf rows.items result }
         ensures rising { IsStrictlyIncreasing result }
     {
         rows.sort_unstable();
@@ -53,7 +53,8 @@ impl<A: Allocator> LocateList<A> {
     pub fn into_vec(self) -> Vec<u16, A>
         ensures { result.items ≡ self }
     {
-        self.numbers
+        let LocateList { numbers } = self;
+        numbers
     }
 }
 

@@ -5,9 +5,8 @@ ghost use Rattle.probe.specs.declared.rows.Sale.{Sale};
 
 use crate::locates::LocateList;
 use crate::rows::{Kind, Sale};
+use lists::limits::NANOSECONDS;
 use std::alloc::{Allocator, Global};
-
-const NANOSECONDS_PER_SECOND: u64 = 1_000_000_000;
 
 /// The locates whose sales are asked for.
 #[derive(Drop)]
@@ -44,8 +43,7 @@ impl Span {
     fn holds(self, time: u64) -> bool
         ensures { result ≡ is_within self time }
     {
-        u64::from(self.since) * NANOSECONDS_PER_SECOND <= time
-            && time < u64::from(self.until) * NANOSECONDS_PER_SECOND
+        u64::from(self.since) * NANOSECONDS <= time && time < u64::from(self.until) * NANOSECONDS
     }
 }
 

@@ -1,6 +1,6 @@
 use Rattle.std.proofs.Common.{◌<◌, ap, arith, length, option_map}
 use Rattle.probe.specs.Pricing.{unknown_of}
-use Rattle.probe.proofs.Prices.{priced_more, priced_stays, unknown_more, unknown_stays}
+use Rattle.probe.proofs.OneMoreExecution.{priced_more, priced_stays, unknown_more, unknown_stays}
 use Rattle.probe.proofs.pricing.price_all.Goals as goal
 use Rattle.probe.proofs.pricing.price_all.Goals.{in-Some+in_ok-push-in-Some, in-None}
 

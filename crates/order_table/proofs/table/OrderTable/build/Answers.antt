@@ -1,5 +1,5 @@
 use Rattle.order_table.specs.Orders.{OrderRow}
-use Rattle.order_table.proofs.Repeats.{table_more, repeated_stays, repeated_new}
+use Rattle.order_table.proofs.OneMoreRow.{table_more, repeated_stays, repeated_new}
 use Rattle.order_table.proofs.table.OrderTable.build.Goals.{in-Some, in_default}
 use Rattle.order_table.proofs.table.OrderTable.build.Goals as goal
 
@@ -19,7 +19,8 @@ loop-row-preserved g c =
       repeated = elim c.match-branch-3.branch [
         | in-Some w ↦
             (rw w.repeated-is
-            (repeated_new rows i d within old repeated c.requires before.table before.repeated later w.in-Some.later w.earlier.result added.later w.in-Some.is w.earlier.ensures))
+            (repeated_new rows i d within old repeated c.requires before.table before.repeated later w.in-Some.later w.earlier.result added.later w.in-Some.is
+            w.earlier.ensures))
         | in_default w ↦
             (rw w.repeated-is (repeated_stays rows i d within old repeated c.requires before.table before.repeated later added.later w.in_default.is))
       ];

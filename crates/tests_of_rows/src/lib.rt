@@ -1,0 +1,11 @@
+//! Tests of the crates of rows: the table of orders, the broken trades, the sales that are priced and kept.
+#![tactic(auto)]
+
+#[cfg(test)]
+mod breaks;
+#[cfg(test)]
+mod orders;
+#[cfg(test)]
+mod rows;
+#[cfg(test)]
+mod sales;

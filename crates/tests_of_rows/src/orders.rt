@@ -1,0 +1,51 @@
+//! The table of orders.
+use crate::rows::order_rows;
+use linked_list_allocator::LocalHeap;
+use order_table::{OrderTable, Repeated, partition};
+use std::test::Fail;
+
+#[test]
+fn the_first_row_prices(rt: HostRuntime) -> Result<(), Fail> {
+    let built = OrderTable::build(rt.alloc(), &order_rows())?;
+    for (order_no, place, want) in [
+        (1, 0, None),
+        (1, 1, Some(4)),
+        (1, 33, Some(4)),
+        (2, 80, None),
+    ] {
+        assert!(rt;
+            built.table.price_before(order_no, place) == want,
+            "{order_no} at {place}"
+        );
+    }
+    let first = Repeated {
+        place: 38,
+        order_no: 1,
+    };
+    assert!(rt; built.repeated == Some(first));
+    assert!(rt; partition(130) == 2);
+    Ok(())
+}
+
+#[test]
+fn a_table_of_no_rows_is_built(rt: HostRuntime) -> Result<(), Fail> {
+    let built = OrderTable::build(rt.alloc(), &[])?;
+    assert!(rt; built.repeated.is_none() && built.table.price_before(1, 80).is_none());
+    Ok(())
+}
+
+#[test]
+fn a_table_is_refused_until_there_is_room(rt: HostRuntime) -> Result<(), Fail> {
+    let mut enough = None;
+    for step in 1..100 {
+        let heap = LocalHeap::new(rt.alloc(), 16 * step)?;
+        if let Ok(built) = OrderTable::build(&heap, &order_rows()) {
+            assert!(rt; built.table.price_before(1, 38) == Some(4));
+            assert!(rt; built.repeated.map(|repeated| repeated.place) == Some(38));
+            enough = Some(step);
+            break;
+        }
+    }
+    assert!(rt; enough.is_some_and(|step| step > 1));
+    Ok(())
+}

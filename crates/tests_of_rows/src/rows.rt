@@ -1,0 +1,46 @@
+//! Rows for the tests.
+ghost use Rattle.std.specs.Prelude.{map, nat_eq};
+ghost use Rattle.std.specs.List.{IsDistinct};
+
+use order_table::OrderRow;
+use probe::{Execution, Kind, Sale};
+
+/// Three rows of the reference 1, the first of them in the middle.
+pub(crate) fn order_rows() -> [OrderRow; 3]
+    ensures { IsDistinct nat_eq (map (λ row. row.place) result) }
+{
+    let row = |place, price| OrderRow {
+        place,
+        order_no: 1,
+        price,
+    };
+    [row(38, 5), row(0, 4), row(71, 6)]
+}
+
+/// An execution of the reference 1, and one of a reference that no row gives.
+pub(crate) fn executions() -> [Execution; 2]
+    ensures { IsDistinct nat_eq (map (λ execution. execution.place) result) }
+{
+    let execution = |place, order_no| Execution {
+        place,
+        time: 5,
+        locate: 7,
+        order_no,
+        shares: 0,
+        trade_no: 9,
+    };
+    [execution(33, 1), execution(80, 2)]
+}
+
+/// A sale of the locate 7 at the price 4.
+pub(crate) fn sale(trade_no: u64, shares: u64, kind: Kind, time: u64) -> Sale {
+    Sale {
+        place: 33,
+        time,
+        locate: 7,
+        kind,
+        price: 4,
+        shares,
+        trade_no,
+    }
+}
