@@ -1,11 +1,13 @@
 -- Where lists have the numbers below n together, each once, they are those numbers in some order, and each task was given at most twice.
-use Rattle.std.proofs.Common.{◌≡◌, ◌⊎◌, ℕ, zero, suc, ◌+◌, ◌-◌, ◌*◌, ◌%◌, ◌<◌, ◌≤◌, ◌==◌, ◌&&◌, nat_lt, cond, List, [], ◌∷◌, ◌++◌, slice_index, sum_by, sym, refl, ap, subst, ◌∙◌, ⊎_elim, inl, inr, arith}
+use Rattle.std.proofs.Common.{◌≡◌, ◌⊎◌, ℕ, zero, suc, ◌+◌, ◌-◌, ◌*◌, ◌%◌, ◌<◌, ◌≤◌, ◌==◌, ◌&&◌, nat_lt, cond, List, [], ◌∷◌, ◌++◌, slice_index, sum_by, sym}
+use Rattle.std.proofs.Common.{refl, ap, subst, ◌∙◌, ⊎_elim, inl, inr, arith}
 use Rattle.std.specs.List.{range_with_len, flat_map}
 use Rattle.std.specs.Prelude.{IsPermutation}
 use Rattle.std.proofs.Math.Nat.{mod-eq_of_lt, add-mod_left}
 use Rattle.std.proofs.lemmas.Bool.Decides.{nat_tests}
 use Rattle.std.proofs.lemmas.List.Sums.{sum_by-append, sum_by-cons}
-use Rattle.std.proofs.lemmas.List.Sorted.{IsPermutation-refl, IsPermutation-trans, IsPermutation-cons, IsPermutation-sym, IsPermutation-middle, IsPermutation-to_front}
+use Rattle.std.proofs.lemmas.List.Sorted.{IsPermutation-refl, IsPermutation-trans, IsPermutation-cons, IsPermutation-sym, IsPermutation-middle}
+use Rattle.std.proofs.lemmas.List.Sorted.{IsPermutation-to_front}
 use mathlib.Core.Logic.{dite}
 use native.Mathlib.Decide.{dec_lt, ℕ_discrete}
 use Rattle.dispatcher.specs.Claims.{times_given}
@@ -13,8 +15,8 @@ use Rattle.atomic_table.specs.Table.{State}
 use Rattle.dispatcher.specs.declared.rule.View.{View}
 use Rattle.dispatcher.specs.declared.rule.Size.{Size}
 use Rattle.dispatcher.specs.Rule.{IsConsistent, occurrences, once_below}
-use Rattle.dispatcher.proofs.Counts.{none_below, range_suc}
-use Rattle.dispatcher.proofs.Keeps.{one_there, none_there}
+use Rattle.dispatcher.proofs.Occurrences.{none_below, range_suc}
+use Rattle.dispatcher.proofs.StepsKeepRule.{one_there, none_there}
 
 module _ {A : Type 0} where
   pub occurrences_flat : (f : A → List ℕ) (l : List A) (c : ℕ) → occurrences c (flat_map f l) ≡ sum_by (λ a. occurrences c (f a)) l
@@ -32,12 +34,13 @@ cut_at (x ∷ xs) c h = dite (ℕ_discrete x c) (λ is. ([], xs, ap (λ (y : ℕ
 next_below : (n c : ℕ) → once_below (suc n) c ≡ once_below n c + cond (n == c) 1 0
 next_below n c = grind (arith, nat_tests)
 
-pub numbers_below : (n : ℕ) (xs : List ℕ) → ((c : ℕ) → occurrences c xs ≡ once_below n c) → IsPermutation xs (range_with_len 0 n)
-numbers_below zero [] h = IsPermutation-refl []
-numbers_below zero (x ∷ xs) h = let p = sum_by-cons (λ z. cond (z == x) 1 0) x xs in let here = one_there x x refl in let none_at = none_below x in let e = h x in absurd (omega (arith, here, none_at))
-numbers_below (suc n) xs h = let last_once = next_below n n in let here = one_there n n refl in let e = h n in
+pub once_each_in_order : (n : ℕ) (xs : List ℕ) → ((c : ℕ) → occurrences c xs ≡ once_below n c) → IsPermutation xs (range_with_len 0 n)
+once_each_in_order zero [] h = IsPermutation-refl []
+once_each_in_order zero (x ∷ xs) h = let p = sum_by-cons (λ z. cond (z == x) 1 0) x xs in let here = one_there x x refl in let none_at = none_below x in
+    let e = h x in absurd (omega (arith, here, none_at))
+once_each_in_order (suc n) xs h = let last_once = next_below n n in let here = one_there n n refl in let e = h n in
     let r = cut_at xs n (omega (arith, last_once, here)) in let front : List ℕ = r.0 in let back : List ℕ = r.1 in
-    let rest = numbers_below n (front ++ back) (λ c. let w : occurrences c xs ≡ occurrences c (front ++ n ∷ back) = ap (occurrences c) r.2 in
+    let rest = once_each_in_order n (front ++ back) (λ c. let w : occurrences c xs ≡ occurrences c (front ++ n ∷ back) = ap (occurrences c) r.2 in
     let p = sum_by-append (λ z. cond (z == c) 1 0) front (n ∷ back) in let q = sum_by-cons (λ z. cond (z == c) 1 0) n back in
     let s = sum_by-append (λ z. cond (z == c) 1 0) front back in let more = next_below n c in let k = h c in omega (arith, more)) in
     subst (λ (ys : List ℕ). IsPermutation ys (range_with_len 0 (suc n))) (sym r.2)

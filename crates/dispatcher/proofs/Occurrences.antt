@@ -1,5 +1,6 @@
 -- Sums over the views of all seats, and how often a number is in a list.
-use Rattle.std.proofs.Common.{◌≡◌, ℕ, zero, suc, ◌+◌, ◌*◌, ◌<◌, ◌≤◌, ◌==◌, nat_le, cond, List, [], ◌∷◌, ◌++◌, set, get_or, take, drop, length, replicate, slice_index, All, Contains, sum_by, sym, refl, ap, subst, ◌∙◌, arith, le_refl, length-append}
+use Rattle.std.proofs.Common.{◌≡◌, ℕ, zero, suc, ◌+◌, ◌*◌, ◌<◌, ◌≤◌, ◌==◌, nat_le, cond, List, [], ◌∷◌, ◌++◌, set, get_or, take, drop, length, replicate}
+use Rattle.std.proofs.Common.{slice_index, All, Contains, sum_by, sym, refl, ap, subst, ◌∙◌, arith, le_refl, length-append}
 use mathlib.Core.Option.{some, some-injective, some-ne-none}
 use lib.ListN.{get_elem?}
 use Rattle.std.specs.List.{range_with_len}
@@ -50,7 +51,8 @@ below_if n x h = grind (arith, nat_tests)
 pub none_late : (tasks : ℕ) (xs : List ℕ) → All (λ c. c < 2 * tasks) xs → late_count tasks xs ≡ 0
 none_late tasks [] h = refl
 none_late tasks (x ∷ xs) h = let one : x < 2 * tasks = h 0 0 (omega arith) in let more = none_late tasks xs (λ k d lt. h (suc k) d (omega arith)) in
-    let p = sum_by-cons (λ z. cond (nat_le (2 * tasks) z) 1 0) x xs in let no : ◌≡◌ {A = ℕ} (cond (nat_le (2 * tasks) x) 1 0) 0 = grind (arith, nat_tests) in omega (arith, no)
+    let p = sum_by-cons (λ z. cond (nat_le (2 * tasks) z) 1 0) x xs in let no : ◌≡◌ {A = ℕ} (cond (nat_le (2 * tasks) x) 1 0) 0 = grind (arith, nat_tests) in
+    omega (arith, no)
 
 pub length_range : (a n : ℕ) → length (range_with_len a n) ≡ n
 length_range a zero = refl
@@ -62,7 +64,8 @@ occurs_range x a zero = let e : once_below a x ≡ once_below (a + 0) x = ap (λ
   where
     plus_none : (a : ℕ) → a ≡ a + 0
     plus_none a = omega arith
-occurs_range x a (suc n) = let rest = occurs_range x (a + 1) n in let first = sum_by-cons (λ z. cond (z == x) 1 0) a (range_with_len (a + 1) n) in let next = one_more_below a x in
+occurs_range x a (suc n) = let rest = occurs_range x (a + 1) n in let first = sum_by-cons (λ z. cond (z == x) 1 0) a (range_with_len (a + 1) n) in let next =
+    one_more_below a x in
     subst (λ (m : ℕ). occurrences x (range_with_len a (suc n)) + once_below a x ≡ once_below m x) (shift a n) (omega arith)
   where
     shift : (a n : ℕ) → a + 1 + n ≡ a + suc n
@@ -86,7 +89,8 @@ module _ {A : Type 0} where
       let rest = none_in f g xs (omega arith) (λ j v e. h (suc j) v e) in omega arith
 
   -- where one element has all of g, and the others have nothing of f where they have nothing of g, it has all of f
-  pub only_one : (f g : A → ℕ) (l : List A) (i : ℕ) (u : A) → get_elem? l i ≡ some u → sum_by g l ≡ g u → ((j : ℕ) (v : A) → get_elem? l j ≡ some v → g v ≡ 0 → f v ≡ 0)
+  pub only_one : (f g : A → ℕ) (l : List A) (i : ℕ) (u : A) → get_elem? l i ≡ some u → sum_by g l ≡ g u
+      → ((j : ℕ) (v : A) → get_elem? l j ≡ some v → g v ≡ 0 → f v ≡ 0)
       → sum_by f l ≡ f u
   only_one f g [] i u e all h = absurd (some-ne-none u (sym e))
   only_one f g (x ∷ xs) zero u e all h = let p = sum_by-cons f x xs in let q = sum_by-cons g x xs in let is = some-injective x u e in
