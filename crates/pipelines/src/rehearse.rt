@@ -64,10 +64,8 @@ pub(crate) fn rehearse_pipeline<W: Work, M: Allocator + Clone>(
         (λ total. (first_left gatherers (length (arc_value inputs)) events.now ≡ None)
         × (total ≡ W.total_of (arc_value inputs)))
         (λ task. first_left gatherers (length (arc_value inputs)) events.now ≡ Some task)) }
-    ensures admissible { OnOk result (W.IsAdmissible (arc_value inputs)) }
+    ensures admissible { IfOk result (λ answer. OnOk answer (W.IsAdmissible (arc_value inputs))) }
 {
-    // This tells that the inputs are admissible.
-    let _count = inputs.count();
     let gathering = gather_by(alloc, memory, &inputs, gatherers, events)?;
     if let Some(task) = gathering.first_missing() {
         return Ok(Err(task));
