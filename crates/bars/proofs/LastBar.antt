@@ -1,5 +1,6 @@
 -- One more sale: the bar that goes to the end of a table.
-use Rattle.std.proofs.Common.{◌≡◌, ℕ, ◌+◌, ◌*◌, ◌/◌, ◌<◌, ◌≤◌, Bool, true, false, cond, All, List, [], ◌∷◌, ◌++◌, length, take, get_or, set, Some, None, Contains, Bor, Ordering, Less, Equal, Greater, nat_cmp, refl, sym, ap, ◌∙◌, subst, arith, ◌⊎◌, ⊎_elim}
+use Rattle.std.proofs.Common.{◌≡◌, ℕ, ◌+◌, ◌*◌, ◌/◌, ◌<◌, ◌≤◌, Bool, true, false, cond, All, List, [], ◌∷◌, ◌++◌, length, take, get_or, set, Some, None}
+use Rattle.std.proofs.Common.{Contains, Bor, Ordering, Less, Equal, Greater, nat_cmp, refl, sym, ap, ◌∙◌, subst, arith, ◌⊎◌, ⊎_elim}
 use Rattle.std.specs.List.Sorted.{IsStrictlySortedBy}
 use Rattle.std.specs.Ordering.{is_gt, is_lt, is_eq, ordering_then}
 use Rattle.std.proofs.lemmas.Bool.{and_parts, eqb-true}
@@ -51,7 +52,8 @@ AreBarsOf-one width sale = record { rise = (tt, tt); each = λ key. go key (has_
         }))
     go key false e = ap (λ c. cond c (Some (bar_of_one width sale)) None) e
 
-pub AreBarsOf-more : (width : ℕ) (xs : List Sale) (sale : Sale) (table : List Bar) → AreBarsOf width xs table → AreBarsOf width (xs ++ sale ∷ []) (merged_tables table (bar_of_one width sale ∷ []))
+pub AreBarsOf-more : (width : ℕ) (xs : List Sale) (sale : Sale) (table : List Bar) → AreBarsOf width xs table
+    → AreBarsOf width (xs ++ sale ∷ []) (merged_tables table (bar_of_one width sale ∷ []))
 AreBarsOf-more width xs sale table h =
     let one = AreBarsOf-one width sale in
     AreBarsOf-merged width xs (sale ∷ []) table (bar_of_one width sale ∷ []) _ h one (merged_is table (bar_of_one width sale ∷ []) h.rise one.rise)
@@ -62,7 +64,8 @@ AreBarsOf-more width xs sale table h =
 merged_after : (table : List Bar) (bar : Bar) → ((z : Bar) → Contains table z → key_cmp z bar ≡ Less) → merged_tables table (bar ∷ []) ≡ table ++ bar ∷ []
 merged_after [] bar h = refl
 merged_after (a ∷ table) bar h =
-    ap (λ o. by_order o (a ∷ merged_tables table (bar ∷ [])) (joined_bar a bar ∷ merged_tables table []) (bar ∷ put_before a (merged_tables table) [])) (h a (Contains_head a table))
+    ap (λ o. by_order o (a ∷ merged_tables table (bar ∷ [])) (joined_bar a bar ∷ merged_tables table []) (bar ∷ put_before a (merged_tables table) []))
+    (h a (Contains_head a table))
     ∙ ap (λ l. a ∷ l) (merged_after table bar (λ z c. h z (Contains_later a z table c)))
 
 -- into the last, which has its key
@@ -70,14 +73,17 @@ merged_onto : (front : List Bar) (last bar : Bar) → ((z : Bar) → Contains fr
     → merged_tables (front ++ last ∷ []) (bar ∷ []) ≡ front ++ joined_bar last bar ∷ []
 merged_onto [] last bar h e = ap (λ o. by_order o (last ∷ bar ∷ []) (joined_bar last bar ∷ []) (bar ∷ put_before last (merged_tables []) [])) e
 merged_onto (a ∷ front) last bar h e =
-    ap (λ o. by_order o (a ∷ merged_tables (front ++ last ∷ []) (bar ∷ [])) (joined_bar a bar ∷ merged_tables (front ++ last ∷ []) []) (bar ∷ put_before a (merged_tables (front ++ last ∷ [])) [])) (h a (Contains_head a front))
+    ap (λ o. by_order o (a ∷ merged_tables (front ++ last ∷ []) (bar ∷ [])) (joined_bar a bar ∷ merged_tables (front ++ last ∷ []) [])
+    (bar ∷ put_before a (merged_tables (front ++ last ∷ [])) [])) (h a (Contains_head a front))
     ∙ ap (λ l. a ∷ l) (merged_onto front last bar (λ z c. h z (Contains_later a z front c)) e)
 
 below_last : (front : List Bar) (last : Bar) → IsByKey (front ++ last ∷ []) → (z : Bar) → Contains front z → key_cmp z last ≡ Less
 below_last [] last up z c = absurd (omega (arith, c.1))
 below_last (a ∷ front) last up z c =
-    let head = All-contains (λ w. key_cmp a w ≡ Less) (front ++ last ∷ []) last (All-from_recursion _ _ (sorted_head key_cmp a (front ++ last ∷ []) up)) (Contains-push front last) in
-    ⊎_elim (λ e. subst (λ w. key_cmp w last ≡ Less) e head) (λ d. below_last front last (sorted_tail key_cmp a (front ++ last ∷ []) up) z d) (Contains_cons a z front c)
+    let head = All-contains (λ w. key_cmp a w ≡ Less) (front ++ last ∷ []) last (All-from_recursion _ _ (sorted_head key_cmp a (front ++ last ∷ []) up))
+    (Contains-push front last) in
+    ⊎_elim (λ e. subst (λ w. key_cmp w last ≡ Less) e head) (λ d. below_last front last (sorted_tail key_cmp a (front ++ last ∷ []) up) z d)
+    (Contains_cons a z front c)
 
 below_more : (a b c : Bar) → key_cmp a b ≡ Less → is_gt (key_cmp b c) ≡ false → key_cmp a c ≡ Less
 below_more a b c p q = grind (arith, nat_tests)
@@ -106,7 +112,8 @@ pushed_after_last table n last bar e at up to differ =
     let front = take n table in
     let split : table ≡ front ++ last ∷ [] = split_last table n last e ∙ ap (λ z. front ++ z ∷ []) (sym at) in
     let rises = subst IsByKey split up in
-    let here : is_gt (key_cmp last bar) ≡ false = subst (λ z. is_gt (key_cmp z bar) ≡ false) (sym at) (All-get_or (λ z. is_gt (key_cmp z bar) ≡ false) table n last (omega (arith, e)) to) in
+    let here : is_gt (key_cmp last bar) ≡ false = subst (λ z. is_gt (key_cmp z bar) ≡ false) (sym at)
+    (All-get_or (λ z. is_gt (key_cmp z bar) ≡ false) table n last (omega (arith, e)) to) in
     let less = less_from (key_cmp last bar) here differ in
     sym (merged_after table bar (λ z c.
     ⊎_elim (λ d. below_more z last bar (below_last front last rises z d) here)
@@ -154,7 +161,10 @@ pub one_not_after : (width : ℕ) (a b : Sale) → 0 < width → is_lt (by_time 
 one_not_after width a b some h =
     let rises = start_rises width a.time b.time some in
     ⊎_elim (λ less. grind (arith, nat_tests, less))
-    (λ same. let up : start_of width a.time ≤ start_of width b.time = rises same.1 in let locates = same.0 in in_order a.locate b.locate (start_of width a.time) (start_of width b.time) (sym locates) up)
+    (λ same.
+    let up : start_of width a.time ≤ start_of width b.time = rises same.1 in
+    let locates = same.0 in
+    in_order a.locate b.locate (start_of width a.time) (start_of width b.time) (sym locates) up)
     (time_parts b.locate b.time a.locate a.time h)
   where
     in_order : (l m s u : ℕ) → l ≡ m → s ≤ u → is_gt (ordering_then (nat_cmp l m) (nat_cmp s u)) ≡ false
@@ -186,14 +196,16 @@ equal_from Greater e = absurd (cc)
 
 -- ---- the steps of the loop over the sorted sales
 
-pub told_one_more : (width : ℕ) (sales : List Sale) (i : ℕ) (d : Sale) (table new : List Bar) (bar : Bar) → i < length sales → bar ≡ bar_of_one width (get_or sales i d)
+pub told_one_more : (width : ℕ) (sales : List Sale) (i : ℕ) (d : Sale) (table new : List Bar) (bar : Bar) → i < length sales
+    → bar ≡ bar_of_one width (get_or sales i d)
     → AreBarsOf width (take i sales) table → new ≡ merged_tables table (bar ∷ []) → AreBarsOf width (take (i + 1) sales) new
 told_one_more width sales i d table new bar within is are made =
     subst (AreBarsOf width (take (i + 1) sales)) (sym (made ∙ ap (λ z. merged_tables table (z ∷ [])) is))
     (subst (λ l. AreBarsOf width l (merged_tables table (bar_of_one width (get_or sales i d) ∷ []))) (sym (take_more sales i d within))
     (AreBarsOf-more width (take i sales) (get_or sales i d) table are))
 
-pub next_up_to : (width : ℕ) (sales : List Sale) (i : ℕ) (d e : Sale) (new : List Bar) (bar : Bar) → 0 < width → IsSortedByKey (λ (s : Sale). (s.locate, s.time)) by_time sales
+pub next_up_to : (width : ℕ) (sales : List Sale) (i : ℕ) (d e : Sale) (new : List Bar) (bar : Bar) → 0 < width
+    → IsSortedByKey (λ (s : Sale). (s.locate, s.time)) by_time sales
     → i + 1 < length sales → bar ≡ bar_of_one width (get_or sales i e) → IsUpTo new bar → IsUpTo new (bar_of_one width (get_or sales (i + 1) d))
 next_up_to width sales i d e new bar some sorted within is to =
     let here : bar ≡ bar_of_one width (get_or sales i d) = is ∙ ap (bar_of_one width) (get_or_default sales i e d (omega arith)) in

@@ -1,5 +1,6 @@
 -- The sums of a bar: what they are of, how large they can be, and what they mean for the text of a bar.
-use Rattle.std.proofs.Common.{◌≡◌, ℕ, ◌+◌, ◌*◌, ◌/◌, ◌^◌, ◌<◌, ◌≤◌, Bool, true, false, cond, All, List, [], ◌∷◌, length, filter, Some, Contains, sym, ap, ◌∙◌, arith}
+use Rattle.std.proofs.Common.{◌≡◌, ℕ, ◌+◌, ◌*◌, ◌/◌, ◌^◌, ◌<◌, ◌≤◌, Bool, true, false, cond, All, List, [], ◌∷◌, length, filter, Some, Contains, sym, ap, ◌∙◌}
+use Rattle.std.proofs.Common.{arith}
 use Rattle.std.specs.List.{sum_by}
 use Rattle.std.specs.Option.{unwrap_or}
 use Rattle.std.proofs.lemmas.Bool.{and_parts, eqb-true}
@@ -35,7 +36,8 @@ filter_shorter p (x ∷ xs) =
     elim (p x) as (λ b. length (cond b (x ∷ filter p xs) (filter p xs)) ≤ length (x ∷ xs)) [ true ↦ omega arith | false ↦ omega arith ]
 
 -- a bar has no more trades than there are sales
-trades_within : (width : ℕ) (sales : List Sale) (table : List Bar) (key : Key) (bar : Bar) → AreBarsOf width sales table → found table key ≡ Some bar → bar.trades ≤ length sales
+trades_within : (width : ℕ) (sales : List Sale) (table : List Bar) (key : Key) (bar : Bar) → AreBarsOf width sales table → found table key ≡ Some bar
+    → bar.trades ≤ length sales
 trades_within width sales table key bar are e =
     let sums = has_sums key (filter (has_key width key) sales) bar (sym (are.each key) ∙ e) in
     omega (arith, sums.trades, filter_shorter (has_key width key) sales)
@@ -84,20 +86,24 @@ start_below width time = div-mul-le_self time (width * 1000000000)
 pub average_fits : (bar : Bar) → IsTraded bar → bar.notional / bar.volume < 2 ^ 32
 average_fits bar has = let quotient : bar.notional / bar.volume ≤ 4294967295 = div-le_of_le-mul bar.volume has.1 in omega (arith, quotient)
 
-start_from : (width : ℕ) (key : Key) (some : List Sale) → 0 < length some → All (λ (s : Sale). s.time < 2 ^ 48) some → All (λ s. has_key width key s ≡ true) some → key.start < 2 ^ 48
+start_from : (width : ℕ) (key : Key) (some : List Sale) → 0 < length some → All (λ (s : Sale). s.time < 2 ^ 48) some
+    → All (λ s. has_key width key s ≡ true) some → key.start < 2 ^ 48
 start_from width key [] h times passes = absurd (omega arith)
 start_from width key (x ∷ xs) h times passes =
     let time = All-head (λ (s : Sale). s.time < 2 ^ 48) x xs times in
     let start = eqb-true (start_of width x.time) key.start (and_parts _ _ (All-head (λ s. has_key width key s ≡ true) x xs passes)).1 in
     omega (arith, start, start_below width x.time, time)
 
-start_small : (width : ℕ) (sales : List Sale) (table : List Bar) (key : Key) (bar : Bar) → AreBarsOf width sales table → All (λ (s : Sale). s.time < 2 ^ 48) sales → found table key ≡ Some bar → bar.start < 2 ^ 48
+start_small : (width : ℕ) (sales : List Sale) (table : List Bar) (key : Key) (bar : Bar) → AreBarsOf width sales table
+    → All (λ (s : Sale). s.time < 2 ^ 48) sales → found table key ≡ Some bar → bar.start < 2 ^ 48
 start_small width sales table key bar are times e =
     let sums = has_sums key (filter (has_key width key) sales) bar (sym (are.each key) ∙ e) in
-    let small = start_from width key (filter (has_key width key) sales) sums.some (All-filter (has_key width key) (λ (s : Sale). s.time < 2 ^ 48) sales times) (filter_passes (has_key width key) sales) in
+    let small = start_from width key (filter (has_key width key) sales) sums.some (All-filter (has_key width key) (λ (s : Sale). s.time < 2 ^ 48) sales times)
+    (filter_passes (has_key width key) sales) in
     omega (arith, sums.start, small)
 
-writable_from : (width : ℕ) (key : Key) (bar : Bar) (some : List Sale) → HasSumsOf key some bar → All IsTold some → All (λ s. has_key width key s ≡ true) some → IsWritable bar
+writable_from : (width : ℕ) (key : Key) (bar : Bar) (some : List Sale) → HasSumsOf key some bar → All IsTold some → All (λ s. has_key width key s ≡ true) some
+    → IsWritable bar
 writable_from width key bar [] sums small passes = absurd (omega (arith, sums.some))
 writable_from width key bar (x ∷ xs) sums small passes =
     let one = All-head IsTold x xs small in
@@ -108,7 +114,8 @@ writable_from width key bar (x ∷ xs) sums small passes =
     let quotient : bar.notional / bar.volume ≤ 4294967295 = div-le_of_le-mul bar.volume below in
     (omega (arith, sums.start, start, start_below width x.time, one.2), omega (arith, sums.volume, shares, one.0), omega (arith, quotient))
 
-writable : (width : ℕ) (sales : List Sale) (table : List Bar) (key : Key) (bar : Bar) → AreBarsOf width sales table → All IsTold sales → found table key ≡ Some bar → IsWritable bar
+writable : (width : ℕ) (sales : List Sale) (table : List Bar) (key : Key) (bar : Bar) → AreBarsOf width sales table → All IsTold sales
+    → found table key ≡ Some bar → IsWritable bar
 writable width sales table key bar are told e =
     writable_from width key bar (filter (has_key width key) sales)
     (has_sums key _ bar (sym (are.each key) ∙ e))
@@ -123,7 +130,8 @@ bars_are_writable width sales table are told =
     table (All-contains_itself table)
 
 -- so can each bar of a table whose sales' times are of 48 bits
-pub table_is_writable : (width : ℕ) (sales : List Sale) (table : List Bar) → AreBarsOf width sales table → All IsTraded table → All (λ (s : Sale). s.time < 2 ^ 48) sales → All IsWritable table
+pub table_is_writable : (width : ℕ) (sales : List Sale) (table : List Bar) → AreBarsOf width sales table → All IsTraded table
+    → All (λ (s : Sale). s.time < 2 ^ 48) sales → All IsWritable table
 table_is_writable width sales table are traded times =
     All-weaker (Contains table) IsWritable
     (λ bar c. let has = All-contains IsTraded table bar traded c in

@@ -84,8 +84,8 @@ impl<A: Allocator + Clone> BarTable<A> {
         Ok(BarTable { bars })
     }
 
-    /// Takes in the bars of `other`, those of one locate and start made one. A refusal leaves the
-    /// table as it was.
+    /// Takes in the bars of `other`, those of one locate and start made one. It is refused where
+    /// there is no memory for the bars of both, and then leaves the table as it was.
     pub fn merge<B: Allocator>(&mut self, other: &BarTable<B>) -> Result<(), OutOfMemory>
         requires sums { SumsFit self.old other.now }
         ensures merged { OnOk result (IsMergeOf self.old other.now self.new) }
