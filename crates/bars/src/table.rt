@@ -116,7 +116,7 @@ fn add<A: Allocator>(bars: &mut Vec<Bar, A>, bar: Bar) -> Result<(), OutOfMemory
         bars.push(bar)?;
         return Ok(());
     };
-    if last.compare(&bar).is_eq() {
+    if last.has_key_of(&bar) {
         *last = last.join(&bar);
     } else {
         bars.push(bar)?;
