@@ -1,5 +1,6 @@
 -- Bars of lists joined, of a list in another order, and the tables of both.
-use Rattle.std.proofs.Common.{◌≡◌, ℕ, ◌*◌, min, max, Bool, true, false, ◌&&◌, cond, eqb, ltb, List, [], ◌∷◌, ◌++◌, Some, Contains, IsPermutation, Less, refl, sym, ap, ap₂, ◌∙◌, subst, arith, length-append, ⊎_elim}
+use Rattle.std.proofs.Common.{◌≡◌, ℕ, ◌*◌, min, max, Bool, true, false, ◌&&◌, cond, eqb, ltb, List, [], ◌∷◌, ◌++◌, Some, Contains, IsPermutation, Less, refl}
+use Rattle.std.proofs.Common.{sym, ap, ap₂, ◌∙◌, subst, arith, length-append, ⊎_elim}
 use Rattle.std.specs.List.Sorted.{IsStrictlySortedBy}
 use Rattle.std.specs.Cmp.{IsTotalOrder}
 use Rattle.std.proofs.lemmas.Bool.{cond_both, ltb-true, ltb-false, eq-eqb, and_from}
@@ -19,11 +20,13 @@ use Rattle.lists.proofs.Order.{Contains_cons, Contains_head, Contains_later, Tel
 
 number_of_lesser : (number : Sale → ℕ) (a b : Sale) → number (cond (ltb (number b) (number a)) b a) ≡ min (number a) (number b)
 number_of_lesser number a b =
-    cond_both (ltb (number b) (number a)) b a (λ z. number z ≡ min (number a) (number b)) (λ e. omega (arith, ltb-true _ _ e)) (λ e. omega (arith, ltb-false _ _ e))
+    cond_both (ltb (number b) (number a)) b a (λ z. number z ≡ min (number a) (number b)) (λ e. omega (arith, ltb-true _ _ e))
+    (λ e. omega (arith, ltb-false _ _ e))
 
 number_of_greater : (number : Sale → ℕ) (a b : Sale) → number (cond (ltb (number a) (number b)) b a) ≡ max (number a) (number b)
 number_of_greater number a b =
-    cond_both (ltb (number a) (number b)) b a (λ z. number z ≡ max (number a) (number b)) (λ e. omega (arith, ltb-true _ _ e)) (λ e. omega (arith, ltb-false _ _ e))
+    cond_both (ltb (number a) (number b)) b a (λ z. number z ≡ max (number a) (number b)) (λ e. omega (arith, ltb-true _ _ e))
+    (λ e. omega (arith, ltb-false _ _ e))
 
 price_of_chosen : (t : Bool) (a b : Sale) → (cond t b a).price ≡ cond t b.price a.price
 price_of_chosen true a b = refl
@@ -94,21 +97,25 @@ bar_of-permutation key (x ∷ xs) (y ∷ ys) apart h =
 
 -- ---- tables
 
-pub AreBarsOf-permutation : (width : ℕ) (xs ys : List Sale) (table : List Bar) → TellsApart (λ s. s.place) xs → IsPermutation xs ys → AreBarsOf width xs table → AreBarsOf width ys table
+pub AreBarsOf-permutation : (width : ℕ) (xs ys : List Sale) (table : List Bar) → TellsApart (λ s. s.place) xs → IsPermutation xs ys → AreBarsOf width xs table
+    → AreBarsOf width ys table
 AreBarsOf-permutation width xs ys table apart h bars = record {
   rise = bars.rise;
-  each = λ key. bars.each key ∙ bar_of-permutation key _ _ (TellsApart-filter _ (has_key width key) xs apart) (IsPermutation-filter (has_key width key) xs ys h);
+  each = λ key. bars.each key ∙ bar_of-permutation key _ _ (TellsApart-filter _ (has_key width key) xs apart)
+      (IsPermutation-filter (has_key width key) xs ys h);
 }
 
 pub AreBarsOf-none : (width : ℕ) → AreBarsOf width [] []
 unfolding IsStrictlySortedBy
 AreBarsOf-none width = record { rise = tt; each = λ key. refl }
 
--- the table that two tables are merged to is the table of their sales together
-pub AreBarsOf-merged : (width : ℕ) (xs ys : List Sale) (one other table : List Bar) → AreBarsOf width xs one → AreBarsOf width ys other → IsMergeOf one other table → AreBarsOf width (xs ++ ys) table
+-- the table that two tables are merged_tables to is the table of their sales together
+pub AreBarsOf-merged : (width : ℕ) (xs ys : List Sale) (one other table : List Bar) → AreBarsOf width xs one → AreBarsOf width ys other
+    → IsMergeOf one other table → AreBarsOf width (xs ++ ys) table
 AreBarsOf-merged width xs ys one other table p q h = record {
   rise = h.rise;
-  each = λ key. h.each key ∙ ap₂ joined (p.each key) (q.each key) ∙ sym (bar_of-append key _ _) ∙ ap (bar_of key) (sym (filter-append (has_key width key) xs ys));
+  each = λ key. h.each key ∙ ap₂ joined (p.each key) (q.each key) ∙ sym (bar_of-append key _ _)
+      ∙ ap (bar_of key) (sym (filter-append (has_key width key) xs ys));
 }
 
 -- ---- a list of sales has one table
@@ -120,12 +127,14 @@ not_same_key : (a b : Bar) → key_cmp a b ≡ Less → (eqb a.locate b.locate &
 not_same_key a b h = grind (arith, nat_tests)
 
 -- what a table has stands under its own key
-pub found_itself : (table : List Bar) (bar : Bar) → IsStrictlySortedBy key_cmp table → Contains table bar → found table (record { locate = bar.locate; start = bar.start }) ≡ Some bar
+pub found_itself : (table : List Bar) (bar : Bar) → IsStrictlySortedBy key_cmp table → Contains table bar
+    → found table (record { locate = bar.locate; start = bar.start }) ≡ Some bar
 found_itself [] bar up c = absurd (omega (arith, c.1))
 found_itself (head ∷ table) bar up c =
     ⊎_elim
     (λ e. subst (λ (z : Bar). found (head ∷ table) (record { locate = z.locate; start = z.start }) ≡ Some z) e
-    (ap (λ t. cond t (Some head) (found table (record { locate = head.locate; start = head.start }))) (and_from _ _ (eq-eqb head.locate head.locate refl) (eq-eqb head.start head.start refl))))
+    (ap (λ t. cond t (Some head) (found table (record { locate = head.locate; start = head.start })))
+    (and_from _ _ (eq-eqb head.locate head.locate refl) (eq-eqb head.start head.start refl))))
     (λ d. ap (λ t. cond t (Some head) (found table (record { locate = bar.locate; start = bar.start })))
     (not_same_key head bar (All-contains (λ z. key_cmp head z ≡ Less) table bar (All-from_recursion _ table (sorted_head key_cmp head table up)) d))
     ∙ found_itself table bar (sorted_tail key_cmp head table up) d)
@@ -139,7 +148,8 @@ found_in (head ∷ table) key bar e = go (eqb head.locate key.locate && eqb head
     go true more e = let same : head ≡ bar = cc in subst (Contains (head ∷ table)) same (Contains_head head table)
     go false more e = Contains_later head bar table (more e)
 
-pub tables_agree : (one other : List Bar) → IsStrictlySortedBy key_cmp one → IsStrictlySortedBy key_cmp other → ((key : Key) → found one key ≡ found other key) → one ≡ other
+pub tables_agree : (one other : List Bar) → IsStrictlySortedBy key_cmp one → IsStrictlySortedBy key_cmp other
+    → ((key : Key) → found one key ≡ found other key) → one ≡ other
 tables_agree one other up vp same =
     same_from_items key_cmp key_total one other up vp
     (λ bar c. found_in other _ bar (sym (same _) ∙ found_itself one bar up c))

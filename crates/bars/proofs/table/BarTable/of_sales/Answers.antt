@@ -8,8 +8,8 @@ use Rattle.probe.specs.declared.rows.Sale.{Sale}
 use Rattle.bars.specs.Bars.{AreBarsOf}
 use Rattle.bars.specs.Steps.{bar_of_one}
 use Rattle.bars.proofs.Bars.{AreBarsOf-permutation}
-use Rattle.bars.proofs.Sums.{can_join_one}
-use Rattle.bars.proofs.Ends.{AreBarsOf-no_bars, up_to_none, no_bars, sorted_by_time, by_time, told_one_more, next_up_to}
+use Rattle.bars.proofs.SumsAreBounded.{can_join_one}
+use Rattle.bars.proofs.LastBar.{AreBarsOf-no_bars, up_to_none, no_bars, sorted_by_time, by_time, told_one_more, next_up_to}
 use Rattle.std.specs.List.Sorted.{IsSortedByKey}
 use Rattle.bars.proofs.table.BarTable.of_sales.Goals as goal
 
@@ -24,7 +24,8 @@ pub of_sale-requires-clause-shares : goal.of_sale-requires-clause-shares
 of_sale-requires-clause-shares g c =
     let items : c.as_slice-sale-items.result.now ≡ c.sort_by_key.new.self.items = c.as_slice-sale-items.ensures.value in
     let start : c.in_ok-sorted.sorted.items ≡ c.args.sales.now = c.in_ok-sorted.ensures.items in
-    let perm = subst (λ l. IsPermutation l c.as_slice-sale-items.result.now) start (subst (IsPermutation c.in_ok-sorted.sorted.items) (sym items) c.in_ok-sort_by_key.ensures.permutation) in
+    let perm = subst (λ l. IsPermutation l c.as_slice-sale-items.result.now) start
+    (subst (IsPermutation c.in_ok-sorted.sorted.items) (sym items) c.in_ok-sort_by_key.ensures.permutation) in
     All-get_or (λ (s : Sale). 0 < s.shares) c.as_slice-sale-items.result.now c.loop-sale.sale-index _ c.loop-sale-test.true
     (All-permutation (λ (s : Sale). 0 < s.shares) c.args.sales.now c.as_slice-sale-items.result.now perm c.requires.shares)
 
@@ -42,19 +43,24 @@ loop-sale-preserved g c =
     let sales = c.as_slice-sale-items.result.now in
     let i = c.loop-sale.sale-index in
     let items : sales ≡ c.sort_by_key.new.self.items = c.as_slice-sale-items.ensures.value in
-    let sorted = subst (IsSortedByKey (λ (s : Sale). (s.locate, s.time)) by_time) (sym items) (sorted_by_time c.sort_by_key.new.self.items c.in_ok-sort_by_key.ensures.sorted (λ f a r q k. search rules)) in
+    let sorted = subst (IsSortedByKey (λ (s : Sale). (s.locate, s.time)) by_time) (sym items)
+    (sorted_by_time c.sort_by_key.new.self.items c.in_ok-sort_by_key.ensures.sorted (λ f a r q k. search rules)) in
     record {
-      told = told_one_more c.args.width sales i _ c.loop-sale.bars.items c.add.new.bars.items c.of_sale.result c.loop-sale-test.true c.of_sale.ensures.value c.loop-sale.invariant.told c.in_ok-add.ensures.merged;
+      told = told_one_more c.args.width sales i _ c.loop-sale.bars.items c.add.new.bars.items c.of_sale.result c.loop-sale-test.true c.of_sale.ensures.value
+          c.loop-sale.invariant.told c.in_ok-add.ensures.merged;
       traded = c.in_ok-add.ensures.traded;
-      up_to = λ d h. next_up_to c.args.width sales i d _ c.add.new.bars.items c.of_sale.result (omega arith) sorted h c.of_sale.ensures.value c.in_ok-add.ensures.up_to;
+      up_to = λ d h. next_up_to c.args.width sales i d _ c.add.new.bars.items c.of_sale.result (omega arith) sorted h c.of_sale.ensures.value
+          c.in_ok-add.ensures.up_to;
     }
 
 pub returns : goal.returns
 returns g c =
     let items : c.as_slice-sale-items.result.now ≡ c.sort_by_key.new.self.items = c.as_slice-sale-items.ensures.value in
     let start : c.in_ok-sorted.sorted.items ≡ c.args.sales.now = c.in_ok-sorted.ensures.items in
-    let perm = subst (λ l. IsPermutation l c.as_slice-sale-items.result.now) start (subst (IsPermutation c.in_ok-sorted.sorted.items) (sym items) c.in_ok-sort_by_key.ensures.permutation) in
-    let whole = subst (λ l. AreBarsOf c.args.width l c.loop-sale.bars.items) (take_all _ c.as_slice-sale-items.result.now c.loop-sale-test.false) c.loop-sale.invariant.told in
+    let perm = subst (λ l. IsPermutation l c.as_slice-sale-items.result.now) start
+    (subst (IsPermutation c.in_ok-sorted.sorted.items) (sym items) c.in_ok-sort_by_key.ensures.permutation) in
+    let whole = subst (λ l. AreBarsOf c.args.width l c.loop-sale.bars.items) (take_all _ c.as_slice-sale-items.result.now c.loop-sale-test.false)
+    c.loop-sale.invariant.told in
     record {
       bars = AreBarsOf-permutation c.args.width c.as_slice-sale-items.result.now c.args.sales.now c.loop-sale.bars.items
           (TellsApart-permutation (λ (s : Sale). s.place) _ _ perm (TellsApart-from_distinct (λ (s : Sale). s.place) c.args.sales.now c.requires.places))

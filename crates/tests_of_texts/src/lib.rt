@@ -1,0 +1,12 @@
+//! Tests of the crates `time_and_sales` and `bars`: names, listings, tables of bars and the texts of
+//! all of them.
+#![tactic(auto)]
+
+#[cfg(test)]
+mod lines;
+#[cfg(test)]
+mod listings;
+#[cfg(test)]
+mod names;
+#[cfg(test)]
+mod tables;

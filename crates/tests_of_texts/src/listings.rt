@@ -1,0 +1,79 @@
+ghost use Rattle.std.specs.Prelude.{◌≡◌, ◌++◌, IfOk, map, nat_eq};
+ghost use Rattle.std.specs.List.{IsDistinct};
+
+use linked_list_allocator::LocalHeap;
+use probe::{Kind, Sale};
+use std::alloc::Allocator;
+use std::test::Fail;
+use time_and_sales::{Listing, OutOfMemory};
+
+fn sale(place: u64) -> Sale
+    ensures { result.place ≡ place }
+{
+    Sale {
+        place,
+        time: 34_201_000_000_005,
+        locate: 7,
+        kind: Kind::E,
+        price: 4_105_000,
+        shares: 40,
+        trade_no: 9,
+    }
+}
+
+fn sales_apart() -> ([Sale; 2], [Sale; 1])
+    ensures one { IsDistinct nat_eq (map (λ sale. sale.place) result.0) }
+    ensures other { IsDistinct nat_eq (map (λ sale. sale.place) result.1) }
+    ensures both { IsDistinct nat_eq (map (λ sale. sale.place) (result.0 ++ result.1)) }
+    ensures turned { IsDistinct nat_eq (map (λ sale. sale.place) (result.1 ++ result.0)) }
+{
+    ([sale(133), sale(41)], [sale(87)])
+}
+
+type TwoListings<'a> = (Listing<&'a LocalHeap>, Listing<&'a LocalHeap>);
+
+fn listings<'a>(heap: &'a LocalHeap) -> Result<TwoListings<'a>, OutOfMemory>
+    ensures both { IfOk result (λ two.
+        IsDistinct nat_eq (map (λ sale. sale.place) (two.0 ++ two.1))) }
+    ensures turned { IfOk result (λ two.
+        IsDistinct nat_eq (map (λ sale. sale.place) (two.1 ++ two.0))) }
+{
+    let (one, other) = sales_apart();
+    let one = Listing::of_sales(Vec::from_slice(heap, &one)?);
+    let other = Listing::of_sales(Vec::from_slice(heap, &other)?);
+    Ok((one, other))
+}
+
+fn stands_at<A: Allocator>(listing: &Listing<A>, places: &[u64]) -> bool {
+    listing
+        .items()
+        .iter()
+        .map(|sale| sale.place)
+        .eq(places.iter().copied())
+}
+
+#[test]
+fn listings_take_in_others_or_stay(rt: HostRuntime) -> Result<(), Fail> {
+    let (mut was_refused, mut finished) = (false, false);
+    for step in 1..100 {
+        let heap = LocalHeap::new(rt.alloc(), 16 * step)?;
+        let Ok((mut one, other)) = listings(&heap) else {
+            continue;
+        };
+        if one.unite(&other).is_ok() {
+            assert!(rt; stands_at(&one, &[41, 87, 133]));
+            finished = true;
+            break;
+        }
+        assert!(rt; stands_at(&one, &[41, 133]));
+        was_refused = true;
+    }
+    assert!(rt; was_refused && finished);
+    let heap = LocalHeap::new(rt.alloc(), 1 << 12)?;
+    let (one, mut other) = listings(&heap)?;
+    other.unite(&one)?;
+    assert!(rt; stands_at(&other, &[41, 87, 133]));
+    assert!(rt; other.into_vec().len() == 3);
+    assert!(rt; Listing::empty(&heap).items().is_empty());
+    Ok(())
+}
