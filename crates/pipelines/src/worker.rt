@@ -1,7 +1,7 @@
 //! A worker's whole run.
 ghost use Rattle.std.specs.Prelude.{◌≡◌, ◌<◌, [], length, MatchBool};
 ghost use Rattle.dispatcher.specs.Seats.{tasks_of, claims, marked_tasks, IsSeatOf, IsSameSeat};
-ghost use Rattle.pipelines.specs.Runs.{AllMarkedBut, IsDone, SawAllGiven, Took, TookOne};
+ghost use Rattle.pipelines.specs.Workers.{AllMarkedBut, IsDone, SawAllGiven, TookPieces, TookPiece};
 
 use crate::gate::Gate;
 use crate::port::Port;
@@ -32,8 +32,8 @@ pub fn work<W: Work, P: Port<Piece<W>>, G: Gate>(
     ensures same { IsSameSeat seat.old seat.new }
     ensures done { IsDone (tasks_of dispatcher.now) seat.new }
     ensures sent { P.Tells
-        → Took inputs.now (P.taken port.old) (P.taken port.new) (marked_tasks seat.new) }
-    ensures refused { AllMarkedBut result seat.old seat.new }
+        → TookPieces inputs.now (P.taken port.old) (P.taken port.new) (marked_tasks seat.new) }
+    ensures refused { AllMarkedBut (tasks_of dispatcher.now) result seat.old seat.new }
     ensures seen { result ≡ 0 → SawAllGiven (tasks_of dispatcher.now) seat.new }
 {
     let mut refused = 0;
@@ -64,7 +64,7 @@ fn serve<W: Work, P: Port<Piece<W>>>(
 ) -> bool
     requires { task < length inputs.now }
     ensures { P.Tells → MatchBool result
-        (TookOne inputs.now (P.taken port.old) (P.taken port.new) task)
+        (TookPiece inputs.now (P.taken port.old) (P.taken port.new) task)
         (P.taken port.new ≡ P.taken port.old) }
 {
     let Ok(input) = Arc::try_clone(inputs.input(task)) else {
