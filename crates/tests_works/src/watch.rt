@@ -1,0 +1,149 @@
+//! What the inputs of a test share.
+
+use gathering::OutOfMemory;
+use std::alloc::{AllocError, Global};
+use std::ops::Range;
+use std::sync::Arc;
+use std::sync::atomic::{AtomicBool, AtomicU64, Ordering};
+use std::thread;
+
+/// Looks at a flag until it is set. It gives up after a million turns, and then sets the other flag.
+pub fn hold(flag: &AtomicBool, gave_up: &AtomicBool) {
+    for _ in 0..1_000_000 {
+        if flag.load(Ordering::SeqCst) {
+            return;
+        }
+        thread::yield_now();
+    }
+    gave_up.store(true, Ordering::SeqCst);
+}
+
+/// What the inputs of a test, their values and a link share. Each run, each addition and each link asks for one
+/// growth.
+#[derive(Drop)]
+pub struct Watch {
+    runs: AtomicU64,
+    growths: AtomicU64,
+    refusals: AtomicU64,
+    first_refused: AtomicU64,
+    end_of_refused: AtomicU64,
+    refuses_runs: AtomicBool,
+    refuses_additions: AtomicBool,
+    meets: bool,
+    begun: [AtomicBool; 2],
+    gave_up: AtomicBool,
+}
+
+impl Watch {
+    fn made(
+        alloc: Global,
+        refused: Range<u64>,
+        meets: bool,
+    ) -> Result<Arc<Watch, Global>, OutOfMemory> {
+        Ok(Arc::new(
+            alloc,
+            Watch {
+                runs: AtomicU64::new(0),
+                growths: AtomicU64::new(0),
+                refusals: AtomicU64::new(0),
+                first_refused: AtomicU64::new(refused.start),
+                end_of_refused: AtomicU64::new(refused.end),
+                refuses_runs: AtomicBool::new(false),
+                refuses_additions: AtomicBool::new(false),
+                meets,
+                begun: [AtomicBool::new(false), AtomicBool::new(false)],
+                gave_up: AtomicBool::new(false),
+            },
+        )?)
+    }
+
+    /// It refuses nothing.
+    pub fn shared(alloc: Global) -> Result<Arc<Watch, Global>, OutOfMemory> {
+        Watch::made(alloc, 0..0, false)
+    }
+
+    /// It refuses the growths with these numbers, counted from 0.
+    pub fn refusing(
+        alloc: Global,
+        growths: Range<u64>,
+    ) -> Result<Arc<Watch, Global>, OutOfMemory> {
+        Watch::made(alloc, growths, false)
+    }
+
+    /// The runs of the inputs 1 and 2 wait for one another, and give up after a while. It refuses nothing.
+    pub fn meeting(alloc: Global) -> Result<Arc<Watch, Global>, OutOfMemory> {
+        Watch::made(alloc, 0..0, true)
+    }
+
+    /// From now on growths are counted from 0 again, and those with these numbers are refused, and no others.
+    pub fn refuse_growths(&self, growths: Range<u64>) {
+        self.growths.store(0, Ordering::SeqCst);
+        self.refusals.store(0, Ordering::SeqCst);
+        self.first_refused.store(growths.start, Ordering::SeqCst);
+        self.end_of_refused.store(growths.end, Ordering::SeqCst);
+    }
+
+    /// Whether each run is refused from now on. A refused run asks for no growth.
+    pub fn refuse_runs(&self, refuses: bool) {
+        self.refuses_runs.store(refuses, Ordering::SeqCst);
+    }
+
+    /// Whether each addition is refused from now on. A refused addition asks for no growth.
+    pub fn refuse_additions(&self, refuses: bool) {
+        self.refuses_additions.store(refuses, Ordering::SeqCst);
+    }
+
+    /// Asks for one growth.
+    pub fn grow(&self) -> Result<(), OutOfMemory> {
+        let number = self.growths.fetch_add(1, Ordering::SeqCst);
+        let first = self.first_refused.load(Ordering::SeqCst);
+        let end = self.end_of_refused.load(Ordering::SeqCst);
+        if (first..end).contains(&number) {
+            self.refusals.fetch_add(1, Ordering::SeqCst);
+            return Err(AllocError);
+        }
+        Ok(())
+    }
+
+    /// How many runs began, with those that were refused.
+    pub fn runs(&self) -> u64 {
+        self.runs.load(Ordering::SeqCst)
+    }
+
+    /// How many growths were asked for since they were counted from 0.
+    pub fn growths(&self) -> u64 {
+        self.growths.load(Ordering::SeqCst)
+    }
+
+    /// How many of these growths were refused.
+    pub fn refusals(&self) -> u64 {
+        self.refusals.load(Ordering::SeqCst)
+    }
+
+    /// Whether a run waited for another one in vain.
+    pub fn gave_up(&self) -> bool {
+        self.gave_up.load(Ordering::SeqCst)
+    }
+
+    /// A run of an input begins.
+    pub(crate) fn begin_run(&self, number: u64) -> Result<(), OutOfMemory> {
+        if self.meets {
+            let own = usize::from(number == 2);
+            self.begun[own].store(true, Ordering::SeqCst);
+            hold(&self.begun[1 - own], &self.gave_up);
+        }
+        self.runs.fetch_add(1, Ordering::SeqCst);
+        if self.refuses_runs.load(Ordering::SeqCst) {
+            return Err(AllocError);
+        }
+        self.grow()
+    }
+
+    /// An addition begins.
+    pub(crate) fn begin_addition(&self) -> Result<(), OutOfMemory> {
+        if self.refuses_additions.load(Ordering::SeqCst) {
+            return Err(AllocError);
+        }
+        self.grow()
+    }
+}
