@@ -1,5 +1,6 @@
 -- One step more of a worker's run.
-use Rattle.std.proofs.Common.{◌≡◌, ℕ, ◌+◌, ◌*◌, ◌<◌, ◌≤◌, ◌%◌, Bool, true, false, not, cond, List, [], ◌∷◌, ◌++◌, Some, slice_get, All, Contains, count_by, filter, map, sym, ◌∙◌, ap, arith, inl, inr, subst}
+use Rattle.std.proofs.Common.{◌≡◌, ℕ, ◌+◌, ◌*◌, ◌<◌, ◌≤◌, ◌%◌, Bool, true, false, not, cond, List, [], ◌∷◌, ◌++◌, Some, slice_get, All, Contains, count_by}
+use Rattle.std.proofs.Common.{filter, map, sym, ◌∙◌, ap, arith, inl, inr, subst}
 use Rattle.std.proofs.lemmas.List.{append_assoc, append-nil, map-append}
 use Rattle.std.proofs.lemmas.List.Elements.{All-push, Contains-push, Contains-push_cases, Contains-append_left, filter-append}
 use Rattle.std.proofs.lemmas.List.Sums.{sum_by_push}

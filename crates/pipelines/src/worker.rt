@@ -13,8 +13,8 @@ use std::sync::Arc;
 /// Claims until no task is left, and runs each task that is not marked yet: it calls the gate,
 /// makes the task's piece, sends it, and marks the task once the port took it.
 ///
-/// It answers how many pieces were refused, by memory or by the port: so many of the tasks that it
-/// was given it left unmarked. It waits for what the gate and the port wait for.
+/// It answers how many pieces were refused, by memory or by the port: after so many of its claims
+/// the task was left unmarked. It waits for what the gate and the port wait for.
 #[tactic(auto, using(dispatcher::proofs::Rising::falls))]
 pub fn work<W: Work, P: Port<Piece<W>>, G: Gate>(
     alloc: Global,
@@ -55,7 +55,7 @@ pub fn work<W: Work, P: Port<Piece<W>>, G: Gate>(
     refused
 }
 
-// Makes the task's piece and sends it. Answers whether the port took it.
+/// Makes the task's piece and sends it. Answers whether the port took it.
 fn serve<W: Work, P: Port<Piece<W>>>(
     alloc: Global,
     inputs: &Inputs<W>,

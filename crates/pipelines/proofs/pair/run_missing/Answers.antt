@@ -14,6 +14,7 @@ loop-task-preserved g c =
       }
       | else-not-covers w ↦ record {
         inputs = search rules;
-        covered = λ k lt. ap (λ v. contains v.covered k) w.gathering-is ∙ covered_still c.loop-task.gathering.covered c.loop-task.task before.covered (search rules) k lt;
+        covered = λ k lt. ap (λ v. contains v.covered k) w.gathering-is ∙ covered_still c.loop-task.gathering.covered c.loop-task.task before.covered
+            (search rules) k lt;
       }
     ]

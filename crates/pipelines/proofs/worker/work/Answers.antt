@@ -76,7 +76,8 @@ loop-claim-preserved g c =
     }
 
 pub returns-clause-seen : goal.returns-clause-seen
-returns-clause-seen g c = λ none. sees_none _ c.loop-claim.seat c.claim.new.seat _ (c.loop-claim.invariant.seen none) c.in_default.ensures.claims c.in_default.ensures.seen c.in_default.ensures.answer
+returns-clause-seen g c = λ none. sees_none _ c.loop-claim.seat c.claim.new.seat _ (c.loop-claim.invariant.seen none) c.in_default.ensures.claims
+    c.in_default.ensures.seen c.in_default.ensures.answer
 
 pub returns-clause-refused : goal.returns-clause-refused
 returns-clause-refused g c = no_more _ _ _ _ _ _ c.loop-claim.invariant.refused c.in_default.ensures.claims c.in_default.ensures.seen
