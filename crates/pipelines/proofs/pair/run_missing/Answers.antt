@@ -18,3 +18,9 @@ loop-task-preserved g c =
             (search rules) k lt;
       }
     ]
+
+pub loop-task-init : goal.loop-task-init
+loop-task-init g c = search rules
+
+pub returns-clause-complete : goal.returns-clause-complete
+returns-clause-complete g c = search rules
