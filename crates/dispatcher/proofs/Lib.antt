@@ -1,6 +1,7 @@
-pub mod Counts
-pub mod Keeps
-pub mod Deals
+-- Lemmas that several proofs share.
+pub mod EachTaskTwice
+pub mod MarksOfSeats
+pub mod Occurrences
 pub mod Rising
-pub mod Settles
-pub mod Twice
+pub mod SeatsKeepRule
+pub mod StepsKeepRule

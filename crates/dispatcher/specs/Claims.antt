@@ -1,5 +1,5 @@
--- Claims are numbers from 0 on. With n tasks, the claims below 2 * n go through the tasks twice, and later ones find
--- no task.
+-- Claims are numbers from 0 on: those below 2 * n give each of n tasks twice, later ones find none.
+-- To be believed.
 use Rattle.std.specs.Prelude.{◌≡◌, ℕ, ◌+◌, ◌*◌, ◌%◌, ◌<◌, ◌≤◌, ◌==◌, ◌&&◌, nat_lt, List, [], ◌∷◌, count_by}
 use Rattle.dispatcher.specs.declared.claim.Claim.{Claim}
 use Rattle.dispatcher.specs.declared.claim.Claim.TheVariants.{Task, NoMore}
@@ -14,9 +14,9 @@ abbrev pub Gives : ℕ → ℕ → ℕ → Type 0
 Gives tasks c task = (c < 2 * tasks) × (c % tasks ≡ task)
 
 -- a claim below twice the tasks gives a task, and every other claim gives none
-abbrev pub IsAnswer : ℕ → Claim → Type 0
-IsAnswer tasks (Task c task) = (c < 2 * tasks) × (task ≡ c % tasks)
-IsAnswer tasks (NoMore c) = 2 * tasks ≤ c
+abbrev pub FitsClaim : ℕ → Claim → Type 0
+FitsClaim tasks (Task c task) = (c < 2 * tasks) × (task ≡ c % tasks)
+FitsClaim tasks (NoMore c) = 2 * tasks ≤ c
 
 -- how many of the claims give the task
 abbrev pub times_given : ℕ → ℕ → List ℕ → ℕ

@@ -1,7 +1,12 @@
--- What the dispatcher's words and the views of all seats have in common between any two steps, and what a step tells.
--- Word 0 is the number of claims that were made. Word t + 1 is 1 where task t is marked, else 0.
-use Rattle.std.specs.Prelude.{◌≡◌, ◌⊎◌, ℕ, ◌+◌, ◌-◌, ◌*◌, ◌<◌, ◌≤◌, ◌==◌, nat_lt, nat_le, if◌then◌else◌, List, [], ◌∷◌, ◌++◌, take, drop, length, slice_index, All, Contains, sum_by, count_by}
+-- What the words and all views have in common between any two steps, and what a step tells.
+-- Derived: it is used inside proofs, and the contracts of the calls say what follows from it.
+--
+-- Word 0 is the number of claims that were made. Word t + 1 is 1 if task t is marked, else 0.
+use Rattle.std.specs.Prelude.{◌≡◌, ◌⊎◌, ℕ, ◌+◌, ◌-◌, ◌*◌, ◌<◌, ◌≤◌, ◌==◌, nat_lt, nat_le}
+use Rattle.std.specs.Prelude.{if◌then◌else◌, List, [], ◌∷◌, ◌++◌, take, drop, length, slice_index}
+use Rattle.std.specs.Prelude.{All, Contains, sum_by, count_by}
 use Rattle.std.specs.List.{range_with_len}
+use Rattle.lists.specs.declared.limits.TheConstants.{MOST_TASKS, MOST_SEATS}
 use mathlib.Core.Option.{some}
 use lib.ListN.{get_elem?}
 use Rattle.atomic_table.specs.Table.{State, Me, Step}
@@ -37,15 +42,15 @@ abbrev pub IsMarkWord : ℕ → ℕ → ℕ → Type 0
 IsMarkWord word marks looks =
     ((word ≡ 0) × (marks ≡ 0) × (looks ≡ 0)) ⊎ ((word ≡ 1) × (0 < marks))
 
--- a seat has at most one claim that found no task for each number that it stands for, and one that stands for none is
--- spent
+-- a seat has at most one claim that found no task for each number that it stands for, and one that
+-- stands for none is spent
 pub record IsFair (size : Size) (v : View) : Type 0 where
   pub late_claims : late_count size.tasks v.claims ≤ length v.numbers
   pub spent : length v.numbers ≡ 0 → (v.claims ≡ []) × (v.marked ≡ []) × (v.seen ≡ [])
 
 pub record IsConsistent (size : Size) (s : State (Unit {0}) View) : Type 0 where
   pub wide : length s.words ≡ size.tasks + 1
-  pub small : (size.tasks ≤ 4096) × (size.seats ≤ 256)
+  pub small : (size.tasks ≤ MOST_TASKS) × (size.seats ≤ MOST_SEATS)
   -- the claims of all seats are the numbers below word 0, each once
   pub claims_once : (c : ℕ)
       → sum_by (λ v. occurrences c v.claims) s.views ≡ once_below (slice_index s.words 0) c

@@ -1,5 +1,7 @@
 -- What contracts see of a dispatcher, of its seats and of the marks that it leaves.
-use Rattle.std.specs.Prelude.{◌≡◌, ℕ, ◌<◌, ◌≤◌, ◌*◌, List, [], ◌+◌, Any, Bool, false, sum_by, length, flat_map, slice_index, slice_index_or, All, Contains}
+-- To be believed.
+use Rattle.std.specs.Prelude.{◌≡◌, ℕ, ◌<◌, ◌≤◌, ◌*◌, List, [], ◌+◌, Any, Bool, false, sum_by}
+use Rattle.std.specs.Prelude.{length, flat_map, slice_index, slice_index_or, All, Contains}
 use Rattle.atomic_table.specs.Seated.{TableId}
 use Rattle.dispatcher.specs.Claims.{Gives, times_given}
 use Rattle.dispatcher.specs.Rule.{occurrences}

@@ -1,5 +1,6 @@
 //! The dispatcher, which threads share by reference or in an `Arc`.
 ghost use Rattle.std.specs.Prelude.{◌≡◌, ◌+◌, ◌<◌, ◌≤◌};
+ghost use Rattle.lists.specs.declared.limits.TheConstants.{MOST_TASKS, MOST_SEATS};
 
 use crate::rule::{EachOnce, Size, View};
 use atomic_table::Table;
@@ -9,7 +10,8 @@ mod make;
 mod settle;
 mod steps;
 
-/// Deals each task at most twice, and notes which tasks are done. Contracts see its numbers of tasks and of seats.
+/// Deals each task at most twice, and notes which tasks are done. Contracts see its numbers of
+/// tasks and of seats.
 #[derive(Drop)]
 pub struct Dispatcher<A: Allocator = Global> {
     pub(crate) table: Table<(), View, Size, EachOnce, A>,
@@ -18,5 +20,5 @@ pub struct Dispatcher<A: Allocator = Global> {
     pub(crate) alloc: A,
     ghost shape: { (table.shared.table_id.words ≡ tasks + 1) × (table.shared.table_id.slots ≡ 0) },
     ghost size: { table.shared.key ≡ record { tasks = tasks; seats = seats } },
-    ghost in_range: { (0 < tasks) × (tasks ≤ 4096) × (0 < seats) × (seats ≤ 256) },
+    ghost in_range: { (0 < tasks) × (tasks ≤ MOST_TASKS) × (0 < seats) × (seats ≤ MOST_SEATS) },
 }

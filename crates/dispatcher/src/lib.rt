@@ -1,8 +1,10 @@
-//! Deals the tasks of a pipeline to workers, each task at most twice, and notes which tasks are done.
+//! Deals the tasks of a pipeline to workers, each task at most twice, and notes which tasks are
+//! done.
 //!
-//! Workers on any number of threads share a `Dispatcher`, and each owns a `Seat`. A claim takes the next number of all
-//! seats together: with n tasks, the numbers below 2 * n go through the tasks twice, and later ones find no task.
-//! `claim`, `mark` and `is_marked` are one atomic step each: they take no memory and wait for nobody.
+//! Workers on any number of threads share a `Dispatcher`, and each owns a `Seat`. A claim takes the
+//! next number of all seats together: with n tasks, the numbers below 2 * n go through the tasks
+//! twice, and later ones find no task. `claim`, `mark` and `is_marked` are one atomic step each:
+//! they take no memory and wait for nobody.
 #![tactic(auto)]
 
 mod claim;
@@ -13,10 +15,6 @@ mod tally;
 
 pub use claim::Claim;
 pub use dispatcher::Dispatcher;
+pub use lists::OutOfMemory;
 pub use seat::Seat;
 pub use tally::{Marks, SettleRefused, Tally};
-
-pub use lists::OutOfMemory;
-
-#[cfg(test)]
-mod tests;

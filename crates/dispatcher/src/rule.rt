@@ -1,12 +1,23 @@
 //! What a seat knows, and the rule that ties it to the words.
-ghost use Rattle.dispatcher.specs.Rule.{IsConsistent, everyone, unused_view, TellsClaim, TellsMark, TellsLook, others, first_seat, joined_view};
-ghost use Rattle.std.specs.Prelude.{[]};
+ghost use Rattle.dispatcher.specs.Rule.{IsConsistent, everyone, unused_view, TellsClaim, TellsMark};
+ghost use Rattle.dispatcher.specs.Rule.{TellsLook, others, first_seat, joined_view};
+ghost use Rattle.std.specs.Prelude.{◌≡◌, ◌+◌, []};
 
 use atomic_table::{Join, Play, Split, TableRule};
 use std::collections::LinkedList;
 
-/// What a seat knows: the numbers of seats that it stands for, its claims, the tasks that it marked, and those that it
-/// marked or saw marked. No value of it is made.
+/// The word that counts the claims.
+pub(crate) const COUNT: usize = 0;
+
+/// The word of a task, which is 1 if the task is marked.
+pub(crate) fn mark_word(task: u32) -> usize
+    ensures { result ≡ task + 1 }
+{
+    task as usize + 1
+}
+
+/// What a seat knows: the numbers of seats that it stands for, its claims, the tasks that it
+/// marked, and those that it marked or saw marked. No value of it is made.
 pub struct View {
     pub numbers: LinkedList<u32>,
     pub claims: LinkedList<u64>,
@@ -21,7 +32,7 @@ pub struct Size {
     pub seats: u32,
 }
 
-/// Each number is claimed once, and a task's word is 1 exactly where a seat marked the task.
+/// Each number is claimed once, and a task's word is 1 if and only if a seat marked the task.
 pub struct EachOnce;
 
 impl TableRule<(), View, Size> for EachOnce {
@@ -30,35 +41,40 @@ impl TableRule<(), View, Size> for EachOnce {
     ghost first = { everyone };
 }
 
-pub(crate) struct Claims;
+/// A claim adds 1 to the count.
+pub(crate) struct ClaimStep;
 
-impl Play<(), View> for Claims {
+impl Play<(), View> for ClaimStep {
     ghost then = { TellsClaim };
 }
 
-pub(crate) struct Marks;
+/// A mark sets the word of its task.
+pub(crate) struct MarkStep;
 
-impl Play<(), View> for Marks {
+impl Play<(), View> for MarkStep {
     ghost then = { TellsMark };
 }
 
-pub(crate) struct Looks;
+/// A look reads the word of its task.
+pub(crate) struct LookStep;
 
-impl Play<(), View> for Looks {
+impl Play<(), View> for LookStep {
     ghost then = { TellsLook };
 }
 
-pub(crate) struct Deals;
+/// The first number of a seat goes to a seat of its own.
+pub(crate) struct SeatSplit;
 
-impl Split<View> for Deals {
+impl Split<View> for SeatSplit {
     ghost left = { others };
 
     ghost right = { first_seat };
 }
 
-pub(crate) struct Gathers;
+/// One seat stands for both from now on.
+pub(crate) struct SeatJoin;
 
-impl Join<View> for Gathers {
+impl Join<View> for SeatJoin {
     ghost both = { joined_view };
 
     ghost spent = { unused_view [] };

@@ -22,7 +22,7 @@ impl<A: Allocator> Model for Marks<A> {
 }
 
 impl<A: Allocator> Marks<A> {
-    /// Whether some seat marked the task. False of a number past the last task.
+    /// Whether some seat marked the task. It is false of a number past the last task.
     pub fn holds(&self, task: u32) -> bool
         ensures { result ≡ flag_of self.now task }
     {
@@ -48,7 +48,8 @@ pub struct Tally<A: Allocator = Global> {
     pub marks: Marks<A>,
 }
 
-/// There was no memory for the marks. The dispatcher and its seats come back, and can be settled again.
+/// There was no memory for the marks. The dispatcher and its seats come back, and can be settled
+/// again.
 #[derive(Drop)]
 pub struct SettleRefused<A: Allocator = Global> {
     pub dispatcher: Dispatcher<A>,

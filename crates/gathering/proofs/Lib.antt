@@ -1,7 +1,7 @@
 -- Lemmas that several proofs share.
-pub mod Joins
-pub mod Missing
-pub mod Numbers
-pub mod Owned
-pub mod Same
-pub mod Steps
+pub mod EqualInputs
+pub mod FilledPlaces
+pub mod FirstMissing
+pub mod KeptPieces
+pub mod OneInputMore
+pub mod UnionIsJoin

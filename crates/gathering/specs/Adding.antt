@@ -1,4 +1,5 @@
 -- Adding an output to a total, over any work. Its inputs are `A`, its outputs `B`, its totals `C`.
+-- To be believed.
 use Rattle.std.specs.Prelude.{◌≡◌, List, [], ◌∷◌, ◌++◌, Bool}
 use Rattle.std.specs.Cmp.Lexicographic.{pointwise}
 
@@ -7,7 +8,8 @@ abbrev pub StartsAdmissible : {A : Type 0} → (List A → Type 0) → List A �
 StartsAdmissible {A} IsAdmissible xs = (rest : List A) × IsAdmissible (xs ++ rest)
 
 module _ {A B C : Type 0} (value_of : A → B) (total_of : List A → C) (IsAdmissible : List A → Type 0) where
-  -- the output may be added to the total: they are those of some inputs that an admissible list begins with
+  -- the output may be added to the total: they are those of some inputs that an admissible list
+  -- begins with
   pub record CanAdd (total : C) (output : B) : Type 0 where
     pub before : List A
     pub next : A
@@ -15,9 +17,10 @@ module _ {A B C : Type 0} (value_of : A → B) (total_of : List A → C) (IsAdmi
     pub output_is : output ≡ value_of next
     pub admissible : StartsAdmissible IsAdmissible (before ++ next ∷ [])
 
-  -- whichever inputs these are the total and the output of, the new total is that of the inputs with one more
-  abbrev pub Adds : C → B → C → Type 0
-  Adds old output new =
+  -- whichever inputs these are the total and the output of, the new total is that of the inputs
+  -- with one more
+  abbrev pub AddsOutput : C → B → C → Type 0
+  AddsOutput old output new =
       (before : List A) (next : A)
       → old ≡ total_of before
       → output ≡ value_of next

@@ -1,4 +1,5 @@
 -- Gatherings that stand for the same, and the laws of merging.
+-- To be believed.
 use Rattle.std.specs.Prelude.{◌≡◌, Bool, true}
 use Rattle.gathering.specs.Adding.{same_inputs}
 use Rattle.gathering.specs.Views.{GatheringView}

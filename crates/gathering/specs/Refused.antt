@@ -1,4 +1,5 @@
 -- When a total is refused.
+-- To be believed.
 use Rattle.std.specs.Prelude.{ℕ}
 use Rattle.gathering.specs.Views.{GatheringView, IsComplete, IsFirstMissing}
 use Rattle.gathering.specs.declared.gather.TotalRefused.{TotalRefused}

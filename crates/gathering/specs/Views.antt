@@ -1,4 +1,5 @@
 -- What contracts see of a piece and of a gathering.
+-- To be believed.
 use Rattle.std.specs.Prelude.{◌≡◌, ℕ, ◌<◌, List, Bool, true, false, Option, Some, None, length, slice_get, refl}
 use Rattle.std.specs.Ordering.{nat_cmp}
 use Rattle.std.specs.FinSet.{FinSet, contains}
@@ -56,3 +57,7 @@ module _ {A : Type 0} where
   -- what merging leaves: the inputs of the first, and the tasks that either covers
   abbrev pub merged : GatheringView A → GatheringView A → GatheringView A
   merged a b = record { inputs = a.inputs; covered = set.union a.covered b.covered }
+
+  -- what filing a piece leaves: its task is covered besides
+  abbrev pub with_task : GatheringView A → ℕ → GatheringView A
+  with_task g task = record { inputs = g.inputs; covered = set.insert g.covered task }

@@ -1,5 +1,6 @@
 //! The pieces of some tasks, and their total.
-ghost use Rattle.std.specs.Prelude.{◌≡◌, ◌↔◌, ◌<◌, ℕ, Bool, true, false, List, IsTrue, IsErr, IfOk, IfErr, OnOk, OnErr, MatchOption, length, get_or, is_some, None, if◌then◌else◌};
+ghost use Rattle.std.specs.Prelude.{◌≡◌, ◌↔◌, ◌<◌, Bool, true, false, IsTrue, IsErr, IfOk, IfErr};
+ghost use Rattle.std.specs.Prelude.{OnOk, OnErr, MatchOption, length, if◌then◌else◌};
 ghost use Rattle.std.specs.Arc.{arc_value};
 ghost use Rattle.std.specs.FinSet as set;
 ghost use Rattle.gathering.specs.Adding.{same_inputs};
@@ -10,7 +11,7 @@ ghost use Rattle.gathering.specs.Views.{belongs, merged, IsComplete, IsFirstMiss
 use crate::OutOfMemory;
 use crate::inputs::Inputs;
 use crate::piece::Piece;
-use crate::places::{empty_places, first_empty, unite};
+use crate::places::{empty_places, first_empty, merge_places};
 use crate::work::Work;
 use std::alloc::{Allocator, Global};
 use std::marker::Model;
@@ -19,7 +20,7 @@ use std::sync::Arc;
 /// The pieces of some tasks of a list of inputs, in whatever order they came.
 ///
 /// Contracts see the inputs and the set of the tasks that are covered. The room for the pieces is
-/// taken of an allocator, `Global` where none is named.
+/// taken of an allocator, which is `Global` if none is named.
 #[derive(Drop)]
 pub struct Gathering<W: Work, A: Allocator = Global> {
     alloc: Global,
@@ -30,13 +31,13 @@ pub struct Gathering<W: Work, A: Allocator = Global> {
 impl<W: Work, A: Allocator> Model for Gathering<W, A> {
     ghost use Rattle.std.specs.Arc.{arc_value};
     ghost use Rattle.gathering.specs.Views.{GatheringView, gathering_code};
-    ghost use Rattle.gathering.specs.Kept.{filled, IsKept};
+    ghost use Rattle.gathering.specs.Kept.{filled_places, IsKept};
 
     ghost Value = { GatheringView W.Input };
 
     ghost coded = { gathering_code W.Input.code };
 
-    ghost view = { λ a. record { inputs = arc_value a.inputs; covered = filled a.places.items } };
+    ghost view = { λ a. record { inputs = arc_value a.inputs; covered = filled_places a.places.items } };
 
     ghost invariant = { λ a. IsKept W.Input.eq (arc_value a.inputs) a.places.items };
 }
@@ -84,8 +85,8 @@ impl<W: Work> Gathering<W> {
 impl<W: Work, A: Allocator> Gathering<W, A> {
     /// No task is covered, and there is room for each piece: filing and merging take no memory.
     ///
-    /// The room for the pieces is taken of `memory`, and the work's own growths of `alloc`. It is refused where
-    /// `memory` has no room for a place for each task.
+    /// The room for the pieces is taken of `memory`, and the work's own growths of `alloc`. It is
+    /// refused if `memory` has no room for a place for each task.
     pub fn new_in(
         alloc: Global,
         memory: A,
@@ -105,8 +106,8 @@ impl<W: Work, A: Allocator> Gathering<W, A> {
 
     /// Keeps a piece whose task is not covered yet, and drops one whose task is.
     ///
-    /// A piece is refused where its number is not below the count of inputs, or where the input that it was run on is
-    /// not equal to the one of that number. It is handed back.
+    /// A piece is refused if its number is not below the count of inputs, or if the input that it
+    /// was run on is not equal to the one of that number. It is handed back.
     pub fn file(&mut self, piece: Piece<W>) -> Result<Filed, Stranger<W>>
         ensures stranger { IsErr result ↔ (belongs W.Input.eq self.old.inputs piece ≡ false) }
         ensures handed_back { IfErr result (λ stranger. stranger.piece ≡ piece) }
@@ -131,7 +132,8 @@ impl<W: Work, A: Allocator> Gathering<W, A> {
 
     /// Covers from now on what either covers.
     ///
-    /// The other is refused where its inputs are not as many as these and equal to them, one by one. It is handed back.
+    /// The other is refused if its inputs are not as many as these and equal to them, one by one.
+    /// It is handed back.
     pub fn merge(&mut self, other: Gathering<W, A>) -> Result<(), OtherInputs<W, A>>
         ensures other_inputs { IsErr result
             ↔ (same_inputs W.Input.eq self.old.inputs other.inputs ≡ false) }
@@ -149,7 +151,7 @@ impl<W: Work, A: Allocator> Gathering<W, A> {
             places,
         } = other;
         drop(inputs);
-        unite(&mut self.places, places);
+        merge_places(&mut self.places, places);
         Ok(())
     }
 
@@ -171,17 +173,19 @@ impl<W: Work, A: Allocator> Gathering<W, A> {
 
     /// The total of all inputs, in order. It adds what the pieces brought, and runs no task.
     ///
-    /// It is refused where a task is missing, or else a growth was refused. The gathering is handed back.
+    /// It is refused if a task is missing, and otherwise if a growth was refused. The gathering is
+    /// handed back.
     pub fn total(self) -> Result<W::Total, TotalRefused<W, A>>
         ensures complete { OnOk result (IsComplete self) }
         ensures total { IfOk result (λ total. total ≡ W.total_of self.inputs) }
+        ensures admissible { OnOk result (W.IsAdmissible self.inputs) }
         ensures refused { IfErr result (λ refused. IsRefusedFor self refused) }
         ensures handed_back { IfErr result (λ refused. handed_back refused ≡ self) }
     {
         if self.first_missing().is_some() {
             return Err(TotalRefused::Missing { gathering: self });
         }
-        match add_up(self.alloc, &self.inputs, &self.places) {
+        match self.inputs.add_up(self.alloc, &self.places) {
             Ok(total) => Ok(total),
             Err(_) => Err(TotalRefused::Memory { gathering: self }),
         }
@@ -195,25 +199,4 @@ fn is_own<W: Work>(inputs: &Inputs<W>, piece: &Piece<W>) -> bool
 {
     let number = piece.number();
     number < inputs.count() && **piece.input() == **inputs.input(number)
-}
-
-/// Adds the outputs of all pieces in order.
-fn add_up<W: Work, A: Allocator>(
-    alloc: Global,
-    inputs: &Inputs<W>,
-    places: &Vec<Option<Piece<W>>, A>,
-) -> Result<W::Total, OutOfMemory>
-    requires kept { IsKept W.Input.eq inputs.now places.now.items }
-    requires complete { (k : ℕ) → k < length places.now.items
-        → is_some (get_or places.now.items k None) ≡ true }
-    ensures { IfOk result (λ total. total ≡ W.total_of inputs.now) }
-{
-    let mut total = W::empty(alloc);
-    for number in 0..inputs.count() {
-        let Some(piece) = &places[number as usize] else {
-            unreachable!()
-        };
-        W::add(&mut total, piece.output())?;
-    }
-    Ok(total)
 }

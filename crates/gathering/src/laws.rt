@@ -2,15 +2,17 @@
 ghost use Rattle.std.specs.Prelude.{◌≡◌, ℕ, List, true, Some, map, slice_get};
 ghost use Rattle.gathering.specs.Adding.{same_inputs};
 ghost use Rattle.gathering.specs.Laws.{AreAlike};
-ghost use Rattle.gathering.specs.Views.{GatheringView, PieceView, IsComplete, IsFirstMissing, belongs, merged};
+ghost use Rattle.gathering.specs.Views.{GatheringView, PieceView, IsComplete, IsFirstMissing};
+ghost use Rattle.gathering.specs.Views.{belongs, merged, with_task};
 
 use crate::work::Work;
 
 /// Merging is commutative, associative and idempotent, over what `merge` leaves.
 ///
-/// Where inputs are equal and not identical, what is left in either order is alike: equal inputs one by one, the same
-/// tasks covered, and so one total and one first missing task. Gatherings that are alike refuse the same pieces and the
-/// same gatherings, and are complete together.
+/// If inputs are equal and not identical, what is left in either order is alike: the inputs are
+/// equal one by one, and the same tasks are covered. Gatherings that are alike have one total and
+/// one first missing task, refuse the same pieces and the same gatherings, and are complete
+/// together.
 pub fn merge_is_a_join<W: Work>()
     ensures commutative { (a b : GatheringView W.Input) → a.inputs ≡ b.inputs
         → merged a b ≡ merged b a }
@@ -35,7 +37,22 @@ pub fn merge_is_a_join<W: Work>()
         → IsComplete a → IsComplete b }
 {}
 
-/// A list of inputs is the same as itself, its own pieces belong to it, and equal inputs have equal values.
+/// Gatherings that are alike stay alike: where a third one is merged into each, where each is
+/// merged into a third one, and where a piece is filed. A third one refuses both or none of them.
+pub fn alike_stay_alike<W: Work>()
+    ensures merged_into { (a b c : GatheringView W.Input) → AreAlike W.Input.eq a b
+        → AreAlike W.Input.eq (merged a c) (merged b c) }
+    ensures merged_from { (a b c : GatheringView W.Input) → AreAlike W.Input.eq a b
+        → AreAlike W.Input.eq (merged c a) (merged c b) }
+    ensures with_piece { (a b : GatheringView W.Input) (task : ℕ) → AreAlike W.Input.eq a b
+        → AreAlike W.Input.eq (with_task a task) (with_task b task) }
+    ensures same_as_other { (a b : GatheringView W.Input) (xs : List W.Input)
+        → AreAlike W.Input.eq a b
+        → same_inputs W.Input.eq xs a.inputs ≡ same_inputs W.Input.eq xs b.inputs }
+{}
+
+/// A list of inputs is the same as itself, its own pieces belong to it, and equal inputs have equal
+/// values.
 pub fn own_inputs_belong<W: Work>()
     ensures itself { (xs : List W.Input) → same_inputs W.Input.eq xs xs ≡ true }
     ensures own { (xs : List W.Input) (number : ℕ) (input : W.Input)

@@ -1,22 +1,21 @@
 //! Pieces of work, gathered in any order into one total.
 //!
-//! A task is run on one input, and gives a piece. A gathering takes pieces as they come, repeated or not, and is merged
-//! with others over the same inputs. Once each task is covered it gives the total of all inputs, in order. It refuses a
-//! piece of other work, a gathering over other inputs, and a total where a task is missing or memory runs out.
+//! A task is run on one input, and gives a piece. A gathering takes pieces as they come, repeated
+//! or not, and is merged with others over the same inputs. Once each task is covered it gives the
+//! total of all inputs, in order. It refuses a piece of other work, a gathering over other inputs,
+//! and a total if a task is missing or memory runs out.
 #![tactic(auto)]
 
-pub mod gather;
-pub mod inputs;
-pub mod laws;
-pub mod piece;
+mod gather;
+mod inputs;
+mod laws;
+mod piece;
 mod places;
-pub mod work;
+mod work;
 
 pub use gather::{Filed, Gathering, OtherInputs, Stranger, TotalRefused};
 pub use inputs::Inputs;
+pub use laws::{alike_stay_alike, merge_is_a_join, own_inputs_belong};
 pub use lists::OutOfMemory;
 pub use piece::Piece;
 pub use work::Work;
-
-#[cfg(test)]
-mod tests;

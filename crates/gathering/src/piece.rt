@@ -10,8 +10,8 @@ use std::sync::Arc;
 
 /// What one task gave: its number, the input that it was run on, and the value of that input.
 ///
-/// That its output is that value is kept by the type, so a piece that crossed a channel proves it. Contracts see
-/// the number and the input.
+/// That its output is that value is kept by the type, so a piece that crossed a channel proves it.
+/// Contracts see the number and the input.
 #[derive(Drop)]
 pub struct Piece<W: Work> {
     number: u32,

@@ -1,5 +1,6 @@
 //! Places that hold something or nothing.
-ghost use Rattle.std.specs.Prelude.{◌≡◌, ◌<◌, ◌≤◌, ℕ, true, List, IfOk, MatchOption, length, get_or, is_some, replicate, None};
+ghost use Rattle.std.specs.Prelude.{◌≡◌, ◌<◌, ◌≤◌, ℕ, true, List, IfOk, MatchOption, length};
+ghost use Rattle.std.specs.Prelude.{get_or, is_some, replicate, None};
 ghost use Rattle.gathering.specs.Kept.{either};
 
 use crate::OutOfMemory;
@@ -37,7 +38,7 @@ pub(crate) fn first_empty<T, A: Allocator>(places: &Vec<Option<T>, A>, count: u3
 }
 
 /// Moves what the others hold into the places that are empty.
-pub(crate) fn unite<T: Drop, A: Allocator>(
+pub(crate) fn merge_places<T: Drop, A: Allocator>(
     own: &mut Vec<Option<T>, A>,
     mut others: Vec<Option<T>, A>,
 )

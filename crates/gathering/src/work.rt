@@ -1,6 +1,6 @@
 //! Work that is done task by task.
 ghost use Rattle.std.specs.Prelude.{◌≡◌, List, [], true, IfOk, OnOk, OnErr};
-ghost use Rattle.gathering.specs.Adding.{CanAdd, Adds, same_inputs};
+ghost use Rattle.gathering.specs.Adding.{CanAdd, AddsOutput, same_inputs};
 
 use lists::OutOfMemory;
 use std::alloc::Global;
@@ -35,12 +35,13 @@ pub trait Work: Drop + Send {
     fn empty(alloc: Global) -> Self::Total
         ensures { result ≡ total_of [] };
 
-    /// Makes the total of a list into that of the list with one input more; without memory it leaves it.
+    /// Makes the total of a list into that of the list with one input more; without memory it
+    /// leaves it.
     ///
     /// The longer list has to begin some admissible list.
     fn add(total: &mut Self::Total, output: &Self::Output) -> Result<(), OutOfMemory>
         requires { CanAdd value_of total_of IsAdmissible total.old output.now }
-        ensures ok { OnOk result (Adds value_of total_of IsAdmissible total.old output.now total.new) }
+        ensures ok { OnOk result (AddsOutput value_of total_of IsAdmissible total.old output.now total.new) }
         ensures err { OnErr result (total.new ≡ total.old) };
 
     /// Equal inputs have equal values.

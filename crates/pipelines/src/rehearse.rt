@@ -1,5 +1,6 @@
 //! Two pipelines on one thread, by schedules.
-ghost use Rattle.std.specs.Prelude.{◌≡◌, ℕ, ◌<◌, ◌≤◌, ◌&&◌, nat_lt, ◌∷◌, All, IfOk, OnOk, MatchResult, None, Some, length};
+ghost use Rattle.std.specs.Prelude.{◌≡◌, ℕ, ◌<◌, ◌≤◌, ◌&&◌, nat_lt, ◌∷◌, All, IfOk, OnOk, MatchResult, None, Some};
+ghost use Rattle.std.specs.Prelude.{length};
 ghost use Rattle.std.specs.Arc.{arc_value};
 ghost use Rattle.std.specs.FinSet.{contains};
 ghost use Rattle.pipelines.specs.Rehearsals.{after_link, unless_missing};
@@ -64,10 +65,8 @@ pub(crate) fn rehearse_pipeline<W: Work, M: Allocator + Clone>(
         (λ total. (first_left gatherers (length (arc_value inputs)) events.now ≡ None)
         × (total ≡ W.total_of (arc_value inputs)))
         (λ task. first_left gatherers (length (arc_value inputs)) events.now ≡ Some task)) }
-    ensures admissible { OnOk result (W.IsAdmissible (arc_value inputs)) }
+    ensures admissible { IfOk result (λ answer. OnOk answer (W.IsAdmissible (arc_value inputs))) }
 {
-    // Its contract says that the inputs are admissible.
-    let _count = inputs.count();
     let gathering = gather_by(alloc, memory, &inputs, gatherers, events)?;
     if let Some(task) = gathering.first_missing() {
         return Ok(Err(task));

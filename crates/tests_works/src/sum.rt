@@ -55,7 +55,8 @@ impl Model for Value {
     ghost view = { λ a. a.number };
 }
 
-/// The work whose total is the sum of its inputs. Lists of inputs with a sum below 2^128 may be worked on.
+/// The work whose total is the sum of its inputs. Lists of inputs with a sum below 2^128 may be
+/// worked on.
 #[derive(Drop)]
 pub struct Sum;
 

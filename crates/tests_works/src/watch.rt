@@ -7,7 +7,8 @@ use std::sync::Arc;
 use std::sync::atomic::{AtomicBool, AtomicU64, Ordering};
 use std::thread;
 
-/// Looks at a flag until it is set. It gives up after a million turns, and then sets the other flag.
+/// Looks at a flag until it is set. It gives up after a million turns, and then sets the other
+/// flag.
 pub fn hold(flag: &AtomicBool, gave_up: &AtomicBool) {
     for _ in 0..1_000_000 {
         if flag.load(Ordering::SeqCst) {
@@ -18,8 +19,8 @@ pub fn hold(flag: &AtomicBool, gave_up: &AtomicBool) {
     gave_up.store(true, Ordering::SeqCst);
 }
 
-/// What the inputs of a test, their values and a link share. Each run, each addition and each link asks for one
-/// growth.
+/// What the inputs of a test, their values and a link share. Each run, each addition and each link
+/// asks for one growth.
 #[derive(Drop)]
 pub struct Watch {
     runs: AtomicU64,
@@ -63,19 +64,18 @@ impl Watch {
     }
 
     /// It refuses the growths with these numbers, counted from 0.
-    pub fn refusing(
-        alloc: Global,
-        growths: Range<u64>,
-    ) -> Result<Arc<Watch, Global>, OutOfMemory> {
+    pub fn refusing(alloc: Global, growths: Range<u64>) -> Result<Arc<Watch, Global>, OutOfMemory> {
         Watch::made(alloc, growths, false)
     }
 
-    /// The runs of the inputs 1 and 2 wait for one another, and give up after a while. It refuses nothing.
+    /// The runs of the inputs 1 and 2 wait for one another, and give up after a while. It refuses
+    /// nothing.
     pub fn meeting(alloc: Global) -> Result<Arc<Watch, Global>, OutOfMemory> {
         Watch::made(alloc, 0..0, true)
     }
 
-    /// From now on growths are counted from 0 again, and those with these numbers are refused, and no others.
+    /// From now on growths are counted from 0 again, and those with these numbers are refused, and
+    /// no others.
     pub fn refuse_growths(&self, growths: Range<u64>) {
         self.growths.store(0, Ordering::SeqCst);
         self.refusals.store(0, Ordering::SeqCst);

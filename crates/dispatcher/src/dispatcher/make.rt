@@ -1,26 +1,28 @@
 //! A new dispatcher, and its seats.
 ghost use Rattle.std.specs.Prelude.{◌≡◌, ℕ, ◌+◌, ◌-◌, ◌<◌, ◌≤◌, [], All, length, map, IfOk};
 ghost use Rattle.std.specs.List.{range_with_len};
+ghost use Rattle.lists.specs.declared.limits.TheConstants.{MOST_TASKS, MOST_SEATS};
 ghost use Rattle.dispatcher.specs.Rule.{unused_view, everyone, view_from};
 ghost use Rattle.dispatcher.specs.Seats.{identity, tasks_of, seats_of, number, IsSeatOf, IsUnused};
 
 use super::Dispatcher;
 use crate::OutOfMemory;
-use crate::rule::{Deals, Size, View};
+use crate::rule::{SeatSplit, Size, View};
 use crate::seat::Seat;
 use atomic_table::Table;
 use std::alloc::Allocator;
 
 impl<A: Allocator + Clone> Dispatcher<A> {
-    /// A dispatcher of 1 to 4,096 tasks and its 1 to 256 seats, by number. Nothing is claimed or marked yet. Refused
-    /// where there is no memory for a word for each task and one more, or for the list of seats.
+    /// A dispatcher of 1 to 4,096 tasks and its 1 to 256 seats, by number. Nothing is claimed or
+    /// marked yet. It is refused if there is no memory for a word for each task and one more, or
+    /// for the list of seats.
     pub fn new(
         alloc: A,
         tasks: u32,
         seats: u32,
     ) -> Result<(Dispatcher<A>, Vec<Seat, A>), OutOfMemory>
-        requires tasks { (0 < tasks) × (tasks ≤ 4096) }
-        requires seats { (0 < seats) × (seats ≤ 256) }
+        requires tasks { (0 < tasks) × (tasks ≤ MOST_TASKS) }
+        requires seats { (0 < seats) × (seats ≤ MOST_SEATS) }
         ensures tasks { IfOk result (λ r. tasks_of r.0 ≡ tasks) }
         ensures seats { IfOk result (λ r. seats_of r.0 ≡ seats) }
         ensures count { IfOk result (λ r. length r.1.items ≡ seats) }
@@ -41,7 +43,7 @@ impl<A: Allocator + Clone> Dispatcher<A> {
         Ok((dispatcher, list))
     }
 
-    // The seat that stands for everyone gives each number to a seat of its own.
+    /// The seat that stands for everyone gives each number to a seat of its own.
     fn deal(
         &self,
         alloc: A,
@@ -63,6 +65,7 @@ impl<A: Allocator + Clone> Dispatcher<A> {
         Ok(list)
     }
 
+    /// A seat with the least number that is left.
     fn next_seat(&self, rest: &mut atomic_table::Seat<(), View>, index: u32) -> Seat
         requires own { rest.old.table_id ≡ identity self.now }
         requires index { index < seats_of self.now }
@@ -73,7 +76,7 @@ impl<A: Allocator + Clone> Dispatcher<A> {
         ensures number { number result ≡ index }
         ensures unused { IsUnused result }
     {
-        let inner = self.table.shared.split_seat::<Deals>(rest);
+        let inner = self.table.shared.split_seat::<SeatSplit>(rest);
         Seat { inner }
     }
 }

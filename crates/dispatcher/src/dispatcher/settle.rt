@@ -1,20 +1,23 @@
 //! The end of a dispatcher: what all its seats did.
-ghost use Rattle.std.specs.Prelude.{◌≡◌, ℕ, ◌+◌, ◌*◌, ◌<◌, ◌≤◌, ◌==◌, ◌↔◌, [], length, false, All, IsPermutation, slice_index, slice_index_or, vec_len, IfOk, IfErr, IsTrue};
+ghost use Rattle.std.specs.Prelude.{◌≡◌, ℕ, ◌+◌, ◌*◌, ◌<◌, ◌≤◌, ◌==◌, ◌↔◌, [], length, false, All};
+ghost use Rattle.std.specs.Prelude.{IsPermutation, slice_index, slice_index_or, vec_len, IfOk};
+ghost use Rattle.std.specs.Prelude.{IfErr, IsTrue};
 ghost use Rattle.std.specs.List.{range_with_len};
 ghost use Rattle.std.specs.Mem.Slots.{slots_items, slots_len, IsFull};
-ghost use Rattle.dispatcher.specs.Seats.{identity, tasks_of, seats_of, home, all_claims, IsSeatOf, GivenAtMostTwice, flag_of, SomeMarked, SomeSaw, HasAllBut};
+ghost use Rattle.dispatcher.specs.Seats.{identity, tasks_of, seats_of, home, all_claims, IsSeatOf};
+ghost use Rattle.dispatcher.specs.Seats.{GivenAtMostTwice, flag_of, SomeMarked, SomeSaw, HasAllBut};
 
 use super::Dispatcher;
 use crate::OutOfMemory;
-use crate::rule::{EachOnce, Gathers, Size, View};
+use crate::rule::{COUNT, EachOnce, SeatJoin, Size, View, mark_word};
 use crate::seat::Seat;
 use crate::tally::{Marks, SettleRefused, Tally};
 use atomic_table::{Closed, Shared};
 use std::alloc::Allocator;
 
 impl<A: Allocator + Clone> Dispatcher<A> {
-    /// Ends the dispatcher, with all its seats in any order. It takes memory for the marks first, a byte a task, and is
-    /// refused where there is none, before anything changed.
+    /// Ends the dispatcher, with all its seats in any order. It takes memory for the marks first, a
+    /// byte a task, and is refused if there is none, before anything changed.
     pub fn settle(self, seats: Vec<Seat, A>) -> Result<Tally<A>, SettleRefused<A>>
         requires own { All (IsSeatOf self) seats.items }
         requires all { length seats.items ≡ seats_of self }
@@ -25,7 +28,7 @@ impl<A: Allocator + Clone> Dispatcher<A> {
         ensures few { IfOk result (λ t. t.claims ≤ 2 * tasks_of self + seats_of self) }
         ensures twice { IfOk result (λ _. GivenAtMostTwice (tasks_of self) seats.items) }
 
-        // A flag for each task, which is set exactly where some seat marked the task.
+        // A flag for each task, which is set if and only if some seat marked the task.
         ensures flags { IfOk result (λ t. length t.marks ≡ tasks_of self) }
         ensures marks { IfOk result (λ t. (task : ℕ)
             → IsTrue (flag_of t.marks task) ↔ SomeMarked seats.items task) }
@@ -43,14 +46,14 @@ impl<A: Allocator + Clone> Dispatcher<A> {
         };
         let Dispatcher {
             table,
-            tasks: _,
+            tasks,
             seats: _,
             alloc: _,
         } = self;
         let all = gather(&table.shared, seats);
         let closed = table.close_with(all);
-        let count = closed.word(0);
-        read_marks(&closed, &mut flags);
+        let count = closed.word(COUNT);
+        read_marks(&closed, &mut flags, tasks);
         closed.free();
         Ok(Tally {
             claims: count,
@@ -59,13 +62,14 @@ impl<A: Allocator + Clone> Dispatcher<A> {
     }
 }
 
+/// A flag for each task, none of them set.
 fn unmarked<A: Allocator + Clone>(alloc: &A, tasks: u32) -> Result<Vec<bool, A>, OutOfMemory>
     ensures { IfOk result (λ flags. length flags.items ≡ tasks) }
 {
     vec![in alloc.clone()?; false; tasks as usize]
 }
 
-// One seat that stands for all.
+/// One seat that stands for all.
 fn gather<A: Allocator>(
     shared: &Shared<(), View, Size, EachOnce>,
     mut seats: Vec<Seat, A>,
@@ -78,20 +82,22 @@ fn gather<A: Allocator>(
     let Seat { inner: mut all } = seats.pop().unwrap();
     while let Some(seat) = seats.pop() {
         let Seat { inner } = seat;
-        shared.join_seat::<Gathers>(&mut all, inner);
+        shared.join_seat::<SeatJoin>(&mut all, inner);
     }
     all
 }
 
-fn read_marks<A: Allocator>(closed: &Closed<(), A>, flags: &mut Vec<bool, A>)
+/// Sets the flag of each task whose word is set.
+fn read_marks<A: Allocator>(closed: &Closed<(), A>, flags: &mut Vec<bool, A>, tasks: u32)
     requires full { IsFull closed.now.words }
-    requires words { slots_len closed.now.words ≡ vec_len flags.old + 1 }
+    requires words { slots_len closed.now.words ≡ tasks + 1 }
+    requires tasks { length flags.old.items ≡ tasks }
     ensures len { length flags.new.items ≡ length flags.old.items }
     ensures flags { (t : ℕ) → t < length flags.old.items
         → slice_index_or flags.new.items t false
         ≡ (slice_index (slots_items closed.now.words) (t + 1) == 1) }
 {
-    for task in 0..flags.len() {
-        flags[task] = closed.word(task + 1) == 1;
+    for task in 0..tasks {
+        flags[task as usize] = closed.word(mark_word(task)) == 1;
     }
 }

@@ -1,9 +1,9 @@
 use Rattle.std.proofs.Common.{ap, sym, ◌∙◌, arith}
 use Rattle.std.specs.FinSet.{contains}
 use Rattle.std.specs.Cmp.Lexicographic.{as_long, lists_equiv}
-use Rattle.gathering.proofs.Joins.{union_swapped, union_grouped, union_same}
-use Rattle.gathering.proofs.Missing.{one_first}
-use Rattle.gathering.proofs.Owned.{belongs_as}
+use Rattle.gathering.proofs.UnionIsJoin.{union_swapped, union_grouped, union_same}
+use Rattle.gathering.proofs.FirstMissing.{one_first}
+use Rattle.gathering.proofs.KeptPieces.{belongs_as}
 use Rattle.gathering.proofs.laws.merge_is_a_join.Goals as goal
 
 pub returns-clause-commutative : goal.returns-clause-commutative

@@ -1,4 +1,4 @@
-use Rattle.gathering.specs.Alike.{same_inputs-itself, belongs-own, map_alike}
+use Rattle.gathering.proofs.EqualInputs.{same_inputs-itself, belongs-own, map_alike}
 use Rattle.gathering.proofs.laws.own_inputs_belong.Goals as goal
 
 pub returns-clause-itself : goal.returns-clause-itself

@@ -1,6 +1,6 @@
 use Rattle.std.proofs.Common.{rules, ◌≡◌, ◌∙◌, true, ap}
 use Rattle.gathering.specs.Adding.{same_inputs}
-use Rattle.gathering.specs.Alike.{same_inputs-itself}
+use Rattle.gathering.proofs.EqualInputs.{same_inputs-itself}
 use Rattle.pipelines.proofs.owner.unite.Goals as goal
 
 pub returns : goal.returns

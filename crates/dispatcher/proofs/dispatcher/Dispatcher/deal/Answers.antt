@@ -4,7 +4,7 @@ use Rattle.std.proofs.lemmas.List.Elements.{All-push}
 use Rattle.dispatcher.specs.declared.seat.Seat.{Seat}
 use Rattle.dispatcher.specs.Seats.{number, IsSeatOf, IsUnused}
 use Rattle.dispatcher.proofs.dispatcher.Dispatcher.deal.Goals as goal
-use Rattle.dispatcher.proofs.Counts.{range_push}
+use Rattle.dispatcher.proofs.Occurrences.{range_push}
 
 pub loop-index-preserved : goal.loop-index-preserved
 loop-index-preserved g c = let list : List Seat = c.loop-index.list.items in let seat : Seat = c.next_seat-seat.result in

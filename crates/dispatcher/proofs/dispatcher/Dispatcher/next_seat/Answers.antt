@@ -4,8 +4,8 @@ use Rattle.atomic_table.specs.Table.{Splits, Me}
 use Rattle.dispatcher.specs.declared.rule.View.{View}
 use Rattle.dispatcher.specs.Rule.{IsConsistent, unused_view, others, first_seat}
 use Rattle.dispatcher.proofs.dispatcher.Dispatcher.next_seat.Goals as goal
-use Rattle.dispatcher.proofs.Counts.{drop_range}
-use Rattle.dispatcher.proofs.Deals.{splits}
+use Rattle.dispatcher.proofs.Occurrences.{drop_range}
+use Rattle.dispatcher.proofs.SeatsKeepRule.{splits}
 
 abbrev Sat : Type 0
 Sat = Me (Unit {0}) View
