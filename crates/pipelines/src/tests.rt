@@ -1,6 +1,6 @@
 //! What no other crate can call: filing what a channel brings, a port that nobody receives from, the
 //! caller's own runs, and room for gatherers.
-ghost use Rattle.std.specs.Prelude.{◌≡◌, ◌≤◌, IfOk, Unit, length};
+ghost use Rattle.std.specs.Prelude.{◌≡◌, ◌≤◌, IfOk, length};
 ghost use Rattle.std.specs.Arc.{arc_value};
 ghost use Rattle.std.proofs.Common.{refl};
 ghost use Rattle.std.proofs.lemmas.Bool.{eqb-true};
