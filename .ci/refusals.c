@@ -1,5 +1,6 @@
-// Refuses calls of the process that it is preloaded into, for `refusals`: the allocation REFUSED_ALLOCATION, counted
-// from 1, and the start of the thread REFUSED_THREAD, where 0 is each. Makes the file REFUSED_MARK at a refusal.
+// Refuses calls of the process that it is preloaded into, for `refusals`: the allocation REFUSED_ALLOCATION and the start
+// of the thread REFUSED_THREAD, counted from 1. For 0 it refuses each, and for -1 none. At a refusal it writes what it
+// refused into the file REFUSED_MARK: `allocation` or `thread`.
 typedef unsigned long size;
 
 void *__libc_malloc(size);
@@ -9,11 +10,13 @@ void *__libc_memalign(size, size);
 void *dlsym(void *, const char *);
 char *getenv(const char *);
 long strtol(const char *, char **, int);
-int creat(const char *, unsigned);
+int open(const char *, int, ...);
+long write(int, const void *, size);
 int close(int);
 int *__errno_location(void);
 
 enum { NEVER = -1, EACH = 0, NO_MEMORY = 12, TRY_AGAIN = 11 };
+enum { WRITE_CREATE_APPEND = 02001 | 0100 };
 
 static long refused_allocation = NEVER, refused_thread = NEVER;
 static long allocations, threads;
@@ -28,17 +31,25 @@ __attribute__((constructor)) static void begin(void) {
     refused_thread = number("REFUSED_THREAD");
 }
 
-static int is_refused(long *count, long refused) {
+static void mark(const char *what, size length) {
+    const char *name = getenv("REFUSED_MARK");
+    if (!name) return;
+    int file = open(name, WRITE_CREATE_APPEND, 0600);
+    if (file < 0) return;
+    write(file, what, length);
+    close(file);
+}
+
+static int is_refused(long *count, long refused, const char *what, size length) {
     if (refused == NEVER) return 0;
     long call = __atomic_add_fetch(count, 1, __ATOMIC_SEQ_CST);
     if (refused != EACH && refused != call) return 0;
-    const char *mark = getenv("REFUSED_MARK");
-    if (mark) close(creat(mark, 0600));
+    mark(what, length);
     return 1;
 }
 
 static int no_memory(void) {
-    if (!is_refused(&allocations, refused_allocation)) return 0;
+    if (!is_refused(&allocations, refused_allocation, "allocation\n", 11)) return 0;
     *__errno_location() = NO_MEMORY;
     return 1;
 }
@@ -52,7 +63,7 @@ void *realloc(void *block, size bytes) { return no_memory() ? 0 : __libc_realloc
 void *aligned_alloc(size align, size bytes) { return no_memory() ? 0 : __libc_memalign(align, bytes); }
 
 int pthread_create(unsigned long *thread, const void *attributes, void *(*start)(void *), void *argument) {
-    if (is_refused(&threads, refused_thread)) return TRY_AGAIN;
+    if (is_refused(&threads, refused_thread, "thread\n", 7)) return TRY_AGAIN;
     int (*next)(unsigned long *, const void *, void *(*)(void *), void *) = dlsym((void *)-1L, "pthread_create");
     return next(thread, attributes, start, argument);
 }

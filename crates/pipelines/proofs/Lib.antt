@@ -1,4 +1,4 @@
 -- Lemmas that several proofs share.
 pub mod Covered
-pub mod Runs
+pub mod Workers
 pub mod Schedules

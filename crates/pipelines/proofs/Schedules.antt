@@ -1,5 +1,6 @@
 -- The tasks that have arrived are those that some gatherer covers.
-use Rattle.std.proofs.Common.{◌≡◌, ◌≢◌, ℕ, zero, suc, ◌+◌, ◌<◌, ◌≤◌, ◌==◌, ◌&&◌, ◌||◌, nat_lt, if◌then◌else◌, Bool, true, false, not, List, [], ◌∷◌, ◌++◌, remove, All, subst, Some, None, length, get_or, set, replicate, find, refl, sym, ◌∙◌, ap, arith, rules, inl, inr}
+use Rattle.std.proofs.Common.{◌≡◌, ◌≢◌, ℕ, zero, suc, ◌+◌, ◌<◌, ◌≤◌, ◌==◌, ◌&&◌, ◌||◌, nat_lt, if◌then◌else◌, Bool, true, false, not, List, [], ◌∷◌, ◌++◌}
+use Rattle.std.proofs.Common.{remove, All, subst, Some, None, length, get_or, set, replicate, find, refl, sym, ◌∙◌, ap, arith, rules, inl, inr}
 use Rattle.std.proofs.lemmas.Bool.Decides.{nat_tests, eqb_tells}
 use Rattle.std.proofs.lemmas.List.{length-map, length-replicate, replicate-append-replicate, map-append, get_or-set_same, get_or-set_other, map-set}
 use Rattle.std.proofs.Math.ListN.{length-set}

@@ -1,4 +1,5 @@
 -- What a link and a pair of pipelines give.
+-- To be believed.
 use Rattle.std.specs.Prelude.{◌≡◌, List}
 use Rattle.pipelines.specs.declared.outcome.Linked.{Linked}
 use Rattle.pipelines.specs.declared.outcome.Linked.TheVariants.{Next, Halt}

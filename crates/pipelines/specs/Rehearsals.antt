@@ -1,4 +1,5 @@
 -- What a pair of pipelines gives by two schedules.
+-- To be believed.
 use Rattle.std.specs.Prelude.{ℕ, List, Option, Some, None, length}
 use Rattle.pipelines.specs.Schedules.{first_left}
 use Rattle.pipelines.specs.declared.event.Event.{Event}

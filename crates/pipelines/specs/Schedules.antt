@@ -1,5 +1,7 @@
 -- Schedules: which tasks have arrived, and what an event makes of the gatherers' covered sets.
-use Rattle.std.specs.Prelude.{ℕ, ◌==◌, ◌&&◌, nat_lt, if◌then◌else◌, Bool, false, not, List, Option, map, length, fold, find, slice_index_or, slice_set}
+-- To be believed.
+use Rattle.std.specs.Prelude.{◌≡◌, ℕ, ◌==◌, ◌&&◌, nat_lt, if◌then◌else◌, Bool, false, not, List, Option, All, map}
+use Rattle.std.specs.Prelude.{length, fold, find, slice_index_or, slice_set}
 use Rattle.std.specs.List.{list_any, range_with_len}
 use Rattle.std.specs.Ordering.{nat_cmp}
 use Rattle.std.specs.FinSet.{FinSet, contains, insert, union, empty}
@@ -51,6 +53,10 @@ after tasks (Merge into other) sets =
     (if are_two (length sets) into other
     then slice_set (slice_set sets other empty) into (union (set_of sets into) (set_of sets other))
     else sets)
+
+-- the gatherings are over these inputs
+abbrev pub AreOver : {A : Type 0} → List A → List (GatheringView A) → Type 0
+AreOver inputs gatherings = All (λ g. g.inputs ≡ inputs) gatherings
 
 -- what all events make of them, in order
 abbrev pub after_all : ℕ → List Event → Sets → Sets

@@ -1,5 +1,6 @@
 //! How many threads work.
 ghost use Rattle.std.specs.Prelude.{◌≡◌, ◌<◌, ◌≤◌};
+ghost use Rattle.lists.specs.declared.limits.TheConstants.{MOST_WORKERS};
 
 /// How many threads work on a pair of pipelines.
 #[derive(Clone, Copy, Debug, PartialEq, Eq)]
@@ -8,6 +9,6 @@ pub struct Crew {
     pub workers: u32,
     /// The gatherings of each pipeline: 1, that of the caller's thread.
     pub gatherers: u32,
-    ghost workers_in_range: { (0 < workers) × (workers ≤ 64) },
+    ghost workers_in_range: { (0 < workers) × (workers ≤ MOST_WORKERS) },
     ghost one_gatherer: { gatherers ≡ 1 },
 }

@@ -1,7 +1,7 @@
 //! What happens to the gatherings of a pipeline, one event after the other.
-ghost use Rattle.std.specs.Prelude.{◌≡◌, ◌<◌, All, length, OnOk, OnErr};
+ghost use Rattle.std.specs.Prelude.{◌≡◌, ◌<◌, length, OnOk, OnErr};
 ghost use Rattle.std.specs.Arc.{arc_value};
-ghost use Rattle.pipelines.specs.Schedules.{after, after_all, covered_sets};
+ghost use Rattle.pipelines.specs.Schedules.{AreOver, after, after_all, covered_sets};
 ghost use Rattle.pipelines.specs.declared.event.Event.TheVariants.{Arrive, Merge};
 
 use crate::owner::{run_task, unite};
@@ -10,8 +10,8 @@ use std::alloc::{Allocator, Global};
 use std::mem;
 use std::sync::Arc;
 
-/// One event of a schedule. Gatherers and tasks are numbered from 0. An event changes nothing where
-/// it names one that there isn't.
+/// One event of a schedule. Gatherers and tasks are numbered from 0. An event changes nothing if it
+/// names one that there isn't.
 #[derive(Clone, Copy, Debug, PartialEq, Eq)]
 pub enum Event {
     /// The task is run, and its piece is filed by the gatherer.
@@ -22,10 +22,10 @@ pub enum Event {
     Merge { into: u32, other: u32 },
 }
 
-/// Does one event, where each gathering is over these inputs. It runs the task of a piece that
-/// arrives, once.
+/// Does one event to gatherings over these inputs. It runs the task of a piece that arrives, once,
+/// also if the gatherer covers the task already, and then drops the piece.
 ///
-/// Refused where there is no memory for the piece, or, in the gatherings' own allocator, for the
+/// It is refused if there is no memory for the piece, or, in the gatherings' own allocator, for the
 /// gathering that takes the place of the merged one.
 pub fn apply<W: Work, M: Allocator + Clone>(
     alloc: Global,
@@ -33,8 +33,8 @@ pub fn apply<W: Work, M: Allocator + Clone>(
     inputs: &Arc<Inputs<W>, Global>,
     event: &Event,
 ) -> Result<(), OutOfMemory>
-    requires own { All (λ g. g.inputs ≡ arc_value inputs.now) gatherings.old.items }
-    ensures own { All (λ g. g.inputs ≡ arc_value inputs.now) gatherings.new.items }
+    requires own { AreOver (arc_value inputs.now) gatherings.old.items }
+    ensures own { AreOver (arc_value inputs.now) gatherings.new.items }
     ensures step { OnOk result (covered_sets gatherings.new.items
         ≡ after (length (arc_value inputs.now)) event.now (covered_sets gatherings.old.items)) }
     ensures err { OnErr result (gatherings.new.items ≡ gatherings.old.items) }
@@ -46,16 +46,16 @@ pub fn apply<W: Work, M: Allocator + Clone>(
     }
 }
 
-/// Does all events, in order. Refused as `apply`, with the gatherings as the earlier events left
-/// them.
+/// Does all events, in order. It is refused as `apply` is, and then leaves the gatherings as the
+/// earlier events left them.
 pub(crate) fn apply_all<W: Work, M: Allocator + Clone>(
     alloc: Global,
     gatherings: &mut Vec<Gathering<W, M>, M>,
     inputs: &Arc<Inputs<W>, Global>,
     events: &[Event],
 ) -> Result<(), OutOfMemory>
-    requires own { All (λ g. g.inputs ≡ arc_value inputs.now) gatherings.old.items }
-    ensures own { All (λ g. g.inputs ≡ arc_value inputs.now) gatherings.new.items }
+    requires own { AreOver (arc_value inputs.now) gatherings.old.items }
+    ensures own { AreOver (arc_value inputs.now) gatherings.new.items }
     ensures steps { OnOk result (covered_sets gatherings.new.items
         ≡ after_all (length (arc_value inputs.now)) events.now
         (covered_sets gatherings.old.items)) }
@@ -66,6 +66,7 @@ pub(crate) fn apply_all<W: Work, M: Allocator + Clone>(
     Ok(())
 }
 
+/// Runs the task, and has the gatherer file its piece.
 fn arrive<W: Work, M: Allocator + Clone>(
     alloc: Global,
     gatherings: &mut Vec<Gathering<W, M>, M>,
@@ -73,8 +74,8 @@ fn arrive<W: Work, M: Allocator + Clone>(
     gatherer: u32,
     task: u32,
 ) -> Result<(), OutOfMemory>
-    requires own { All (λ g. g.inputs ≡ arc_value inputs.now) gatherings.old.items }
-    ensures own { All (λ g. g.inputs ≡ arc_value inputs.now) gatherings.new.items }
+    requires own { AreOver (arc_value inputs.now) gatherings.old.items }
+    ensures own { AreOver (arc_value inputs.now) gatherings.new.items }
     ensures step { OnOk result (covered_sets gatherings.new.items
         ≡ after (length (arc_value inputs.now)) (Arrive gatherer task)
         (covered_sets gatherings.old.items)) }
@@ -87,6 +88,7 @@ fn arrive<W: Work, M: Allocator + Clone>(
     run_task(alloc, &mut gatherings[at], inputs, task)
 }
 
+/// Merges the other gatherer into this one, and leaves an empty one in its place.
 fn merge<W: Work, M: Allocator + Clone>(
     alloc: Global,
     gatherings: &mut Vec<Gathering<W, M>, M>,
@@ -94,8 +96,8 @@ fn merge<W: Work, M: Allocator + Clone>(
     into: u32,
     other: u32,
 ) -> Result<(), OutOfMemory>
-    requires own { All (λ g. g.inputs ≡ arc_value inputs.now) gatherings.old.items }
-    ensures own { All (λ g. g.inputs ≡ arc_value inputs.now) gatherings.new.items }
+    requires own { AreOver (arc_value inputs.now) gatherings.old.items }
+    ensures own { AreOver (arc_value inputs.now) gatherings.new.items }
     ensures step { OnOk result (covered_sets gatherings.new.items
         ≡ after (length (arc_value inputs.now)) (Merge into other)
         (covered_sets gatherings.old.items)) }

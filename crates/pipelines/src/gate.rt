@@ -1,14 +1,14 @@
-//! What a pipeline tells of its runs.
+//! What a pipeline reports of its runs.
 
-/// Is told of each run of a task, on the thread that is to run it, which goes on when the call
-/// returns.
+/// What hears of each run. A gate may wait: a run starts only when its call of `before` returns.
 pub trait Gate: Sync {
-    /// Called before each run of a task. Pipelines are 1 and 2. Round 0 is the task's first giving
-    /// to a worker, 1 its second, and 2 the caller's own run of a task that no worker's piece
-    /// covers.
+    /// Called before each run of a task, on the thread that will run it. Pipelines are 1 and 2.
+    /// Round 0 is the task's first giving to a worker, 1 its second, and 2 the caller's own run of
+    /// a task that no worker's piece covers.
     fn before(&self, pipeline: u8, task: u32, round: u8);
 
-    /// Called by the caller's thread once all tasks of the pipeline are covered.
+    /// Called once a pipeline, by the caller's thread, after all tasks of the pipeline are covered
+    /// and before it is totalled. It isn't called of a pipeline that didn't run.
     fn done(&self, pipeline: u8);
 }
 

@@ -9,7 +9,7 @@ use gathering::{Gathering, Inputs, OutOfMemory, Piece, Work};
 use std::alloc::{Allocator, Global};
 use std::sync::Arc;
 
-// So many gatherings, which cover no task. They and their room are taken of this memory.
+/// So many gatherings, which cover no task. They and their room are taken of this memory.
 pub(crate) fn empty_gatherings<W: Work, M: Allocator + Clone>(
     alloc: Global,
     memory: M,
@@ -27,7 +27,7 @@ pub(crate) fn empty_gatherings<W: Work, M: Allocator + Clone>(
     Ok(all)
 }
 
-// Runs the task, and files its piece.
+/// Runs the task, and files its piece.
 pub(crate) fn run_task<W: Work, M: Allocator>(
     alloc: Global,
     gathering: &mut Gathering<W, M>,
@@ -47,7 +47,7 @@ pub(crate) fn run_task<W: Work, M: Allocator>(
     Ok(())
 }
 
-// Merges a gathering over the same inputs.
+/// Merges a gathering over the same inputs.
 pub(crate) fn unite<W: Work, M: Allocator>(gathering: &mut Gathering<W, M>, other: Gathering<W, M>)
     requires { other.inputs ≡ gathering.old.inputs }
     ensures { gathering.new ≡ merged gathering.old other }

@@ -1,6 +1,7 @@
 //! Two pipelines on threads.
 ghost use Rattle.std.specs.Prelude.{◌≡◌, ◌<◌, ◌≤◌, [], length, IfOk, OnOk, vec_len};
 ghost use Rattle.std.specs.Arc.{arc_value};
+ghost use Rattle.lists.specs.declared.limits.TheConstants.{MOST_WORKERS};
 ghost use Rattle.dispatcher.specs.Seats.{tasks_of, IsSeatOf, IsUnused};
 ghost use Rattle.gathering.specs.Views.{IsComplete};
 ghost use Rattle.pipelines.specs.Outcomes.{outcome_of};
@@ -27,7 +28,7 @@ use std::thread::{Scope, Threads};
 ///
 /// It waits for the pieces, and at the end for all workers. A thread, a seat or a channel that
 /// can't be had is done without, and a piece that can't be made or sent is run again by the caller.
-/// It is refused where memory was refused to the caller's thread.
+/// It is refused if memory was refused to the caller's thread.
 pub fn run_pair<A: Work, B: Work, L: Link<A, B>, G: Gate, R: Threads + Wait + Sync>(
     rt: &R,
     alloc: Global,
@@ -61,7 +62,7 @@ pub fn run_pair<A: Work, B: Work, L: Link<A, B>, G: Gate, R: Threads + Wait + Sy
     )
 }
 
-// The total of all inputs of one pipeline.
+/// The total of all inputs of one pipeline.
 fn run_pipeline<'s, E, W: Work + 's, G: Gate, R: Threads + Wait + Sync>(
     scope: &Scope<'s, E>,
     rt: &'s R,
@@ -89,8 +90,8 @@ fn run_pipeline<'s, E, W: Work + 's, G: Gate, R: Threads + Wait + Sync>(
     }
 }
 
-// Starts the workers of a pipeline, each with a seat of its own. One that can't be started is done
-// without.
+/// Starts the workers of a pipeline, each with a seat of its own. One that can't be started is done
+/// without.
 fn start_workers<'s, E, W: Work + 's, G: Gate, R: Threads + Wait + Sync>(
     scope: &Scope<'s, E>,
     rt: &'s R,
@@ -101,7 +102,7 @@ fn start_workers<'s, E, W: Work + 's, G: Gate, R: Threads + Wait + Sync>(
     gate: &'s G,
     pipeline: u8,
 )
-    requires workers { (0 < workers) × (workers ≤ 64) }
+    requires workers { (0 < workers) × (workers ≤ MOST_WORKERS) }
 {
     if inputs.count() == 0 {
         return;
@@ -127,7 +128,7 @@ fn start_workers<'s, E, W: Work + 's, G: Gate, R: Threads + Wait + Sync>(
     }
 }
 
-// Starts one worker, if it can be started.
+/// Starts one worker, if it can be started.
 fn start_worker<'s, E, W: Work + 's, G: Gate, R: Threads + Wait + Sync>(
     scope: &Scope<'s, E>,
     rt: &'s R,
@@ -161,7 +162,7 @@ fn start_worker<'s, E, W: Work + 's, G: Gate, R: Threads + Wait + Sync>(
     );
 }
 
-// What a worker's thread runs.
+/// What a worker's thread runs.
 fn employ<W: Work, R: Wait, G: Gate>(
     alloc: Global,
     dispatcher: Arc<Dispatcher, Global>,
@@ -186,8 +187,8 @@ fn employ<W: Work, R: Wait, G: Gate>(
     )
 }
 
-// Files what comes, until all tasks are covered or no worker is left. A piece of other work is
-// dropped.
+/// Files what comes, until all tasks are covered or no worker is left. A piece of other work is
+/// dropped.
 pub(crate) fn gather<W: Work, R: Wait>(
     rt: &R,
     gathering: &mut Gathering<W>,
@@ -210,7 +211,7 @@ pub(crate) fn gather<W: Work, R: Wait>(
     }
 }
 
-// Runs the tasks that are not covered.
+/// Runs the tasks that are not covered.
 pub(crate) fn run_missing<W: Work, G: Gate>(
     alloc: Global,
     gathering: &mut Gathering<W>,

@@ -8,7 +8,7 @@ use std::sync::Wait;
 
 /// Takes messages from one thread, as the pieces that a worker makes.
 pub trait Port<M> {
-    /// What it has taken, in order, where it tells.
+    /// What it has taken, in order, if it tells.
     ghost taken: { Self → List M };
 
     /// Whether it tells what it has taken.
@@ -22,8 +22,7 @@ pub trait Port<M> {
             (λ _. taken self.new ≡ taken self.old) };
 }
 
-/// Keeps what it is sent, in order, and tells it. It refuses a message where there is no memory for
-/// it.
+/// Keeps what it is sent, in order, and tells it. It refuses a message if there is no memory for it.
 ///
 /// Contracts see the messages.
 #[derive(Drop)]
@@ -70,7 +69,7 @@ impl<M, A: Allocator> Port<M> for KeepingPort<M, A> {
     }
 }
 
-/// Sends into a channel. It refuses a message where the receiver is gone or there is no memory, and
+/// Sends into a channel. It refuses a message if the receiver is gone or there is no memory, and
 /// tells nothing.
 #[derive(Drop)]
 pub(crate) struct ChannelPort<'r, M, R: Wait> {
@@ -79,7 +78,7 @@ pub(crate) struct ChannelPort<'r, M, R: Wait> {
 }
 
 impl<'r, M, R: Wait> ChannelPort<'r, M, R> {
-    /// Sends into this channel, and waits by this handle where the channel's lock is held.
+    /// Sends into this channel, and waits by this handle while another thread holds the channel's lock.
     pub(crate) fn new(rt: &'r R, to: Sender<M>) -> Self {
         ChannelPort { rt, to }
     }

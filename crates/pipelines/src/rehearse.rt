@@ -1,5 +1,6 @@
 //! Two pipelines on one thread, by schedules.
-ghost use Rattle.std.specs.Prelude.{◌≡◌, ℕ, ◌<◌, ◌≤◌, ◌&&◌, nat_lt, ◌∷◌, All, IfOk, OnOk, MatchResult, None, Some, length};
+ghost use Rattle.std.specs.Prelude.{◌≡◌, ℕ, ◌<◌, ◌≤◌, ◌&&◌, nat_lt, ◌∷◌, All, IfOk, OnOk, MatchResult, None, Some};
+ghost use Rattle.std.specs.Prelude.{length};
 ghost use Rattle.std.specs.Arc.{arc_value};
 ghost use Rattle.std.specs.FinSet.{contains};
 ghost use Rattle.pipelines.specs.Rehearsals.{after_link, unless_missing};
@@ -15,10 +16,10 @@ use std::sync::Arc;
 
 /// Rehearses what `run_pair` does, on this thread alone: each pipeline has 1 to 64 gatherers, does
 /// the events of its schedule in order, and then merges all gatherers into the first. A task has
-/// arrived where some `Arrive` of its pipeline names it and a gatherer that there is. It runs the
+/// arrived if some `Arrive` of its pipeline names it and a gatherer that there is. It runs the
 /// tasks of the pieces that arrive, and no other.
 ///
-/// It is refused where memory was refused to it.
+/// It is refused if memory was refused to it.
 pub fn rehearse_pair<A: Work, B: Work, L: Link<A, B>>(
     alloc: Global,
     inputs: Arc<Inputs<A>, Global>,
@@ -50,8 +51,8 @@ pub fn rehearse_pair<A: Work, B: Work, L: Link<A, B>>(
     }
 }
 
-// The total of all inputs, or the first task that has not arrived. The gatherers and their room are
-// taken of this memory.
+/// The total of all inputs, or the first task that has not arrived. The gatherers and their room are
+/// taken of this memory.
 pub(crate) fn rehearse_pipeline<W: Work, M: Allocator + Clone>(
     alloc: Global,
     memory: M,
@@ -77,7 +78,7 @@ pub(crate) fn rehearse_pipeline<W: Work, M: Allocator + Clone>(
     }
 }
 
-// What the gatherers have together after the events.
+/// What the gatherers have together after the events.
 fn gather_by<W: Work, M: Allocator + Clone>(
     alloc: Global,
     memory: M,
@@ -98,7 +99,7 @@ fn gather_by<W: Work, M: Allocator + Clone>(
     Ok(first)
 }
 
-// Merges all of them.
+/// Merges all of them.
 fn unite_all<W: Work, M: Allocator>(
     first: &mut Gathering<W, M>,
     mut others: Vec<Gathering<W, M>, M>,

@@ -1,221 +1,172 @@
-//! A work whose inputs are numbers and whose total is their sum, and a link that goes on with 1 and
-//! 2.
-ghost use Rattle.std.specs.Prelude.{◌≡◌, ◌==◌, ◌<◌, ◌≤◌, ◌^◌, ◌∷◌, [], if◌then◌else◌, IfOk, length, sum, vec_len};
+//! What no other crate can call: filing what a channel brings, a port that nobody receives from, the
+//! caller's own runs, and room for gatherers.
+ghost use Rattle.std.specs.Prelude.{◌≡◌, ◌≤◌, IfOk, length};
 ghost use Rattle.std.specs.Arc.{arc_value};
-ghost use Rattle.std.specs.Cmp.Lexicographic.{same_text};
-ghost use Rattle.std.specs.Cmp.Rules.{comparing};
-ghost use Rattle.std.proofs.Common.{rules, ap, sym};
+ghost use Rattle.std.proofs.Common.{refl};
 ghost use Rattle.std.proofs.lemmas.Bool.{eqb-true};
-ghost use Rattle.pipelines.specs.declared.outcome.Linked.TheVariants.{Next, Halt};
+ghost use Rattle.lists.specs.declared.limits.TheConstants.{MOST_TASKS};
 
-use crate::{Link, Linked, OutOfMemory};
-use gathering::{Inputs, Work};
-use std::alloc::{AllocError, Global};
-use std::marker::Model;
-use std::ops::Range;
+use crate::pair::{gather, run_missing};
+use crate::port::ChannelPort;
+use crate::rehearse::rehearse_pipeline;
+use crate::{Event, FreeGate, Gate, Gathering, Inputs, OutOfMemory, Piece, Work, work};
+use dispatcher::Dispatcher;
+use linked_list_allocator::LocalHeap;
+use std::alloc::Global;
 use std::sync::Arc;
-use std::sync::atomic::{AtomicBool, AtomicU64, Ordering};
-use std::thread;
+use std::sync::atomic::{AtomicU64, Ordering};
+use std::test::Fail;
 
-mod refusals;
-mod schedules;
-mod threads;
-mod workers;
-
-/// Looks at a flag until it is set, and gives up after a million turns.
-fn hold(flag: &AtomicBool, gave_up: &AtomicBool) {
-    for _ in 0..1_000_000 {
-        if flag.load(Ordering::SeqCst) {
-            return;
-        }
-        thread::yield_now();
-    }
-    gave_up.store(true, Ordering::SeqCst);
-}
-
-/// What the inputs of a pipeline, their values and the link share. Each run, each addition and each
-/// link asks for one growth.
+/// The work that makes nothing of its inputs, which are numbers.
 #[derive(Drop)]
-struct Watch {
-    runs: AtomicU64,
-    growths: AtomicU64,
-    /// The growths that are refused, by their numbers from 0.
-    refused: Range<u64>,
-    /// The runs of 1 and of 2 wait for one another.
-    meets: bool,
-    begun: [AtomicBool; 2],
-    gave_up: AtomicBool,
-}
+struct Nothing;
 
-impl Watch {
-    fn shared(
-        alloc: Global,
-        refused: Range<u64>,
-        meets: bool,
-    ) -> Result<Arc<Watch, Global>, OutOfMemory> {
-        Ok(Arc::new(
-            alloc,
-            Watch {
-                runs: AtomicU64::new(0),
-                growths: AtomicU64::new(0),
-                refused,
-                meets,
-                begun: [AtomicBool::new(false), AtomicBool::new(false)],
-                gave_up: AtomicBool::new(false),
-            },
-        )?)
-    }
+impl Work for Nothing {
+    type Input = u64;
 
-    fn grow(&self) -> Result<(), OutOfMemory> {
-        let number = self.growths.fetch_add(1, Ordering::SeqCst);
-        if self.refused.contains(&number) {
-            return Err(AllocError);
-        }
-        Ok(())
-    }
+    type Output = u64;
 
-    fn growths(&self) -> u64 {
-        self.growths.load(Ordering::SeqCst)
-    }
-}
-
-/// An input, seen as its number.
-#[derive(Drop)]
-struct Number {
-    number: u64,
-    watch: Arc<Watch, Global>,
-}
-
-impl Model for Number {
-    ghost use Rattle.std.specs.Prelude.{ℕ};
-
-    ghost Value = { ℕ };
-
-    ghost view = { λ a. a.number };
-}
-
-impl PartialEq for Number {
-    ghost eq = { λ a b. a == b };
-
-    ghost laws = { Prim.search (comparing, rules) };
-
-    fn eq(&self, other: &Number) -> bool {
-        self.number == other.number
-    }
-}
-
-impl Eq for Number {
-    ghost laws = { Prim.search (comparing, rules) };
-}
-
-/// The number of an input, with what it shares.
-#[derive(Drop)]
-struct Value {
-    number: u64,
-    watch: Arc<Watch, Global>,
-}
-
-impl Model for Value {
-    ghost use Rattle.std.specs.Prelude.{ℕ};
-
-    ghost Value = { ℕ };
-
-    ghost view = { λ a. a.number };
-}
-
-#[derive(Drop)]
-struct Sum;
-
-impl Work for Sum {
-    type Input = Number;
-
-    type Output = Value;
-
-    type Total = u128;
+    type Total = u64;
 
     ghost value_of = { λ input. input };
 
-    ghost total_of = { sum };
+    ghost total_of = { λ _. 0 };
 
-    ghost IsAdmissible = { λ inputs. sum inputs < 2 ^ 128 };
+    ghost IsAdmissible = { λ _. Unit {0} };
 
     ghost equal_values = { λ a b same. eqb-true a b same };
 
-    ghost equal_totals = { λ xs ys same. ap sum (same_text xs ys (sym same)) };
+    ghost equal_totals = { λ xs ys same. refl };
 
-    fn run(_alloc: Global, input: &Number) -> Result<Value, OutOfMemory> {
-        let watch = &*input.watch;
-        if watch.meets {
-            let own = usize::from(input.number == 2);
-            watch.begun[own].store(true, Ordering::SeqCst);
-            hold(&watch.begun[1 - own], &watch.gave_up);
-        }
-        watch.runs.fetch_add(1, Ordering::SeqCst);
-        watch.grow()?;
-        Ok(Value {
-            number: input.number,
-            watch: Arc::try_clone(&input.watch)?,
-        })
+    fn run(_alloc: Global, input: &u64) -> Result<u64, OutOfMemory> {
+        Ok(*input)
     }
 
-    fn empty(_alloc: Global) -> u128 {
+    fn empty(_alloc: Global) -> u64 {
         0
     }
 
-    fn add(total: &mut u128, output: &Value) -> Result<(), OutOfMemory> {
-        output.watch.grow()?;
-        *total += output.number as u128;
+    fn add(_total: &mut u64, _output: &u64) -> Result<(), OutOfMemory> {
         Ok(())
     }
 }
 
-/// The inputs with these numbers.
-fn inputs_of(
-    alloc: Global,
-    watch: &Arc<Watch, Global>,
-    numbers: &[u64],
-) -> Result<Inputs<Sum>, OutOfMemory>
-    requires { length numbers.now ≤ 4096 }
-    ensures { IfOk result (λ inputs. inputs ≡ numbers.now) }
+/// So many inputs, numbered from 0.
+fn inputs_of(alloc: Global, count: u32) -> Result<Arc<Inputs<Nothing>, Global>, OutOfMemory>
+    requires { count ≤ MOST_TASKS }
+    ensures { IfOk result (λ inputs. length (arc_value inputs) ≡ count) }
 {
     let mut items = Vec::new(alloc);
-    for number in numbers {
-        let input = Number {
-            number: *number,
-            watch: Arc::try_clone(watch)?,
-        };
-        items.push(Arc::new(alloc, input)?)?;
+    for number in 0..count {
+        items.push(Arc::new(alloc, u64::from(number))?)?;
     }
-    Ok(Inputs::of(items))
+    Ok(Arc::new(alloc, Inputs::of(items))?)
 }
 
-/// Goes on with inputs 1 and 2 and keeps the total, or halts with it.
-#[derive(Drop)]
-struct OneAndTwo {
-    watch: Arc<Watch, Global>,
-    halts: bool,
-}
-
-impl Link<Sum, Sum> for OneAndTwo {
-    type Kept = u128;
-
-    type Stop = u128;
-
-    ghost linked = { λ link total.
-        if link.halts then Halt total else Next (1 ∷ 2 ∷ []) total };
-
-    fn link(
-        &self,
-        alloc: Global,
-        total: u128,
-    ) -> Result<Linked<Inputs<Sum>, u128, u128>, OutOfMemory> {
-        self.watch.grow()?;
-        if self.halts {
-            return Ok(Linked::Halt { stop: total });
+#[test]
+fn gathering_ends_with_the_last_task(rt: HostRuntime) -> Result<(), Fail> {
+    let alloc = rt.alloc();
+    // The pieces by their tasks and inputs: one that is sent again, one of another task's input, and
+    // one of a task that there isn't.
+    for pieces in [
+        [(0, 0), (0, 0), (1, 1)],
+        [(0, 1), (0, 0), (1, 1)],
+        [(2, 1), (1, 1), (0, 0)],
+    ] {
+        let mut gathering = Gathering::new(alloc, inputs_of(alloc, 2)?)?;
+        let (to, from) = crossbeam_channel::unbounded::<Piece<Nothing>, Global>(alloc)?;
+        for (task, input) in pieces {
+            let piece = Piece::make(alloc, task, Arc::new(alloc, input)?)?;
+            assert!(rt; to.send(&rt, piece).is_ok());
         }
-        Ok(Linked::Next {
-            inputs: inputs_of(alloc, &self.watch, &[1, 2])?,
-            kept: total,
-        })
+        drop(to);
+        gather(&rt, &mut gathering, &from, 2);
+        assert!(rt; gathering.first_missing().is_none());
     }
+    Ok(())
+}
+
+/// Counts the caller's own runs, and all others.
+#[derive(Drop)]
+struct Counter {
+    own: AtomicU64,
+    others: AtomicU64,
+}
+
+impl Gate for Counter {
+    fn before(&self, _pipeline: u8, _task: u32, round: u8) {
+        let counter = if round == 2 { &self.own } else { &self.others };
+        counter.fetch_add(1, Ordering::SeqCst);
+    }
+
+    fn done(&self, _pipeline: u8) {}
+}
+
+/// As if no thread, no seat or no dispatcher could be had.
+#[test]
+fn no_worker_is_left(rt: HostRuntime) -> Result<(), Fail> {
+    let alloc = rt.alloc();
+    let inputs = inputs_of(alloc, 8)?;
+    let gate = Counter {
+        own: AtomicU64::new(0),
+        others: AtomicU64::new(0),
+    };
+    let mut gathering = Gathering::new(alloc, Arc::try_clone(&inputs)?)?;
+    let (to, from) = crossbeam_channel::unbounded::<Piece<Nothing>, Global>(alloc)?;
+    drop(to);
+    gather(&rt, &mut gathering, &from, 8);
+    assert!(rt; gathering.first_missing() == Some(0));
+    run_missing(alloc, &mut gathering, &inputs, 1, &gate)?;
+    assert!(rt; gate.own.load(Ordering::SeqCst) == 8);
+    assert!(rt; gate.others.load(Ordering::SeqCst) == 0);
+    Ok(())
+}
+
+#[test]
+fn nobody_receives(rt: HostRuntime) -> Result<(), Fail> {
+    let alloc = rt.alloc();
+    let inputs = inputs_of(alloc, 8)?;
+    let (dispatcher, mut seats) = Dispatcher::new(alloc, 8, 1)?;
+    let mut seat = seats.pop().unwrap();
+    let (to, from) = crossbeam_channel::unbounded::<Piece<Nothing>, Global>(alloc)?;
+    drop(from);
+    let mut port = ChannelPort::new(&rt, to);
+    let refused = work(
+        alloc,
+        &dispatcher,
+        &mut seat,
+        &*inputs,
+        &mut port,
+        1,
+        &FreeGate,
+    );
+    assert!(rt; refused == 16);
+    Ok(())
+}
+
+#[test]
+fn each_allocation_of_gatherers_can_be_refused(rt: HostRuntime) -> Result<(), Fail> {
+    let alloc = rt.alloc();
+    let events = [
+        Event::Arrive {
+            gatherer: 1,
+            task: 1,
+        },
+        Event::Merge { into: 0, other: 1 },
+        Event::Arrive {
+            gatherer: 1,
+            task: 0,
+        },
+    ];
+    let mut enough = 0;
+    for units in 1..200 {
+        let heap = LocalHeap::new(alloc, 16 * units)?;
+        if let Ok(answer) = rehearse_pipeline(alloc, &heap, inputs_of(alloc, 2)?, 2, &events) {
+            assert!(rt; answer.is_ok());
+            enough = units;
+            break;
+        }
+    }
+    assert!(rt; enough > 1);
+    Ok(())
 }

@@ -1,7 +1,7 @@
 //! A worker's whole run.
 ghost use Rattle.std.specs.Prelude.{◌≡◌, ◌<◌, [], length, MatchBool};
 ghost use Rattle.dispatcher.specs.Seats.{tasks_of, claims, marked_tasks, IsSeatOf, IsSameSeat};
-ghost use Rattle.pipelines.specs.Runs.{AllMarkedBut, IsDone, SawAllGiven, Took, TookOne};
+ghost use Rattle.pipelines.specs.Workers.{AllMarkedBut, IsDone, SawAllGiven, TookPieces, TookPiece};
 
 use crate::gate::Gate;
 use crate::port::Port;
@@ -13,8 +13,8 @@ use std::sync::Arc;
 /// Claims until no task is left, and runs each task that is not marked yet: it calls the gate,
 /// makes the task's piece, sends it, and marks the task once the port took it.
 ///
-/// It answers how many pieces were refused, by memory or by the port: so many of the tasks that it
-/// was given it left unmarked. It waits for what the gate and the port wait for.
+/// It answers how many pieces were refused, by memory or by the port: after so many of its claims
+/// the task was left unmarked. It waits for what the gate and the port wait for.
 #[tactic(auto, using(dispatcher::proofs::Rising::falls))]
 pub fn work<W: Work, P: Port<Piece<W>>, G: Gate>(
     alloc: Global,
@@ -32,8 +32,8 @@ pub fn work<W: Work, P: Port<Piece<W>>, G: Gate>(
     ensures same { IsSameSeat seat.old seat.new }
     ensures done { IsDone (tasks_of dispatcher.now) seat.new }
     ensures sent { P.Tells
-        → Took inputs.now (P.taken port.old) (P.taken port.new) (marked_tasks seat.new) }
-    ensures refused { AllMarkedBut result seat.old seat.new }
+        → TookPieces inputs.now (P.taken port.old) (P.taken port.new) (marked_tasks seat.new) }
+    ensures refused { AllMarkedBut (tasks_of dispatcher.now) result seat.old seat.new }
     ensures seen { result ≡ 0 → SawAllGiven (tasks_of dispatcher.now) seat.new }
 {
     let mut refused = 0;
@@ -55,7 +55,7 @@ pub fn work<W: Work, P: Port<Piece<W>>, G: Gate>(
     refused
 }
 
-// Makes the task's piece and sends it. Answers whether the port took it.
+/// Makes the task's piece and sends it. Answers whether the port took it.
 fn serve<W: Work, P: Port<Piece<W>>>(
     alloc: Global,
     inputs: &Inputs<W>,
@@ -64,7 +64,7 @@ fn serve<W: Work, P: Port<Piece<W>>>(
 ) -> bool
     requires { task < length inputs.now }
     ensures { P.Tells → MatchBool result
-        (TookOne inputs.now (P.taken port.old) (P.taken port.new) task)
+        (TookPiece inputs.now (P.taken port.old) (P.taken port.new) task)
         (P.taken port.new ≡ P.taken port.old) }
 {
     let Ok(input) = Arc::try_clone(inputs.input(task)) else {

@@ -12,4 +12,5 @@ returns-clause-step g c =
     let within : c.args.gatherer < length c.args.gatherings.now.items = search rules in
     let known : c.args.task < length (arc_value c.args.inputs.now) = search rules in
     on_ok c.run_task.result _ _ c.run_task.ensures.covered
-    (λ more. arrive_step c.args.gatherings.now.items c.args.gatherer c.args.task _ c.index_mut.result.now c.run_task.new.gathering within known c.index_mut.ensures.value more)
+    (λ more. arrive_step c.args.gatherings.now.items c.args.gatherer c.args.task _ c.index_mut.result.now
+    c.run_task.new.gathering within known c.index_mut.ensures.value more)

@@ -14,6 +14,13 @@ loop-task-preserved g c =
       }
       | else-not-covers w ↦ record {
         inputs = search rules;
-        covered = λ k lt. ap (λ v. contains v.covered k) w.gathering-is ∙ covered_still c.loop-task.gathering.covered c.loop-task.task before.covered (search rules) k lt;
+        covered = λ k lt. ap (λ v. contains v.covered k) w.gathering-is ∙ covered_still c.loop-task.gathering.covered c.loop-task.task before.covered
+            (search rules) k lt;
       }
     ]
+
+pub loop-task-init : goal.loop-task-init
+loop-task-init g c = search rules
+
+pub returns-clause-complete : goal.returns-clause-complete
+returns-clause-complete g c = search rules

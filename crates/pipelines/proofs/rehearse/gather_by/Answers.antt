@@ -7,14 +7,16 @@ use Rattle.pipelines.proofs.rehearse.gather_by.Goals as goal
 pub remove-first-requires : goal.remove-first-requires
 remove-first-requires g c =
     let many : length c.apply_all.new.gatherings.items ≡ c.args.gatherers
-    = as_many c.apply_all.new.gatherings.items c.args.gatherers (length (arc_value c.args.inputs.now)) c.args.events.now (covered_sets c.in_ok-gatherings.gatherings.items) c.in_ok-apply_all.ensures.steps c.in_ok-gatherings.ensures.empty in
+    = as_many c.apply_all.new.gatherings.items c.args.gatherers (length (arc_value c.args.inputs.now)) c.args.events.now
+    (covered_sets c.in_ok-gatherings.gatherings.items) c.in_ok-apply_all.ensures.steps c.in_ok-gatherings.ensures.empty in
     let same : vec_len c.apply_all.new.gatherings ≡ length c.apply_all.new.gatherings.items = search rules in
     omega (arith, c.requires)
 
 pub returns-clause-arrived : goal.returns-clause-arrived
 returns-clause-arrived g c = λ task.
     let many : length c.apply_all.new.gatherings.items ≡ c.args.gatherers
-    = as_many c.apply_all.new.gatherings.items c.args.gatherers (length (arc_value c.args.inputs.now)) c.args.events.now (covered_sets c.in_ok-gatherings.gatherings.items) c.in_ok-apply_all.ensures.steps c.in_ok-gatherings.ensures.empty in
+    = as_many c.apply_all.new.gatherings.items c.args.gatherers (length (arc_value c.args.inputs.now)) c.args.events.now
+    (covered_sets c.in_ok-gatherings.gatherings.items) c.in_ok-apply_all.ensures.steps c.in_ok-gatherings.ensures.empty in
     let all = first_and_others c.apply_all.new.gatherings.items c.remove-first.result (omega (arith, c.requires)) c.remove-first.ensures.value in
     let rest = ap covered_sets c.remove-first.ensures.items in
     c.unite_all.ensures.covered task

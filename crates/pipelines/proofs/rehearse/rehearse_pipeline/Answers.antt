@@ -13,7 +13,9 @@ returns-in-Some-clause-answer g c =
 
 pub returns-in-Ok-clause-answer : goal.returns-in-Ok-clause-answer
 returns-in-Ok-clause-answer g c =
-    let complete = subst (λ w. (t : ℕ) → t < length w → contains c.in_ok-gathering.gathering.covered t ≡ true) c.in_ok-gathering.ensures.inputs c.in-Ok.ensures.complete in (
-      none_left c.args.gatherers (length (arc_value c.args.inputs)) c.args.events.now c.in_ok-gathering.gathering.covered c.in_ok-gathering.ensures.arrived complete,
+    let complete = subst (λ w. (t : ℕ) → t < length w → contains c.in_ok-gathering.gathering.covered t ≡ true) c.in_ok-gathering.ensures.inputs
+    c.in-Ok.ensures.complete in (
+      none_left c.args.gatherers (length (arc_value c.args.inputs)) c.args.events.now c.in_ok-gathering.gathering.covered c.in_ok-gathering.ensures.arrived
+          complete,
       c.in-Ok.ensures.total ∙ ap g.W.Work.total_of c.in_ok-gathering.ensures.inputs,
     )

@@ -1,4 +1,4 @@
-use Rattle.std.proofs.Common.{◌≡◌, ◌∙◌, ap}
+use Rattle.std.proofs.Common.{rules, ◌≡◌, ◌∙◌, ap}
 use Rattle.std.proofs.lemmas.List.Elements.{All-pop}
 use Rattle.pipelines.proofs.Schedules.{last_merged}
 use Rattle.pipelines.proofs.rehearse.unite_all.Goals as goal
@@ -13,3 +13,6 @@ loop-other-preserved g c =
           c.in-Some.ensures.items (ap (λ v. v.covered) c.unite.ensures)
           ∙ before.covered task;
     }
+
+pub loop-other-init : goal.loop-other-init
+loop-other-init g c = search rules

@@ -1,7 +1,7 @@
-use Rattle.std.proofs.Common.{rules, ◌≡◌, ◌∙◌, ◌++◌, ◌∷◌, [], ◌*◌, length, sym, ap, arith}
+use Rattle.std.proofs.Common.{rules, ◌≡◌, ◌∙◌, ◌++◌, ◌∷◌, [], ◌*◌, sym, arith}
 use Rattle.dispatcher.proofs.Rising.{above_le}
 use Rattle.dispatcher.specs.Seats.{tasks_of, claims, marked_tasks, seen_tasks}
-use Rattle.pipelines.proofs.Runs.{snoc_same, one_longer, took_more, sees_more, sees_none, above_more, gives_more}
+use Rattle.pipelines.proofs.Workers.{snoc_same, took_more, sees_more, sees_none, turn_marked, turn_left, no_more, above_more, gives_more}
 use Rattle.pipelines.proofs.worker.work.Goals as goal
 
 pub loop-claim-preserved-then-serve : goal.loop-claim-preserved-then-serve
@@ -18,7 +18,7 @@ loop-claim-preserved-then-serve g c =
     let more = above_more _ _ _ _ c.in-Task.ensures.rises claimed before.counted in record {
       same = search rules;
       more = gives_more _ _ _ _ before.more claimed c.in-Task.ensures.answer.0;
-      refused = let one = one_longer _ _ _ claimed in let also = one_longer _ _ _ seen in omega (arith, before.refused);
+      refused = turn_marked _ _ _ _ _ _ before.refused claimed _ c.in-Task.ensures.answer.1 seen;
       counted = omega arith;
       sent = λ t. took_more _ _ _ _ _ _ _ (before.sent t) (c.if-serve.ensures t) marked;
       seen = λ none. sees_more _ c.loop-claim.seat c.mark.new.seat _ _ (before.seen none) claimed c.in-Task.ensures.answer.1 seen;
@@ -41,7 +41,7 @@ loop-claim-preserved-else-serve g c =
     record {
       same = search rules;
       more = gives_more _ _ _ _ before.more claimed c.in-Task.ensures.answer.0;
-      refused = let one = one_longer _ _ _ claimed in let as_many = ap length saw in omega (arith, before.refused);
+      refused = turn_left _ _ _ _ _ _ before.refused claimed saw;
       counted = above_more _ _ _ _ c.in-Task.ensures.rises claimed before.counted;
       sent = λ t. let took = before.sent t in record {
         pieces = took.pieces;
@@ -64,7 +64,7 @@ loop-claim-preserved g c =
     let more = above_more _ _ _ _ c.in-Task.ensures.rises claimed before.counted in record {
       same = search rules;
       more = gives_more _ _ _ _ before.more claimed c.in-Task.ensures.answer.0;
-      refused = let one = one_longer _ _ _ claimed in let also = one_longer _ _ _ seen in omega (arith, before.refused);
+      refused = turn_marked _ _ _ _ _ _ before.refused claimed _ c.in-Task.ensures.answer.1 seen;
       counted = omega arith;
       sent = λ t. let took = before.sent t in record {
         pieces = took.pieces;
@@ -76,10 +76,8 @@ loop-claim-preserved g c =
     }
 
 pub returns-clause-seen : goal.returns-clause-seen
-returns-clause-seen g c = λ none. sees_none _ c.loop-claim.seat c.claim.new.seat _ (c.loop-claim.invariant.seen none) c.in_default.ensures.claims c.in_default.ensures.seen c.in_default.ensures.answer
+returns-clause-seen g c = λ none. sees_none _ c.loop-claim.seat c.claim.new.seat _ (c.loop-claim.invariant.seen none) c.in_default.ensures.claims
+    c.in_default.ensures.seen c.in_default.ensures.answer
 
 pub returns-clause-refused : goal.returns-clause-refused
-returns-clause-refused g c =
-    let one = one_longer _ _ _ c.in_default.ensures.claims in
-    let as_many = ap length c.in_default.ensures.seen in
-    omega (arith, c.loop-claim.invariant.refused)
+returns-clause-refused g c = no_more _ _ _ _ _ _ c.loop-claim.invariant.refused c.in_default.ensures.claims c.in_default.ensures.seen

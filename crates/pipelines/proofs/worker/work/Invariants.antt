@@ -1,16 +1,17 @@
-use Rattle.std.proofs.Common.{◌≡◌, ◌≤◌, ◌+◌, ◌*◌, ◌-◌, length}
+use Rattle.std.proofs.Common.{◌≡◌, ◌≤◌, ◌*◌, ◌-◌}
 use Rattle.dispatcher.specs.Claims.{above}
-use Rattle.dispatcher.specs.Seats.{tasks_of, claims, marked_tasks, seen_tasks, IsSameSeat, MayClaim}
-use Rattle.pipelines.specs.Runs.{SawAllGiven, Took}
+use Rattle.dispatcher.specs.Seats.{tasks_of, claims, marked_tasks, IsSameSeat, MayClaim}
+use Rattle.pipelines.specs.Workers.{SawAllGiven, TookPieces}
+use Rattle.pipelines.proofs.Workers.{Turns}
 use Rattle.pipelines.proofs.worker.work.Given as goal
 
 abbrev pub invariant-loop-claim : goal.invariant-loop-claim
 invariant-loop-claim g l = record {
   same : IsSameSeat l.initial.seat l.seat;
   more : MayClaim (tasks_of l.dispatcher) l.seat;
-  refused : length (claims l.seat) + length (seen_tasks l.initial.seat) ≡ l.refused + length (seen_tasks l.seat);
+  refused : Turns (tasks_of l.dispatcher) l.refused l.initial.seat l.seat;
   counted : l.refused ≤ above (claims l.seat);
-  sent : g.P.Port.Tells → Took l.inputs (g.P.Port.taken l.initial.port) (g.P.Port.taken l.port) (marked_tasks l.seat);
+  sent : g.P.Port.Tells → TookPieces l.inputs (g.P.Port.taken l.initial.port) (g.P.Port.taken l.port) (marked_tasks l.seat);
   seen : l.refused ≡ 0 → SawAllGiven (tasks_of l.dispatcher) l.seat;
 }
 

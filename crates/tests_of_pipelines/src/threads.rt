@@ -1,14 +1,15 @@
+//! Pipelines on threads: which runs are made, when, and what the gate hears.
 ghost use Rattle.std.specs.Prelude.{◌≡◌, ◌<◌, ◌≤◌, length};
+ghost use Rattle.lists.specs.declared.limits.TheConstants.{MOST_TASKS, MOST_WORKERS};
 
-use super::{OneAndTwo, Watch, hold, inputs_of};
-use crate::{Crew, FreeGate, Gate, OutOfMemory, Outcome, run_pair};
+use crate::link::OneAndTwo;
+use pipelines::{Crew, FreeGate, Gate, OutOfMemory, Outcome, run_pair};
 use std::alloc::Global;
 use std::sync::atomic::{AtomicBool, AtomicU64, Ordering};
 use std::sync::{Arc, Wait};
 use std::test::Fail;
 use std::thread::Threads;
-
-const NUMBERS: [u64; 8] = [1, 2, 4, 8, 16, 32, 64, 128];
+use tests_works::{NUMBERS, Watch, hold, shared_inputs_of};
 
 /// How long the first giving of task 0 is held, in each pipeline or, the last, in the first alone.
 #[derive(Clone, Copy, PartialEq, Eq)]
@@ -27,7 +28,7 @@ struct Warden {
     begun: [AtomicBool; 4],
     second_pipeline: AtomicBool,
     done: [AtomicBool; 2],
-    /// Whether a run of the caller's own was told.
+    /// Whether it heard of a run of the caller's own.
     is_run_by_caller: AtomicBool,
     gave_up: AtomicBool,
 }
@@ -96,10 +97,10 @@ fn outcome<G: Gate, R: Threads + Wait + Sync>(
     workers: u32,
     gate: &G,
 ) -> Result<Outcome<u128, u128, u128>, OutOfMemory>
-    requires numbers { length numbers.now ≤ 4096 }
-    requires workers { (0 < workers) × (workers ≤ 64) }
+    requires numbers { length numbers.now ≤ MOST_TASKS }
+    requires workers { (0 < workers) × (workers ≤ MOST_WORKERS) }
 {
-    let inputs = Arc::new(alloc, inputs_of(alloc, watch, numbers)?)?;
+    let inputs = shared_inputs_of(alloc, watch, numbers)?;
     let link = OneAndTwo {
         watch: second_watch,
         halts,
@@ -114,7 +115,7 @@ fn outcome<G: Gate, R: Threads + Wait + Sync>(
 #[test]
 fn every_crew_gives_one_answer(rt: HostRuntime) -> Result<(), Fail> {
     let alloc = rt.alloc();
-    let watch = Watch::shared(alloc, 0..0, false)?;
+    let watch = Watch::shared(alloc)?;
     for (count, halts, workers) in [
         (8, false, 1),
         (8, false, 2),
@@ -130,23 +131,25 @@ fn every_crew_gives_one_answer(rt: HostRuntime) -> Result<(), Fail> {
             &rt, alloc, &watch, second, numbers, halts, workers, &FreeGate,
         )? {
             Outcome::Finished { total, kept } => {
-                assert_eq!(rt; (total, kept, halts), (3, wanted, false));
+                assert!(rt; (total, kept, halts) == (3, wanted, false));
             }
-            Outcome::Stopped { stop } => assert_eq!(rt; (stop, halts), (wanted, true)),
+            Outcome::Stopped { stop } => assert!(rt; (stop, halts) == (wanted, true)),
         }
     }
     Ok(())
 }
 
-/// Notes what is told of each run, where one worker makes them one after the other.
+/// Notes what it hears of each run, while one worker makes them one after the other.
 #[derive(Drop)]
 struct Ledger {
     watch: Arc<Watch, Global>,
-    /// How often a run was told, by its pipeline, its round and its task.
-    told: Vec<AtomicU64>,
+    /// How often it heard of a run, by its pipeline, its round and its task.
+    heard: Vec<AtomicU64>,
     all: AtomicU64,
     all_when_done: [AtomicU64; 2],
-    /// A run was told that is none of these, or was made before it was told.
+    /// How often each pipeline was done.
+    done: [AtomicU64; 2],
+    /// It heard of a run or a pipeline that is none of these, or only after the run was made.
     is_wrong: AtomicBool,
 }
 
@@ -155,35 +158,37 @@ fn place_of(pipeline: u8, round: u8, task: u32) -> usize {
     24 * pipeline as usize + 8 * round as usize + task as usize
 }
 
+/// Both counts.
+fn counts(of: &[AtomicU64; 2]) -> [u64; 2] {
+    let [first, second] = of;
+    [first.load(Ordering::SeqCst), second.load(Ordering::SeqCst)]
+}
+
 impl Ledger {
     fn new(alloc: Global, watch: &Arc<Watch, Global>) -> Result<Self, OutOfMemory> {
-        let mut told = Vec::new(alloc);
+        let mut heard = Vec::new(alloc);
         for _ in 0..72 {
-            told.push(AtomicU64::new(0))?;
+            heard.push(AtomicU64::new(0))?;
         }
         Ok(Ledger {
             watch: Arc::try_clone(watch)?,
-            told,
+            heard,
             all: AtomicU64::new(0),
             all_when_done: [AtomicU64::new(0), AtomicU64::new(0)],
+            done: [AtomicU64::new(0), AtomicU64::new(0)],
             is_wrong: AtomicBool::new(false),
         })
     }
 
-    /// How often each task was told in a round.
+    /// How often it heard of each task in a round.
     fn tasks(&self, pipeline: u8, round: u8) -> [u64; 8] {
         let mut tasks = [0; 8];
         for (task, count) in tasks.iter_mut().enumerate() {
-            if let Some(told) = self.told.get(place_of(pipeline, round, task as u32)) {
-                *count = told.load(Ordering::SeqCst);
+            if let Some(heard) = self.heard.get(place_of(pipeline, round, task as u32)) {
+                *count = heard.load(Ordering::SeqCst);
             }
         }
         tasks
-    }
-
-    fn all_when_done(&self) -> [u64; 2] {
-        let [first, second] = &self.all_when_done;
-        [first.load(Ordering::SeqCst), second.load(Ordering::SeqCst)]
     }
 }
 
@@ -191,9 +196,9 @@ impl Gate for Ledger {
     fn before(&self, pipeline: u8, task: u32, round: u8) {
         let earlier = self.all.fetch_add(1, Ordering::SeqCst);
         let is_one_of_these = (1..=2).contains(&pipeline) && task < 8 && round < 3;
-        match self.told.get(place_of(pipeline, round, task)) {
-            Some(told) if is_one_of_these && self.watch.runs.load(Ordering::SeqCst) == earlier => {
-                told.fetch_add(1, Ordering::SeqCst);
+        match self.heard.get(place_of(pipeline, round, task)) {
+            Some(heard) if is_one_of_these && self.watch.runs() == earlier => {
+                heard.fetch_add(1, Ordering::SeqCst);
             }
             _ => self.is_wrong.store(true, Ordering::SeqCst),
         }
@@ -201,8 +206,11 @@ impl Gate for Ledger {
 
     fn done(&self, pipeline: u8) {
         if pipeline == 1 || pipeline == 2 {
-            let all = self.all.load(Ordering::SeqCst);
-            self.all_when_done[pipeline as usize - 1].store(all, Ordering::SeqCst);
+            let at = pipeline as usize - 1;
+            self.done[at].fetch_add(1, Ordering::SeqCst);
+            self.all_when_done[at].store(self.all.load(Ordering::SeqCst), Ordering::SeqCst);
+        } else {
+            self.is_wrong.store(true, Ordering::SeqCst);
         }
     }
 }
@@ -210,27 +218,64 @@ impl Gate for Ledger {
 #[test]
 fn marked_tasks_are_passed_over(rt: HostRuntime) -> Result<(), Fail> {
     let alloc = rt.alloc();
-    let watch = Watch::shared(alloc, 0..0, false)?;
-    let gate = Ledger::new(alloc, &watch)?;
-    let second = Arc::try_clone(&watch)?;
-    let _ = outcome(&rt, alloc, &watch, second, &NUMBERS, false, 1, &gate)?;
-    assert!(rt; !gate.is_wrong.load(Ordering::SeqCst));
-    assert_eq!(rt; gate.tasks(1, 0), [1; 8]);
-    assert_eq!(rt; gate.tasks(2, 0), [1, 1, 0, 0, 0, 0, 0, 0]);
-    assert_eq!(rt; gate.all_when_done(), [8, 10]);
-    assert_eq!(rt; gate.all.load(Ordering::SeqCst), 10);
-    assert_eq!(rt; watch.runs.load(Ordering::SeqCst), 10);
+    // A second pipeline that doesn't run is never done.
+    for (halts, second, all_when_done, done) in [
+        (false, [1, 1, 0, 0, 0, 0, 0, 0], [8, 10], [1, 1]),
+        (true, [0; 8], [8, 0], [1, 0]),
+    ] {
+        let watch = Watch::shared(alloc)?;
+        let gate = Ledger::new(alloc, &watch)?;
+        let linked = Arc::try_clone(&watch)?;
+        let _ = outcome(&rt, alloc, &watch, linked, &NUMBERS, halts, 1, &gate)?;
+        assert!(rt; !gate.is_wrong.load(Ordering::SeqCst));
+        assert!(rt; gate.tasks(1, 0) == [1; 8]);
+        assert!(rt; gate.tasks(2, 0) == second);
+        assert!(rt; counts(&gate.all_when_done) == all_when_done);
+        assert!(rt; counts(&gate.done) == done);
+        let all = if halts { 8 } else { 10 };
+        assert!(rt; gate.all.load(Ordering::SeqCst) == all);
+        assert!(rt; watch.runs() == all);
+    }
     Ok(())
 }
 
-/// Whether two workers finish under such a gate, which never gives up and sees no run of the
+#[test]
+fn lost_pieces_are_run_again(rt: HostRuntime) -> Result<(), Fail> {
+    let alloc = rt.alloc();
+    // One worker runs each of four tasks twice. The caller's own runs come after those eight, and the
+    // pipeline is done after the last of them, or never if one is refused.
+    let each = [1, 1, 1, 1, 0, 0, 0, 0];
+    let first = [1, 0, 0, 0, 0, 0, 0, 0];
+    for (refuses, answers, by_caller, all, when_done, done) in [
+        (8, true, each, 12, [12, 0], [1, 0]),
+        (9, false, first, 9, [0, 0], [0, 0]),
+    ] {
+        let watch = Watch::refusing(alloc, 0..refuses)?;
+        let gate = Ledger::new(alloc, &watch)?;
+        let linked = Arc::try_clone(&watch)?;
+        match outcome(&rt, alloc, &watch, linked, &NUMBERS[..4], true, 1, &gate) {
+            Ok(Outcome::Stopped { stop }) => assert!(rt; (stop, answers) == (15, true)),
+            Ok(Outcome::Finished { total: _, kept: _ }) => assert!(rt; false),
+            Err(_) => assert!(rt; !answers),
+        }
+        assert!(rt; !gate.is_wrong.load(Ordering::SeqCst));
+        assert!(rt; gate.tasks(1, 0) == each && gate.tasks(1, 1) == each);
+        assert!(rt; gate.tasks(1, 2) == by_caller);
+        assert!(rt; gate.all.load(Ordering::SeqCst) == all);
+        assert!(rt; counts(&gate.all_when_done) == when_done);
+        assert!(rt; counts(&gate.done) == done);
+    }
+    Ok(())
+}
+
+/// Whether two workers finish under such a gate, which never gives up and hears of no run of the
 /// caller's own.
 fn finishes_when<R: Threads + Wait + Sync>(
     rt: &R,
     alloc: Global,
     held: Held,
 ) -> Result<bool, OutOfMemory> {
-    let watch = Watch::shared(alloc, 0..0, false)?;
+    let watch = Watch::shared(alloc)?;
     let gate = Warden::new(held);
     let second = Arc::try_clone(&watch)?;
     let finished = match outcome(rt, alloc, &watch, second, &NUMBERS, false, 2, &gate)? {
@@ -262,40 +307,13 @@ fn slow_worker_left_behind(rt: HostRuntime) -> Result<(), Fail> {
 #[test]
 fn runs_at_once(rt: HostRuntime) -> Result<(), Fail> {
     let alloc = rt.alloc();
-    let watch = Watch::shared(alloc, 0..0, true)?;
-    let second = Watch::shared(alloc, 0..0, true)?;
+    let watch = Watch::meeting(alloc)?;
+    let second = Watch::meeting(alloc)?;
     let linked = Arc::try_clone(&second)?;
     match outcome(&rt, alloc, &watch, linked, &[1, 2], false, 2, &FreeGate)? {
-        Outcome::Finished { total, kept } => assert_eq!(rt; (total, kept), (3, 3)),
+        Outcome::Finished { total, kept } => assert!(rt; (total, kept) == (3, 3)),
         Outcome::Stopped { stop: _ } => assert!(rt; false),
     }
-    assert!(rt; !watch.gave_up.load(Ordering::SeqCst));
-    assert!(rt; !second.gave_up.load(Ordering::SeqCst));
-    Ok(())
-}
-
-#[test]
-fn lost_pieces_are_run_again(rt: HostRuntime) -> Result<(), Fail> {
-    let alloc = rt.alloc();
-    // One worker runs each of four tasks twice. The caller's own runs come after those eight.
-    let each = [1, 1, 1, 1, 0, 0, 0, 0];
-    let first = [1, 0, 0, 0, 0, 0, 0, 0];
-    for (refuses, answers, by_caller) in [(8, true, each), (9, false, first)] {
-        let watch = Watch::shared(alloc, 0..refuses, false)?;
-        let gate = Ledger::new(alloc, &watch)?;
-        let second = Arc::try_clone(&watch)?;
-        match outcome(&rt, alloc, &watch, second, &NUMBERS[..4], true, 1, &gate) {
-            Ok(Outcome::Stopped { stop }) => assert_eq!(rt; (stop, answers), (15, true)),
-            Ok(Outcome::Finished { total: _, kept: _ }) => assert!(rt; false),
-            Err(_) => assert!(rt; !answers),
-        }
-        assert!(rt; !gate.is_wrong.load(Ordering::SeqCst));
-        assert_eq!(rt; (gate.tasks(1, 0), gate.tasks(1, 1)), (each, each));
-        assert_eq!(rt; gate.tasks(1, 2), by_caller);
-        assert_eq!(rt;
-            gate.all.load(Ordering::SeqCst),
-            if answers { 12 } else { 9 }
-        );
-    }
+    assert!(rt; !watch.gave_up() && !second.gave_up());
     Ok(())
 }

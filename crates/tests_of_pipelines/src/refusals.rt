@@ -1,14 +1,13 @@
 //! Growths that are refused one after the other: what comes is the right sums or want of memory.
 ghost use Rattle.std.specs.Prelude.{◌≡◌};
 
-use super::{OneAndTwo, Watch, inputs_of};
-use crate::rehearse::rehearse_pipeline;
-use crate::{Crew, Event, FreeGate, OutOfMemory, Outcome, Rehearsed, rehearse_pair, run_pair};
-use linked_list_allocator::LocalHeap;
+use crate::link::OneAndTwo;
+use pipelines::{Crew, Event, FreeGate, OutOfMemory, Outcome, Rehearsed, rehearse_pair, run_pair};
 use std::alloc::Global;
 use std::sync::{Arc, Wait};
 use std::test::Fail;
 use std::thread::Threads;
+use tests_works::{Watch, shared_inputs_of};
 
 /// The second total and the first.
 type Sums = (u128, u128);
@@ -23,7 +22,7 @@ fn run<R: Threads + Wait + Sync>(
     watch: &Arc<Watch, Global>,
     crew: Crew,
 ) -> Result<Sums, OutOfMemory> {
-    let inputs = Arc::new(alloc, inputs_of(alloc, watch, &[1, 2, 4])?)?;
+    let inputs = shared_inputs_of(alloc, watch, &[1, 2, 4])?;
     let link = OneAndTwo {
         watch: Arc::try_clone(watch)?,
         halts: false,
@@ -53,7 +52,7 @@ const MERGED_ON_THE_WAY: [Event; 4] = [
 
 /// What two gatherers give, one of which is merged into the other on the way.
 fn rehearse(alloc: Global, watch: &Arc<Watch, Global>) -> Result<Sums, OutOfMemory> {
-    let inputs = Arc::new(alloc, inputs_of(alloc, watch, &[1, 2, 4])?)?;
+    let inputs = shared_inputs_of(alloc, watch, &[1, 2, 4])?;
     let link = OneAndTwo {
         watch: Arc::try_clone(watch)?,
         halts: false,
@@ -70,7 +69,7 @@ fn rehearse(alloc: Global, watch: &Arc<Watch, Global>) -> Result<Sums, OutOfMemo
     }
 }
 
-/// What comes where the first growth is refused, the second, and so on, and at last where none is.
+/// What comes if the first growth is refused, the second, and so on, and at last if none is.
 fn one_refused_each<R: Threads + Wait + Sync>(
     rt: &R,
     alloc: Global,
@@ -82,7 +81,7 @@ fn one_refused_each<R: Threads + Wait + Sync>(
     };
     let mut answers = Vec::new(alloc);
     for growth in 0..100 {
-        let watch = Watch::shared(alloc, growth..growth + 1, false)?;
+        let watch = Watch::refusing(alloc, growth..growth + 1)?;
         let sums = if rehearses {
             rehearse(alloc, &watch)
         } else {
@@ -97,42 +96,15 @@ fn one_refused_each<R: Threads + Wait + Sync>(
 }
 
 #[test]
-fn each_growth_of_a_run_can_be_refused(rt: HostRuntime) -> Result<(), Fail> {
-    // Three runs and their additions, the link, two runs and theirs. A refused run is a lost piece.
-    let wanted = [
-        RIGHT, RIGHT, RIGHT, None, None, None, None, RIGHT, RIGHT, None, None, RIGHT,
-    ];
-    let answers = one_refused_each(&rt, rt.alloc(), false)?;
-    assert_eq!(rt; answers.as_slice(), wanted.as_slice());
-    Ok(())
-}
-
-#[test]
-fn each_growth_of_a_rehearsal_can_be_refused(rt: HostRuntime) -> Result<(), Fail> {
-    // As many growths, and no piece is lost.
-    let answers = one_refused_each(&rt, rt.alloc(), true)?;
-    assert_eq!(rt; answers.len(), 12);
-    for (growth, answer) in answers.iter().enumerate() {
-        assert_eq!(rt; *answer, if growth < 11 { None } else { RIGHT });
+fn each_growth_can_be_refused(rt: HostRuntime) -> Result<(), Fail> {
+    // Three runs and their additions, the link, two runs and theirs. A run that is refused to a worker
+    // is a lost piece, and a rehearsal has none.
+    for (rehearses, lost) in [(false, RIGHT), (true, None)] {
+        let wanted = [
+            lost, lost, lost, None, None, None, None, lost, lost, None, None, RIGHT,
+        ];
+        assert!(rt; one_refused_each(&rt, rt.alloc(), rehearses)?.as_slice() == &wanted[..]);
     }
-    Ok(())
-}
-
-#[test]
-fn each_allocation_of_gatherers_can_be_refused(rt: HostRuntime) -> Result<(), Fail> {
-    let alloc = rt.alloc();
-    let watch = Watch::shared(alloc, 0..0, false)?;
-    let mut enough = 0;
-    for units in 1..200 {
-        let heap = LocalHeap::new(alloc, 16 * units)?;
-        let inputs = Arc::new(alloc, inputs_of(alloc, &watch, &[1, 2, 4])?)?;
-        if let Ok(answer) = rehearse_pipeline(alloc, &heap, inputs, 2, &MERGED_ON_THE_WAY) {
-            assert_eq!(rt; answer, Ok(7));
-            enough = units;
-            break;
-        }
-    }
-    assert!(rt; enough > 1);
     Ok(())
 }
 
@@ -140,12 +112,12 @@ fn each_allocation_of_gatherers_can_be_refused(rt: HostRuntime) -> Result<(), Fa
 #[test]
 fn sums_or_want_of_memory(rt: HostRuntime) -> Result<(), Fail> {
     let alloc = rt.alloc();
-    let watch = Watch::shared(alloc, 0..0, false)?;
+    let watch = Watch::shared(alloc)?;
     let crew = Crew {
         workers: 2,
         gatherers: 1,
     };
-    assert_eq!(rt; Some(run(&rt, alloc, &watch, crew)?), RIGHT);
-    assert_eq!(rt; Some(rehearse(alloc, &watch)?), RIGHT);
+    assert!(rt; Some(run(&rt, alloc, &watch, crew)?) == RIGHT);
+    assert!(rt; Some(rehearse(alloc, &watch)?) == RIGHT);
     Ok(())
 }

@@ -1,0 +1,14 @@
+//! Tests of `pipelines`, of what its contracts don't say: which runs are made, on which threads, in
+//! which order, and what comes if memory is refused.
+#![tactic(auto)]
+
+#[cfg(test)]
+mod link;
+#[cfg(test)]
+mod refusals;
+#[cfg(test)]
+mod schedules;
+#[cfg(test)]
+mod threads;
+#[cfg(test)]
+mod workers;

@@ -1,0 +1,133 @@
+//! Pipelines of two gatherers, by schedules.
+ghost use Rattle.std.specs.Prelude.{◌≡◌};
+
+use crate::link::OneAndTwo;
+use pipelines::{Event, Gathering, OutOfMemory, Rehearsed, apply, rehearse_pair};
+use std::alloc::Global;
+use std::sync::Arc;
+use std::test::Fail;
+use tests_works::{NUMBERS, Watch, shared_inputs_of};
+
+/// A task arrives at gatherer 0.
+fn at_0(task: u32) -> Event {
+    Event::Arrive { gatherer: 0, task }
+}
+
+/// A task arrives at gatherer 1.
+fn at_1(task: u32) -> Event {
+    Event::Arrive { gatherer: 1, task }
+}
+
+/// Gatherer 1 is merged into gatherer 0.
+const MERGE: Event = Event::Merge { into: 0, other: 1 };
+
+/// What two gatherers give of all numbers, and how many runs it took.
+fn rehearsed(
+    alloc: Global,
+    watch: &Arc<Watch, Global>,
+    halts: bool,
+    first: &[Event],
+    second: &[Event],
+) -> Result<(&'static str, u128, u128, u64), OutOfMemory> {
+    let inputs = shared_inputs_of(alloc, watch, &NUMBERS)?;
+    let link = OneAndTwo {
+        watch: Arc::try_clone(watch)?,
+        halts,
+    };
+    let (word, a, b) = match rehearse_pair(alloc, inputs, &link, 2, first, second)? {
+        Rehearsed::Finished { total, kept } => ("finished", total, kept),
+        Rehearsed::Stopped { stop } => ("stopped", stop, 0),
+        Rehearsed::Missing { pipeline, task } => (
+            "missing",
+            u128::from(pipeline),
+            u128::from(task),
+        ),
+    };
+    Ok((word, a, b, watch.runs()))
+}
+
+#[test]
+fn each_arrival_is_run_once_and_nothing_else(rt: HostRuntime) -> Result<(), Fail> {
+    let alloc = rt.alloc();
+    // Each task arrives at gatherer 0, and one also at the other, before and after a merge.
+    let each = [
+        at_0(0),
+        at_0(1),
+        at_0(2),
+        at_0(3),
+        at_0(4),
+        at_0(5),
+        at_0(6),
+        at_0(7),
+        at_1(3),
+        MERGE,
+        at_1(3),
+    ];
+    let mut lost = each;
+    lost[5] = Event::Lose { task: 5 };
+    // Task 4 arrives once more at a gatherer that covers it: it is run, and the piece is dropped.
+    let mut again = each;
+    again[5] = at_0(4);
+    // These name a gatherer or a task that there isn't, or one gatherer twice, or lose a piece.
+    let without_effect = [
+        Event::Arrive {
+            gatherer: 2,
+            task: 0,
+        },
+        at_0(8),
+        Event::Lose { task: 1 },
+        Event::Merge { into: 1, other: 1 },
+        Event::Merge { into: 0, other: 2 },
+    ];
+    let by_turns = [
+        at_0(7),
+        at_1(6),
+        at_0(5),
+        at_1(4),
+        MERGE,
+        at_1(3),
+        at_0(2),
+        at_1(1),
+        at_0(0),
+    ];
+    for (halts, first, second, wanted) in [
+        (true, &each[..], &[][..], ("stopped", 255, 0, 10)),
+        (true, &lost[..], &[][..], ("missing", 1, 5, 9)),
+        (true, &again[..], &[][..], ("missing", 1, 5, 10)),
+        (true, &without_effect[..], &[][..], ("missing", 1, 0, 0)),
+        (
+            false,
+            &by_turns[..],
+            &[at_1(0), at_0(1)][..],
+            ("finished", 3, 255, 10),
+        ),
+        (false, &by_turns[..], &[at_1(0)][..], ("missing", 2, 1, 9)),
+    ] {
+        let watch = Watch::shared(alloc)?;
+        assert!(rt; rehearsed(alloc, &watch, halts, first, second)? == wanted);
+    }
+    Ok(())
+}
+
+#[test]
+fn events_one_by_one(rt: HostRuntime) -> Result<(), Fail> {
+    let alloc = rt.alloc();
+    // The first run is refused.
+    let watch = Watch::refusing(alloc, 0..1)?;
+    let inputs = shared_inputs_of(alloc, &watch, &NUMBERS)?;
+    let mut gatherings = Vec::new(alloc);
+    gatherings.push(Gathering::new(alloc, Arc::try_clone(&inputs)?)?)?;
+    gatherings.push(Gathering::new(alloc, Arc::try_clone(&inputs)?)?)?;
+    for (event, answers, covered) in [
+        (at_1(3), false, [false, false]),
+        (at_1(3), true, [false, true]),
+        (Event::Lose { task: 3 }, true, [false, true]),
+        (MERGE, true, [true, false]),
+        (MERGE, true, [true, false]),
+    ] {
+        assert!(rt; apply(alloc, &mut gatherings, &inputs, &event).is_ok() == answers);
+        let now = gatherings.iter().map(|gathering| gathering.covers(3));
+        assert!(rt; now.eq(covered));
+    }
+    Ok(())
+}
