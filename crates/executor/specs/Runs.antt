@@ -1,7 +1,7 @@
 -- What a run reads of its source, answers, and hands to its sink.
 use Rattle.std.specs.Prelude.{◌≡◌, ℕ, ◌+◌, ◌≤◌, ◌⊎◌, Bool, true, false, List, length, take, Some, Result, Ok, Err}
 use Rattle.executor.specs.Answers.{IsAnswer}
-use Rattle.query.specs.Faults.{first_fault}
+use Rattle.query.specs.Faults.{first_query_fault}
 use Rattle.query.specs.Grammar.{Means}
 use Rattle.query.specs.Meaning.{Meaning}
 use Rattle.query.specs.Words.{words_of}
@@ -61,7 +61,7 @@ module _ {S K : Type 0}
   Ran words limit before after sink_before sink_after (Ok done) =
       WroteAll words limit before after sink_before sink_after
   Ran words limit before after sink_before sink_after (Err (fault.Query f)) =
-      (first_fault (words_of words) ≡ Some f) × (after ≡ before) × (sink_after ≡ sink_before)
+      (first_query_fault (words_of words) ≡ Some f) × (after ≡ before) × (sink_after ≡ sink_before)
   Ran words limit before after sink_before sink_after (Err fault.ReadFailed) =
       ((query : Meaning) × Means (words_of words) query) × GaveSome limit before after × (sink_after ≡ sink_before)
   Ran words limit before after sink_before sink_after (Err (fault.TooLong most)) =

@@ -15,7 +15,8 @@ or_right true b h = refl
 or_right false b h = h
 
 -- a kind's first byte is a letter
-letter_cases : (e c p q no_more s t u v : Bool) → (((e && no_more) || (c && no_more)) || ((p && no_more) || (q && no_more))) ≡ true → (((e || s) || (c || t)) || ((p || u) || (q || v))) ≡ true
+letter_cases : (e c p q no_more s t u v : Bool) → (((e && no_more) || (c && no_more)) || ((p && no_more) || (q && no_more))) ≡ true
+    → (((e || s) || (c || t)) || ((p || u) || (q || v))) ≡ true
 letter_cases true c p q m s t u v h = refl
 letter_cases false true p q m s t u v h = or_left (s || true) ((p || u) || (q || v)) (or_right s true refl)
 letter_cases false false true q m s t u v h = or_right (s || t) (true || (q || v)) refl
@@ -24,9 +25,11 @@ letter_cases false false false false m s t u v h = absurd (cc)
 
 first_letter : (byte : ℕ) (bytes part : List ℕ) → is_kind (byte ∷ part) ≡ true → has_some (letters_of (byte ∷ bytes)) ≡ true
 first_letter byte bytes [] h =
-    letter_cases (eqb byte 69) (eqb byte 67) (eqb byte 80) (eqb byte 81) true (has_letter 69 bytes) (has_letter 67 bytes) (has_letter 80 bytes) (has_letter 81 bytes) h
+    letter_cases (eqb byte 69) (eqb byte 67) (eqb byte 80) (eqb byte 81) true (has_letter 69 bytes) (has_letter 67 bytes) (has_letter 80 bytes)
+    (has_letter 81 bytes) h
 first_letter byte bytes (x ∷ xs) h =
-    letter_cases (eqb byte 69) (eqb byte 67) (eqb byte 80) (eqb byte 81) false (has_letter 69 bytes) (has_letter 67 bytes) (has_letter 80 bytes) (has_letter 81 bytes) h
+    letter_cases (eqb byte 69) (eqb byte 67) (eqb byte 80) (eqb byte 81) false (has_letter 69 bytes) (has_letter 67 bytes) (has_letter 80 bytes)
+    (has_letter 81 bytes) h
 
 first_true : (a b : Bool) → (a && b) ≡ true → a ≡ true
 first_true true b h = refl
@@ -40,7 +43,8 @@ list_has_letter (byte ∷ bytes) h =
       | [] ↦ λ i. first_letter byte bytes [] (first_true _ _ i)
       | part ∷ more ↦ λ i. first_letter byte bytes part (first_true _ _ i)
     ] in
-    let go : (b : Bool) → list_all is_kind (cond b ([] ∷ parts 44 bytes) (onto_first byte (parts 44 bytes))) ≡ true → has_some (letters_of (byte ∷ bytes)) ≡ true =
+    let go : (b : Bool) → list_all is_kind (cond b ([] ∷ parts 44 bytes) (onto_first byte (parts 44 bytes))) ≡ true
+    → has_some (letters_of (byte ∷ bytes)) ≡ true =
     elim [ true ↦ λ i. absurd (cc) | false ↦ λ i. onto (parts 44 bytes) i ] in
     go (eqb byte 44) h
 

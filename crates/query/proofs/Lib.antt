@@ -1,9 +1,10 @@
-pub mod Readings
-pub mod Partings
+pub mod MeaningOrFault
+pub mod CutAtSeparator
 pub mod SymbolLists
-pub mod Takings
+pub mod FormsWordByWord
 pub mod KindLists
-pub mod Writings
-pub mod Spellings
-pub mod Listings
+pub mod WriterIsCanonical
+pub mod CanonicalHasMeaning
+pub mod ListedLocates
 pub mod SortedNames
+pub mod MemoryForSymbols

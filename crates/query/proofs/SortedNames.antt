@@ -1,5 +1,6 @@
 -- A binary search of names in rising order finds those that are among them, and no others.
-use Rattle.std.proofs.Common.{◌≡◌, ℕ, ◌<◌, Bool, true, false, ◌||◌, List, [], ◌∷◌, map, get_or, Result, Ok, Err, Ordering, Less, Equal, Greater, is_ok, refl, sym, ap, ◌∙◌, ⊎_elim, arith, IsSorted, nat_cmp, length, subst, IsPermutation}
+use Rattle.std.proofs.Common.{◌≡◌, ℕ, ◌<◌, Bool, true, false, ◌||◌, List, [], ◌∷◌, map, get_or, Result, Ok, Err, Ordering, Less, Equal, Greater, is_ok, refl}
+use Rattle.std.proofs.Common.{sym, ap, ◌∙◌, ⊎_elim, arith, IsSorted, nat_cmp, length, subst, IsPermutation}
 use Rattle.std.specs.Borrow.{Bor}
 use Rattle.std.specs.Cmp.Lexicographic.{slice_cmp}
 use Rattle.std.specs.List.{list_any}
@@ -30,16 +31,19 @@ list_any_held : {X : Type 0} (p : X → Bool) (xs : List X) (i : ℕ) → i < le
 list_any_held p [] i within here = absurd (omega (arith, within))
 list_any_held p (x ∷ xs) i within here = list_any_at p (x ∷ xs) i x within (here x)
 
-pub found_name : (names : List (Bor (List ℕ))) (name : List ℕ) (r : Result ℕ ℕ) → IsSorted order names → IsSearchInRange r (length names) → IsBinarySearchResult (λ y. slice_cmp nat_cmp y.now name) names r → is_ok r ≡ list_any (λ symbol. bytes_eq symbol name) (map bytes names)
+pub found_name : (names : List (Bor (List ℕ))) (name : List ℕ) (r : Result ℕ ℕ) → IsSorted order names → IsSearchInRange r (length names)
+    → IsBinarySearchResult (λ y. slice_cmp nat_cmp y.now name) names r → is_ok r ≡ list_any (λ symbol. bytes_eq symbol name) (map bytes names)
 found_name names name (Ok i) sorted within is =
     let here : (d : Bor (List ℕ)) → bytes_eq (get_or names i d).now name ≡ true = λ d. told (get_or names i d).now name Equal (is d) in
     sym (any_of_map _ names ∙ list_any_held (λ x. bytes_eq x.now name) names i within here)
 found_name names name (Err i) sorted within is =
     let place = is (searchable_from_sorted nat_list_cmp_total bytes names name sorted) in
     let none : (k : ℕ) (d : Bor (List ℕ)) → k < length names → bytes_eq (get_or names k d).now name ≡ false =
-    λ k d h. ⊎_elim (λ below. told (get_or names k d).now name Less (place.0 k d (omega arith) below)) (λ above. told (get_or names k d).now name Greater (place.1 k d above h)) (cases_lt k i) in
+    λ k d h. ⊎_elim (λ below. told (get_or names k d).now name Less (place.0 k d (omega arith) below))
+    (λ above. told (get_or names k d).now name Greater (place.1 k d above h)) (cases_lt k i) in
     sym (any_of_map _ names ∙ list_any_none (λ x. bytes_eq x.now name) names none)
 
 -- names in another order are the symbols in another order
-pub moved_names : (names sorted : List (Bor (List ℕ))) (symbols : List (List ℕ)) → IsPermutation names sorted → map bytes names ≡ symbols → IsPermutation symbols (map bytes sorted)
+pub moved_names : (names sorted : List (Bor (List ℕ))) (symbols : List (List ℕ)) → IsPermutation names sorted → map bytes names ≡ symbols
+    → IsPermutation symbols (map bytes sorted)
 moved_names names sorted symbols moved same = subst (λ all. IsPermutation all (map bytes sorted)) same (IsPermutation-map bytes names sorted moved)

@@ -1,11 +1,12 @@
 -- Lists of symbols, part by part.
-use Rattle.std.proofs.Common.{◌≡◌, ℕ, Bool, true, false, cond, ◌&&◌, List, [], ◌∷◌, ◌++◌, length, Option, Some, None, refl, sym, ap, ◌∙◌, subst, arith, nat_lt, nat_eq}
+use Rattle.std.proofs.Common.{◌≡◌, ℕ, Bool, true, false, cond, ◌&&◌, List, [], ◌∷◌, ◌++◌, length, Option, Some, None, refl, sym, ap, ◌∙◌, subst, arith}
+use Rattle.std.proofs.Common.{nat_lt, nat_eq}
 use Rattle.std.specs.List.{list_all, slice_split, onto_first}
 use Rattle.std.proofs.lemmas.Grind.{common_steps}
 use borrow.Author.Tests.{lt-ltb}
 use Rattle.std.specs.Borrow.{Bor}
 use Rattle.query.specs.Words.{parts}
-use Rattle.query.specs.Parting.{after_part}
+use Rattle.query.specs.TextLeft.{after_part}
 use Rattle.query.specs.Values.{is_symbol, symbols_of}
 use Rattle.query.specs.Meaning.{are_symbols}
 
@@ -24,7 +25,8 @@ has_part p (x ∷ xs) =
     first [] = refl
     first (part ∷ more) = lt-ltb _ _ (omega arith)
 
-pub are_parts : (items : List (List ℕ)) (bytes : List ℕ) (rest : Option (Bor (List ℕ))) → rest ≡ None → items ++ after_part 44 rest ≡ parts 44 bytes → items ≡ parts 44 bytes
+pub are_parts : (items : List (List ℕ)) (bytes : List ℕ) (rest : Option (Bor (List ℕ))) → rest ≡ None → items ++ after_part 44 rest ≡ parts 44 bytes
+    → items ≡ parts 44 bytes
 are_parts items bytes rest none e =
     let f : items ++ after_part 44 None ≡ parts 44 bytes = subst (λ r. items ++ after_part 44 r ≡ parts 44 bytes) none e in
     sym (append_none items) ∙ f
@@ -46,7 +48,9 @@ unsound (x ∷ xs) part more h =
     let go : (b : Bool) → (b && list_all is_symbol (xs ++ part ∷ more)) ≡ false = elim [ true ↦ unsound xs part more h | false ↦ refl ] in
     go (is_symbol x)
 
-pub symbols_none : (items : List (List ℕ)) (bytes : List ℕ) (text : Bor (List ℕ)) (part : List ℕ) (rest after : Option (Bor (List ℕ))) → items ++ after_part 44 rest ≡ parts 44 bytes → rest ≡ Some text → parts 44 text.now ≡ part ∷ after_part 44 after → is_symbol part ≡ false → None ≡ symbols_of bytes
+pub symbols_none : (items : List (List ℕ)) (bytes : List ℕ) (text : Bor (List ℕ)) (part : List ℕ) (rest after : Option (Bor (List ℕ)))
+    → items ++ after_part 44 rest ≡ parts 44 bytes → rest ≡ Some text → parts 44 text.now ≡ part ∷ after_part 44 after → is_symbol part ≡ false
+    → None ≡ symbols_of bytes
 unfolding symbols_of
 symbols_none items bytes text part rest after e some cut bad =
     let f : items ++ parts 44 text.now ≡ parts 44 bytes = subst (λ r. items ++ after_part 44 r ≡ parts 44 bytes) some e in

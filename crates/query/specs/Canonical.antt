@@ -1,21 +1,24 @@
 -- The canonical text of a query.
+-- To be believed.
 use Rattle.std.specs.Prelude.{ℕ, ◌+◌, ◌/◌, ◌%◌, ◌&&◌, if◌then◌else◌, List, [], ◌∷◌, ◌++◌, Option, Some, None, codes}
 use Rattle.std.specs.List.{join_with_byte}
 use Rattle.std.specs.Fmt.{decimal}
 use Rattle.query.specs.Meaning.{Meaning}
+use Rattle.query.specs.declared.words.TheConstants.{SPACE, COMMA}
+use Rattle.query.specs.declared.values.TheConstants.{COLON}
 use Rattle.query.specs.declared.query.What.{What}
 use Rattle.query.specs.declared.query.What.TheVariants.{Sales, Bars}
 use Rattle.probe.specs.declared.selection.Kinds.{Kinds}
 use Rattle.probe.specs.declared.selection.Span.{Span}
 
--- a number below 100 in two digits
+-- a number below 100 in two digits; 48 is the code of `0`
 abbrev pub pair_text : ℕ → List ℕ
 pair_text n = (48 + n / 10) ∷ (48 + n % 10) ∷ []
 
 -- seconds since midnight as `HH:MM:SS`
 unfoldable pub clock_text : ℕ → List ℕ
 clock_text time =
-    pair_text (time / 3600) ++ (58 ∷ pair_text (time / 60 % 60) ++ (58 ∷ pair_text (time % 60)))
+    pair_text (time / 3600) ++ (COLON ∷ pair_text (time / 60 % 60) ++ (COLON ∷ pair_text (time % 60)))
 
 -- what is listed; a width in seconds
 abbrev pub what_words : What → List (List ℕ)
@@ -25,7 +28,7 @@ what_words (Bars width) = codes "bars" ∷ decimal width ∷ codes "s" ∷ []
 -- the words of the condition on symbols, if there is one
 abbrev pub symbol_condition : Option (List (List ℕ)) → List (List (List ℕ))
 symbol_condition None = []
-symbol_condition (Some names) = (codes "symbol" ∷ codes "in" ∷ join_with_byte 44 names ∷ []) ∷ []
+symbol_condition (Some names) = (codes "symbol" ∷ codes "in" ∷ join_with_byte COMMA names ∷ []) ∷ []
 
 -- the words of the condition on times, if there is one
 abbrev pub time_condition : Option Span → List (List (List ℕ))
@@ -44,7 +47,7 @@ kind_letters kinds =
 abbrev pub kind_condition : Kinds → List (List (List ℕ))
 kind_condition kinds =
     if (kinds.e && kinds.c) && (kinds.p && kinds.q) then []
-    else (codes "kind" ∷ codes "in" ∷ join_with_byte 44 (kind_letters kinds) ∷ []) ∷ []
+    else (codes "kind" ∷ codes "in" ∷ join_with_byte COMMA (kind_letters kinds) ∷ []) ∷ []
 
 abbrev pub conditions_of : Meaning → List (List (List ℕ))
 conditions_of query =
@@ -60,4 +63,4 @@ canonical_words query = what_words query.what ++ linked (codes "where") (conditi
 
 -- the canonical words, with one space between each two
 unfoldable pub canonical : Meaning → List ℕ
-canonical query = join_with_byte 32 (canonical_words query)
+canonical query = join_with_byte SPACE (canonical_words query)

@@ -1,13 +1,15 @@
--- The first fault of a text: its words are read from left to right, and what must come next is
--- kept.
-use Rattle.std.specs.Prelude.{ℕ, ◌*◌, nat_lt, Bool, if◌then◌else◌, List, [], ◌∷◌, Option, Some, None, is_some, Result, Ok, Err, codes}
+-- The first fault of a text: its words are read one by one, and what must come next is kept.
+-- To be believed.
+use Rattle.std.specs.Prelude.{ℕ, ◌*◌, nat_lt, Bool, if◌then◌else◌, List, [], ◌∷◌, Option, Some, None, is_some}
+use Rattle.std.specs.Prelude.{Result, Ok, Err, codes}
 use Rattle.std.specs.Result.{result_err}
 use Rattle.query.specs.Words.{Word, reads_as}
-use Rattle.query.specs.Values.{number_of, unit_of, time_of, symbols_of, kinds_of}
+use Rattle.query.specs.Values.{count_of, unit_of, time_of, symbols_of, kinds_of}
 use Rattle.query.specs.Meaning.{Meaning, Said, only, meaning_of, is_width}
 use Rattle.query.specs.declared.query.What.TheVariants.{Sales, Bars}
 use Rattle.query.specs.declared.fault.QueryFault.{QueryFault}
-use Rattle.query.specs.declared.fault.QueryFault.TheVariants.{UnknownWord, BadNumber, BadTime, Repeated, Incomplete, EmptyRange}
+use Rattle.query.specs.declared.fault.QueryFault.TheVariants.{UnknownWord, BadNumber, BadTime, Repeated, Incomplete}
+use Rattle.query.specs.declared.fault.QueryFault.TheVariants.{EmptyRange}
 
 -- what must come next, after what was said
 pub data Next : Type 0 where
@@ -72,7 +74,7 @@ bounded said since until =
 -- one word is read
 unfoldable pub step : Next → Word → Step
 step query w = begins w
-step number w = valued (number_of w.bytes) (BadNumber w.at) (λ count. Ok (unit w.at count))
+step number w = valued (count_of w.bytes) (BadNumber w.at) (λ count. Ok (unit w.at count))
 step (unit at count) w =
     valued (unit_of w.bytes) (UnknownWord w.at) (λ seconds. wide at (count * seconds))
 step (filter said) w = expecting (codes "where") (condition said) w
@@ -108,5 +110,5 @@ read_from next [] = ended next
 read_from next (w ∷ ws) = continued (step next w) (λ then_next. read_from then_next ws)
 
 -- the first fault of the words of a text, if there is one
-abbrev pub first_fault : List Word → Option QueryFault
-first_fault words = result_err (read_from query words)
+abbrev pub first_query_fault : List Word → Option QueryFault
+first_query_fault words = result_err (read_from query words)

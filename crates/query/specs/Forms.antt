@@ -1,13 +1,16 @@
--- The forms of a query, taken off the words of a text: what a form says and the words after it, or
--- its first fault.
-use Rattle.std.specs.Prelude.{ℕ, ◌*◌, nat_lt, if◌then◌else◌, List, [], ◌∷◌, Option, Some, None, is_some, Result, Ok, Err, codes}
+-- The forms of a query, taken off the words of a text.
+-- Derived: it follows the parser; proofs/FormsWordByWord shows that it agrees with Faults.
+-- A form gives what it says and the words after it, or its first fault.
+use Rattle.std.specs.Prelude.{ℕ, ◌*◌, nat_lt, if◌then◌else◌, List, [], ◌∷◌, Option, Some, None, is_some, Result, Ok}
+use Rattle.std.specs.Prelude.{Err, codes}
 use Rattle.query.specs.Words.{Word, reads_as}
-use Rattle.query.specs.Values.{number_of, unit_of, time_of, symbols_of, kinds_of}
+use Rattle.query.specs.Values.{count_of, unit_of, time_of, symbols_of, kinds_of}
 use Rattle.query.specs.Meaning.{Said, is_width}
 use Rattle.query.specs.declared.query.What.{What}
 use Rattle.query.specs.declared.query.What.TheVariants.{Sales, Bars}
 use Rattle.query.specs.declared.fault.QueryFault.{QueryFault}
-use Rattle.query.specs.declared.fault.QueryFault.TheVariants.{UnknownWord, BadNumber, BadTime, Repeated, Incomplete, EmptyRange}
+use Rattle.query.specs.declared.fault.QueryFault.TheVariants.{UnknownWord, BadNumber, BadTime, Repeated, Incomplete}
+use Rattle.query.specs.declared.fault.QueryFault.TheVariants.{EmptyRange}
 use Rattle.probe.specs.declared.selection.Span.{Span}
 
 infixl 10 ◌>>=◌
@@ -33,15 +36,15 @@ timed [] = Err Incomplete
 timed (w ∷ ws) = value_or (time_of w.bytes) (BadTime w.at) ws
 
 -- a word that stands for a list
-abbrev pub listed : {A : Type 0}
+abbrev pub one_list : {A : Type 0}
     → (List ℕ → Option A) → List Word → Result (A × List Word) QueryFault
-listed values [] = Err Incomplete
-listed values (w ∷ ws) = value_or (values w.bytes) (UnknownWord w.at) ws
+one_list values [] = Err Incomplete
+one_list values (w ∷ ws) = value_or (values w.bytes) (UnknownWord w.at) ws
 
 -- `in` and a list
 unfoldable pub in_list : {A : Type 0}
     → (List ℕ → Option A) → List Word → Result (A × List Word) QueryFault
-in_list values ws = took (codes "in") ws >>= listed values
+in_list values ws = took (codes "in") ws >>= one_list values
 
 -- two times, the second past the first
 abbrev pub span_of : ℕ → ℕ → List Word → Result (Span × List Word) QueryFault
@@ -87,7 +90,7 @@ unit_after at count (w ∷ ws) =
 unfoldable pub width_of : List Word → Result (ℕ × List Word) QueryFault
 width_of [] = Err Incomplete
 width_of (w ∷ ws) =
-    value_or (number_of w.bytes) (BadNumber w.at) ws >>= (λ count. unit_after w.at count.0 count.1)
+    value_or (count_of w.bytes) (BadNumber w.at) ws >>= (λ count. unit_after w.at count.0 count.1)
 
 -- `sales`, or `bars` and a width
 unfoldable pub what_of : List Word → Result (What × List Word) QueryFault

@@ -1,8 +1,9 @@
--- The grammar of queries, a rule for each of its forms. A word is told with the number of bytes
--- that stand before it, which may be any.
+-- The grammar of queries, a rule for each of its forms.
+-- To be believed.
+-- Each word has the number of bytes before it, which may be any.
 use Rattle.std.specs.Prelude.{◌≡◌, ℕ, ◌*◌, nat_lt, true, List, [], ◌∷◌, Some, None, codes}
 use Rattle.query.specs.Words.{Word, word}
-use Rattle.query.specs.Values.{number_of, unit_of, time_of, symbols_of, kinds_of}
+use Rattle.query.specs.Values.{count_of, unit_of, time_of, symbols_of, kinds_of}
 use Rattle.query.specs.Meaning.{Meaning, Said, only, meaning_of, is_width}
 use Rattle.query.specs.declared.query.What.TheVariants.{Sales, Bars}
 use Rattle.probe.specs.declared.selection.Kinds.{Kinds}
@@ -55,7 +56,7 @@ pub data Means : List Word → Meaning → Type 0 where
       → Filter (only Sales) rest query → Means (word a (codes "sales") ∷ rest) query
   bars :
       {a b c : ℕ} {number unit : List ℕ} {count seconds : ℕ} {rest : List Word} {query : Meaning}
-      → number_of number ≡ Some count → unit_of unit ≡ Some seconds
+      → count_of number ≡ Some count → unit_of unit ≡ Some seconds
       → is_width (count * seconds) ≡ true
       → Filter (only (Bars (count * seconds))) rest query
       → Means (word a (codes "bars") ∷ word b number ∷ word c unit ∷ rest) query

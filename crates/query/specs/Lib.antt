@@ -1,5 +1,5 @@
 pub mod Words
-pub mod Parting
+pub mod TextLeft
 pub mod Values
 pub mod Meaning
 pub mod Forms
@@ -7,4 +7,4 @@ pub mod Grammar
 pub mod Faults
 pub mod Selected
 pub mod Canonical
-pub mod Writing
+pub mod CanonicalPieces

@@ -1,6 +1,9 @@
 -- What a query means.
-use Rattle.std.specs.Prelude.{◌≡◌, ℕ, nat_lt, nat_le, Bool, true, ◌&&◌, ◌||◌, List, length, Option, Some, None, unwrap_or}
+-- To be believed.
+use Rattle.std.specs.Prelude.{◌≡◌, ℕ, nat_lt, nat_le, Bool, true, ◌&&◌, ◌||◌, List, length, Option, Some, None}
+use Rattle.std.specs.Prelude.{unwrap_or}
 use Rattle.std.specs.List.{list_all}
+use Rattle.lists.specs.declared.limits.TheConstants.{SECONDS_OF_DAY}
 use Rattle.query.specs.Values.{is_symbol}
 use Rattle.query.specs.declared.query.What.{What}
 use Rattle.query.specs.declared.query.What.TheVariants.{Bars}
@@ -38,9 +41,9 @@ meaning_of said =
       kinds = unwrap_or said.kinds all_kinds;
     }
 
--- a width of 1 to 86400 seconds
+-- a width of one second to a day
 abbrev pub is_width : ℕ → Bool
-is_width width = nat_le 1 width && nat_le width 86400
+is_width width = nat_le 1 width && nat_le width SECONDS_OF_DAY
 
 -- one or more symbols
 abbrev pub are_symbols : List (List ℕ) → Bool
@@ -48,7 +51,7 @@ are_symbols symbols = nat_lt 0 (length symbols) && list_all is_symbol symbols
 
 -- the first second is before the second, and that isn't past the day's end
 abbrev pub is_span : Span → Bool
-is_span span = nat_lt span.since span.until && nat_le span.until 86400
+is_span span = nat_lt span.since span.until && nat_le span.until SECONDS_OF_DAY
 
 -- one or more kinds
 abbrev pub has_some : Kinds → Bool

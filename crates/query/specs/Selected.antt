@@ -1,4 +1,5 @@
--- The sales that a query selects.
+-- The locates that a query selects.
+-- To be believed.
 use Rattle.std.specs.Prelude.{◌≡◌, ℕ, ◌<◌, ◌^◌, Bool, true, List, Option, Some, None}
 use Rattle.std.specs.List.{list_any}
 use Rattle.std.specs.Str.{bytes_eq}

@@ -1,18 +1,23 @@
 -- Words that stand for a value.
-use Rattle.std.specs.Prelude.{ℕ, ◌+◌, ◌-◌, ◌*◌, ◌==◌, nat_lt, nat_le, Bool, ◌&&◌, ◌||◌, not, if◌then◌else◌, List, length, fold, Option, Some, None, option_and_then, slice_index, codes}
+-- To be believed.
+use Rattle.std.specs.Prelude.{ℕ, ◌+◌, ◌-◌, ◌*◌, ◌==◌, nat_lt, nat_le, Bool, ◌&&◌, ◌||◌, not, if◌then◌else◌, List}
+use Rattle.std.specs.Prelude.{length, fold, Option, Some, None, option_and_then, slice_index, codes}
 use Rattle.std.specs.Char.{is_ascii_digit}
 use Rattle.std.specs.List.{list_all, list_any}
 use Rattle.std.specs.Str.{bytes_eq}
 use Rattle.query.specs.Words.{parts}
+use Rattle.lists.specs.declared.limits.TheConstants.{SECONDS_OF_DAY}
 use Rattle.probe.specs.declared.selection.Kinds.{Kinds}
+use Rattle.query.specs.declared.words.TheConstants.{COMMA}
+use Rattle.query.specs.declared.values.TheConstants.{COLON}
 
--- the number that digits write
+-- the number that digits write; 48 is the code of `0`
 abbrev pub number_from : List ℕ → ℕ
 number_from digits = fold (λ value digit. 10 * value + (digit - 48)) 0 digits
 
 -- a word of one to five digits is their number
-unfoldable pub number_of : List ℕ → Option ℕ
-number_of bytes =
+unfoldable pub count_of : List ℕ → Option ℕ
+count_of bytes =
     if (nat_lt 0 (length bytes) && nat_le (length bytes) 5) && list_all is_ascii_digit bytes
     then Some (number_from bytes) else None
 
@@ -39,18 +44,18 @@ clock hours minutes seconds =
 -- a word `HH:MM:SS` is the seconds since midnight
 unfoldable pub clock_of : List ℕ → Option ℕ
 clock_of bytes =
-    if length bytes == 8 && (slice_index bytes 2 == 58 && slice_index bytes 5 == 58)
+    if length bytes == 8 && (slice_index bytes 2 == COLON && slice_index bytes 5 == COLON)
     then option_and_then (λ hours. option_and_then (λ minutes. option_and_then (λ seconds.
     clock hours minutes seconds) (pair_at 6 bytes)) (pair_at 3 bytes)) (pair_at 0 bytes)
     else None
 
 -- a time of the day, or its end
 unfoldable pub time_of : List ℕ → Option ℕ
-time_of bytes = if bytes_eq bytes (codes "24:00:00") then Some 86400 else clock_of bytes
+time_of bytes = if bytes_eq bytes (codes "24:00:00") then Some SECONDS_OF_DAY else clock_of bytes
 
--- a byte that is no space, no comma and no control
+-- a visible ASCII character, from `!` to `~`, but no comma
 abbrev pub is_symbol_byte : ℕ → Bool
-is_symbol_byte byte = (nat_le 33 byte && nat_le byte 126) && not (byte == 44)
+is_symbol_byte byte = (nat_le 33 byte && nat_le byte 126) && not (byte == COMMA)
 
 -- one to eight such bytes
 unfoldable pub is_symbol : List ℕ → Bool
@@ -59,7 +64,7 @@ is_symbol bytes =
 
 -- a word that is a list of symbols, with a comma between each two
 unfoldable pub symbols_of : List ℕ → Option (List (List ℕ))
-symbols_of bytes = let symbols = parts 44 bytes in
+symbols_of bytes = let symbols = parts COMMA bytes in
     if list_all is_symbol symbols then Some symbols else None
 
 -- a kind's letter
@@ -72,7 +77,7 @@ is_kind bytes =
 abbrev pub has_letter : ℕ → List ℕ → Bool
 has_letter letter bytes = list_any (λ byte. byte == letter) bytes
 
--- the kinds whose letters are in a word
+-- the kinds whose letters, E, C, P and Q, are in a word
 abbrev pub letters_of : List ℕ → Kinds
 letters_of bytes =
     record {
@@ -84,4 +89,4 @@ letters_of bytes =
 
 -- a word that is a list of kinds, with a comma between each two
 unfoldable pub kinds_of : List ℕ → Option Kinds
-kinds_of bytes = if list_all is_kind (parts 44 bytes) then Some (letters_of bytes) else None
+kinds_of bytes = if list_all is_kind (parts COMMA bytes) then Some (letters_of bytes) else None

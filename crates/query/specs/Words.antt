@@ -1,7 +1,9 @@
 -- The words of a text: what stands between its spaces.
-use Rattle.std.specs.Prelude.{ℕ, ◌+◌, ◌==◌, nat_lt, Bool, List, [], ◌∷◌, length, filter}
+-- To be believed.
+use Rattle.std.specs.Prelude.{ℕ, ◌+◌, ◌==◌, nat_lt, Bool, false, ◌&&◌, ◌||◌, List, [], ◌∷◌, length, filter, codes}
 use Rattle.std.specs.List.{slice_split}
 use Rattle.std.specs.Str.{bytes_eq}
+use Rattle.query.specs.declared.words.TheConstants.{SPACE}
 
 -- a word, and how many bytes of the text stand before it
 pub record Word : Type 0 where
@@ -20,15 +22,26 @@ reads_as text w = bytes_eq w.bytes text
 abbrev pub parts : ℕ → List ℕ → List (List ℕ)
 parts separator text = slice_split (λ byte. byte == separator) text
 
--- parts with one byte between each two, the first of them at byte `at`
-abbrev pub placed : ℕ → List (List ℕ) → List Word
-placed at [] = []
-placed at (part ∷ more) = word at part ∷ placed (at + (length part + 1)) more
+-- the words that parts are, with one byte between each two, the first of them at byte `at`
+abbrev pub words_of_parts : ℕ → List (List ℕ) → List Word
+words_of_parts at [] = []
+words_of_parts at (part ∷ more) = word at part ∷ words_of_parts (at + (length part + 1)) more
 
 -- the parts between spaces that aren't empty, of a text that begins at byte `at`
 unfoldable pub words_from : ℕ → List ℕ → List Word
-words_from at text = filter (λ w. nat_lt 0 (length w.bytes)) (placed at (parts 32 text))
+words_from at text = filter (λ w. nat_lt 0 (length w.bytes)) (words_of_parts at (parts SPACE text))
 
 -- the words of a text
 abbrev pub words_of : List ℕ → List Word
 words_of text = words_from 0 text
+
+-- `in` and one more word come first
+abbrev pub begins_list : List Word → Bool
+begins_list [] = false
+begins_list (w ∷ []) = false
+begins_list (w ∷ list ∷ ws) = reads_as (codes "in") w
+
+-- somewhere among the words `symbol`, `in` and one more word follow one another
+abbrev pub lists_symbols : List Word → Bool
+lists_symbols [] = false
+lists_symbols (w ∷ ws) = (reads_as (codes "symbol") w && begins_list ws) || lists_symbols ws

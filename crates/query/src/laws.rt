@@ -1,7 +1,7 @@
 //! Laws of the grammar.
 ghost use Rattle.std.specs.Prelude.{◌≡◌, List, None};
 ghost use Rattle.query.specs.Canonical.{canonical};
-ghost use Rattle.query.specs.Faults.{first_fault};
+ghost use Rattle.query.specs.Faults.{first_query_fault};
 ghost use Rattle.query.specs.Grammar.{Means};
 ghost use Rattle.query.specs.Meaning.{CanBeSpelled, Meaning};
 ghost use Rattle.query.specs.Words.{Word, words_of};
@@ -15,8 +15,8 @@ pub fn one_meaning()
 /// The words of a text have a meaning, or a first fault, and never both.
 pub fn meaning_or_fault()
     ensures never_both { (words : List Word) (meaning : Meaning) →
-        Means words meaning → first_fault words ≡ None }
-    ensures one_of_them { (words : List Word) → first_fault words ≡ None →
+        Means words meaning → first_query_fault words ≡ None }
+    ensures one_of_them { (words : List Word) → first_query_fault words ≡ None →
         (meaning : Meaning) × Means words meaning }
 {}
 

@@ -19,6 +19,7 @@ mod writer;
 
 pub use fault::QueryFault;
 pub use laws::{canonical_text, meaning_or_fault, one_meaning};
+pub use lists::OutOfMemory;
 pub use parser::parse;
 pub use probe::{Kinds, LocateList, Locates, Selection, Span};
 pub use query::{Query, What};
@@ -26,8 +27,3 @@ pub use select::selection;
 pub use symbols::{Symbol, Symbols};
 pub use time_and_sales::Names;
 pub use writer::write;
-
-#[cfg(test)]
-mod tests;
-
-pub use lists::OutOfMemory;

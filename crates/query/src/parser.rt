@@ -1,26 +1,30 @@
 //! Reads a text as a query.
 ghost use Rattle.std.specs.Prelude.{◌≡◌, ◌≢◌, IfOk, IfErr, MatchResult, Ok, Err, Some, true};
-ghost use Rattle.query.specs.Faults.{first_fault, query, read_from};
+ghost use Rattle.query.specs.Faults.{first_query_fault, query, read_from};
 ghost use Rattle.query.specs.Forms.{what_of, width_of};
 ghost use Rattle.query.specs.Grammar.{Means};
 ghost use Rattle.query.specs.Meaning.{CanBeSpelled, HasWidth, Meaning, is_width, meaning_of};
-ghost use Rattle.query.specs.Words.{words_of};
+ghost use Rattle.query.specs.Words.{lists_symbols, words_of};
 
 use crate::fault::QueryFault;
 use crate::query::{Query, What};
 use crate::reading::Reading;
-use crate::values::{number_of, unit_of};
+use crate::values::{count_of, unit_of};
 use crate::words::Words;
+use lists::limits::SECONDS_OF_DAY;
 use std::alloc::Allocator;
 
-/// Reads the query that a text spells, in time linear in its length. Of several faults the first
-/// from the left is told. Memory is taken for the list of symbols alone.
-#[tactic(auto, using(crate::proofs::Readings::told))]
+/// Reads the query that a text spells, in time linear in its length. Of several faults it reports
+/// the first from the left. It takes memory for the list of symbols alone, so it runs out of memory
+/// only if the text has one.
+#[tactic(auto, using(crate::proofs::MeaningOrFault::told))]
 pub fn parse<A: Allocator + Clone>(alloc: A, text: &str) -> Result<Query<A>, QueryFault>
     ensures meaning { IfOk result (λ query. Means (words_of text.now) query) }
     ensures sound { IfOk result CanBeSpelled }
     ensures fault { IfErr result (λ fault. fault ≢ QueryFault.OutOfMemory →
-        first_fault (words_of text.now) ≡ Some fault) }
+        first_query_fault (words_of text.now) ≡ Some fault) }
+    ensures memory { IfErr result (λ fault. fault ≡ QueryFault.OutOfMemory →
+        lists_symbols (words_of text.now) ≡ true) }
     ensures exactly { (meaning : Meaning) → Means (words_of text.now) meaning →
         MatchResult result (λ query. query ≡ meaning) (λ fault. fault ≡ QueryFault.OutOfMemory) }
 {
@@ -28,11 +32,13 @@ pub fn parse<A: Allocator + Clone>(alloc: A, text: &str) -> Result<Query<A>, Que
     Ok(reading.into_query())
 }
 
-#[tactic(auto, using(crate::proofs::Takings::whole))]
+#[tactic(auto, using(crate::proofs::FormsWordByWord::whole, crate::proofs::MemoryForSymbols::memory))]
 fn read_query<A: Allocator + Clone>(alloc: A, text: &[u8]) -> Result<Reading<A>, QueryFault>
     ensures ok { IfOk result (λ said. read_from query (words_of text.now) ≡ Ok (meaning_of said)) }
     ensures err { IfErr result (λ fault. fault ≢ QueryFault.OutOfMemory →
         read_from query (words_of text.now) ≡ Err fault) }
+    ensures memory { IfErr result (λ fault. fault ≡ QueryFault.OutOfMemory →
+        lists_symbols (words_of text.now) ≡ true) }
 {
     let mut words = Words::of(text);
     let what = read_what(&mut words)?;
@@ -66,11 +72,11 @@ fn read_width(words: &mut Words<'_>) -> Result<u32, QueryFault>
     ensures err { IfErr result (λ fault. width_of words.old ≡ Err fault) }
 {
     let number = words.required()?;
-    let count = number_of(number.bytes).ok_or(QueryFault::BadNumber { at: number.at })?;
+    let count = count_of(number.bytes).ok_or(QueryFault::BadNumber { at: number.at })?;
     let unit = words.required()?;
     let seconds = unit_of(unit.bytes).ok_or(QueryFault::UnknownWord { at: unit.at })?;
     let width = count * seconds;
-    if (1..=86_400).contains(&width) {
+    if (1..=SECONDS_OF_DAY).contains(&width) {
         Ok(width)
     } else {
         Err(QueryFault::BadNumber { at: number.at })

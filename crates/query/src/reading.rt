@@ -13,12 +13,14 @@ ghost use Rattle.query.specs.Meaning.{
   only,
 };
 ghost use Rattle.query.specs.Values.{kinds_of, symbols_of};
+ghost use Rattle.query.specs.Words.{begins_list, lists_symbols};
 
 use crate::fault::QueryFault;
 use crate::query::{Query, What};
 use crate::symbols::Symbols;
 use crate::values::{kinds_of, time_of};
 use crate::words::Words;
+use lists::limits::SECONDS_OF_DAY;
 use probe::{Kinds, Span};
 use std::alloc::Allocator;
 use std::marker::Model;
@@ -87,12 +89,14 @@ impl<A: Allocator + Clone> Reading<A> {
     }
 
     /// Reads to the end of the text: nothing, or `where` and conditions.
-    #[tactic(auto, using(crate::proofs::Takings::filtering))]
+    #[tactic(auto, using(crate::proofs::FormsWordByWord::filtering, crate::proofs::MemoryForSymbols::memory))]
     pub(crate) fn read_filter(&mut self, alloc: &A, words: &mut Words<'_>) -> Result<(), QueryFault>
         ensures ok { OnOk result (read_from (filter self.old) words.old
             ≡ Ok (meaning_of self.new)) }
         ensures err { IfErr result (λ fault. fault ≢ QueryFault.OutOfMemory →
             read_from (filter self.old) words.old ≡ Err fault) }
+        ensures memory { IfErr result (λ fault. fault ≡ QueryFault.OutOfMemory →
+            lists_symbols words.old ≡ true) }
     {
         let Some(word) = words.next() else {
             return Ok(());
@@ -102,12 +106,14 @@ impl<A: Allocator + Clone> Reading<A> {
     }
 
     /// Reads the conditions after `where`, to the end of the text.
-    #[tactic(auto, using(crate::proofs::Takings::reading))]
+    #[tactic(auto, using(crate::proofs::FormsWordByWord::reading, crate::proofs::MemoryForSymbols::memory))]
     fn read_conditions(&mut self, alloc: &A, words: &mut Words<'_>) -> Result<(), QueryFault>
         ensures ok { OnOk result (read_from (condition self.old) words.old
             ≡ Ok (meaning_of self.new)) }
         ensures err { IfErr result (λ fault. fault ≢ QueryFault.OutOfMemory →
             read_from (condition self.old) words.old ≡ Err fault) }
+        ensures memory { IfErr result (λ fault. fault ≡ QueryFault.OutOfMemory →
+            lists_symbols words.old ≡ true) }
     {
         self.read_condition(alloc, words)?;
         while let Some(word) = words.next() {
@@ -118,11 +124,13 @@ impl<A: Allocator + Clone> Reading<A> {
     }
 
     /// Reads one condition.
-    #[tactic(auto, unfolding(crate::specs::Forms::condition_of))]
+    #[tactic(auto, using(crate::proofs::MemoryForSymbols::memory), unfolding(crate::specs::Forms::condition_of))]
     fn read_condition(&mut self, alloc: &A, words: &mut Words<'_>) -> Result<(), QueryFault>
         ensures ok { OnOk result (condition_of self.old words.old ≡ Ok (self.new, words.new)) }
         ensures err { IfErr result (λ fault. fault ≢ QueryFault.OutOfMemory →
             condition_of self.old words.old ≡ Err fault) }
+        ensures memory { IfErr result (λ fault. fault ≡ QueryFault.OutOfMemory →
+            lists_symbols words.old ≡ true) }
         ensures shorter { OnOk result (length words.new < length words.old) }
     {
         let word = words.required()?;
@@ -159,6 +167,8 @@ fn read_symbols<A: Allocator + Clone>(
     ensures sound { IfOk result (λ names. are_symbols names ≡ true) }
     ensures err { IfErr result (λ fault. fault ≢ QueryFault.OutOfMemory →
         in_list symbols_of words.old ≡ Err fault) }
+    ensures memory { IfErr result (λ fault. fault ≡ QueryFault.OutOfMemory →
+        begins_list words.old ≡ true) }
     ensures shorter { OnOk result (length words.new < length words.old) }
 {
     words.expect(b"in")?;
@@ -170,7 +180,7 @@ fn read_symbols<A: Allocator + Clone>(
 
 fn read_time(words: &mut Words<'_>) -> Result<u32, QueryFault>
     ensures ok { IfOk result (λ time. timed words.old ≡ Ok (time, words.new)) }
-    ensures small { IfOk result (λ time. time ≤ 86400) }
+    ensures small { IfOk result (λ time. time ≤ SECONDS_OF_DAY) }
     ensures err { IfErr result (λ fault. timed words.old ≡ Err fault) }
 {
     let word = words.required()?;

@@ -1,5 +1,6 @@
 //! Which sales a query asks for, once the names of the locates are known.
 ghost use Rattle.std.specs.Prelude.{◌≡◌, ◌<◌, ◌^◌, IfOk, None, Some, ℕ};
+ghost use Rattle.std.specs.Result.{IsOk};
 ghost use Rattle.probe.specs.declared.selection.Locates.TheVariants.{All};
 ghost use Rattle.query.specs.Selected.{AreLocatesOf, has_name};
 ghost use Rattle.lists.specs.Among.{is_among};
@@ -14,7 +15,8 @@ use std::alloc::Allocator;
 use time_and_sales::Names;
 
 /// The selection of a query: the locates, of 0 to 65,535, whose names the query lists, its span
-/// and its kinds. Where it lists no symbol every locate is selected, and no memory is taken.
+/// and its kinds. If the query lists no symbol, every locate is selected and no memory is taken, so
+/// the call succeeds.
 pub fn selection<A: Allocator + Clone, B: Allocator, C: Allocator + Clone>(
     alloc: A,
     query: &Query<B>,
@@ -23,6 +25,7 @@ pub fn selection<A: Allocator + Clone, B: Allocator, C: Allocator + Clone>(
     ensures locates { IfOk result (λ selection.
         AreLocatesOf query.now.symbols names.now selection.locates) }
     ensures every { IfOk result (λ selection. query.now.symbols ≡ None → selection.locates ≡ All) }
+    ensures memory { query.now.symbols ≡ None → IsOk result }
     ensures span { IfOk result (λ selection. selection.span ≡ query.now.span) }
     ensures kinds { IfOk result (λ selection. selection.kinds ≡ query.now.kinds) }
 {
@@ -40,7 +43,7 @@ pub fn selection<A: Allocator + Clone, B: Allocator, C: Allocator + Clone>(
 // How many locates there are.
 const LOCATES: u32 = 65_536;
 
-#[tactic(auto, using(crate::proofs::Listings::listing))]
+#[tactic(auto, using(crate::proofs::ListedLocates::listing))]
 fn listed<A: Allocator + Clone, B: Allocator, C: Allocator + Clone>(
     alloc: A,
     symbols: &Symbols<B>,

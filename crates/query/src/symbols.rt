@@ -5,7 +5,7 @@ ghost use Rattle.query.specs.Meaning.{are_symbols};
 ghost use Rattle.query.specs.Values.{is_symbol, is_symbol_byte, symbols_of};
 
 use crate::OutOfMemory;
-use crate::words::cut;
+use crate::words::{COMMA, cut};
 use arrayvec::ArrayVec;
 use std::alloc::{Allocator, Global};
 use std::marker::Model;
@@ -46,12 +46,16 @@ impl<A: Allocator> Model for Symbols<A> {
     ghost invariant = { λ symbols. are_symbols symbols.items.items ≡ true };
 }
 
+fn is_symbol_byte(byte: u8) -> bool
+    ensures { result ≡ is_symbol_byte byte }
+{
+    matches!(byte, b'!'..=b'~') && byte != COMMA
+}
+
 fn all_symbol_bytes(bytes: &[u8]) -> bool
     ensures { result ≡ list_all is_symbol_byte bytes.now }
 {
-    bytes
-        .iter()
-        .all(|byte| matches!(*byte, b'!'..=b'~') && *byte != b',')
+    bytes.iter().all(|byte| is_symbol_byte(*byte))
 }
 
 impl Symbol {
@@ -84,7 +88,7 @@ impl<A: Allocator> Symbols<A> {
         let mut items = Vec::new(alloc);
         let mut rest = Some(bytes);
         while let Some(text) = rest {
-            let (part, after) = cut(text, b',');
+            let (part, after) = cut(text, COMMA);
             let Some(symbol) = Symbol::of(part) else {
                 return Ok(None);
             };

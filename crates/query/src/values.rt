@@ -8,17 +8,19 @@ ghost use Rattle.query.specs.Values.{
   is_symbol_byte,
   kinds_of,
   number_from,
-  number_of,
+  count_of,
   pair_at,
   time_of,
   unit_of,
 };
 ghost use Rattle.query.specs.Words.{parts};
 
-use crate::words::cut;
+use crate::words::{COMMA, cut};
+use lists::limits::SECONDS_OF_DAY;
 use probe::Kinds;
 
-const DAY: u32 = 86_400;
+/// What parts the hours, minutes and seconds of a time.
+pub(crate) const COLON: u8 = b':';
 
 fn all_digits(bytes: &[u8]) -> bool
     ensures { result ≡ list_all is_ascii_digit bytes.now }
@@ -40,9 +42,9 @@ fn number_from(digits: &[u8]) -> u32
 }
 
 /// The number that a word of one to five digits writes.
-#[tactic(auto, unfolding(crate::specs::Values::number_of))]
-pub(crate) fn number_of(bytes: &[u8]) -> Option<u32>
-    ensures value { result ≡ number_of bytes.now }
+#[tactic(auto, unfolding(crate::specs::Values::count_of))]
+pub(crate) fn count_of(bytes: &[u8]) -> Option<u32>
+    ensures value { result ≡ count_of bytes.now }
     ensures small { IfSome result (λ number. number < 100000) }
 {
     if (1..=5).contains(&bytes.len()) && all_digits(bytes) {
@@ -83,9 +85,9 @@ fn pair_at(bytes: &[u8], place: usize) -> Option<u32>
 #[tactic(auto, unfolding(crate::specs::Values::clock_of))]
 fn clock_of(bytes: &[u8]) -> Option<u32>
     ensures value { result ≡ clock_of bytes.now }
-    ensures small { IfSome result (λ seconds. seconds ≤ 86400) }
+    ensures small { IfSome result (λ seconds. seconds ≤ SECONDS_OF_DAY) }
 {
-    if bytes.len() != 8 || bytes[2] != b':' || bytes[5] != b':' {
+    if bytes.len() != 8 || bytes[2] != COLON || bytes[5] != COLON {
         return None;
     }
     let hours = pair_at(bytes, 0)?;
@@ -102,10 +104,10 @@ fn clock_of(bytes: &[u8]) -> Option<u32>
 #[tactic(auto, unfolding(crate::specs::Values::time_of))]
 pub(crate) fn time_of(bytes: &[u8]) -> Option<u32>
     ensures value { result ≡ time_of bytes.now }
-    ensures small { IfSome result (λ seconds. seconds ≤ 86400) }
+    ensures small { IfSome result (λ seconds. seconds ≤ SECONDS_OF_DAY) }
 {
     if bytes == b"24:00:00".as_slice() {
-        Some(DAY)
+        Some(SECONDS_OF_DAY)
     } else {
         clock_of(bytes)
     }
@@ -118,11 +120,11 @@ fn is_kind(part: &[u8]) -> bool
 }
 
 fn are_kinds(bytes: &[u8]) -> bool
-    ensures { result ≡ list_all is_kind (parts 44 bytes.now) }
+    ensures { result ≡ list_all is_kind (parts COMMA bytes.now) }
 {
     let mut rest = Some(bytes);
     while let Some(text) = rest {
-        let (part, after) = cut(text, b',');
+        let (part, after) = cut(text, COMMA);
         if !is_kind(part) {
             return false;
         }

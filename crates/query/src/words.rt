@@ -1,11 +1,18 @@
 //! The words of a text, one after the other.
-ghost use Rattle.std.specs.Prelude.{◌≡◌, ◌+◌, ◌<◌, ◌^◌, ◌∷◌, ◌++◌, [], length, MatchOption, IfOk, IfErr, IfSome, OnOk, position, ◌==◌, Ok, Err, true, false};
+ghost use Rattle.std.specs.Prelude.{◌≡◌, ◌+◌, ◌<◌, ◌^◌, ◌∷◌, ◌++◌, [], length, MatchOption, IfOk, IfErr, IfSome};
+ghost use Rattle.std.specs.Prelude.{OnOk, position, ◌==◌, Ok, Err, true, false};
 ghost use Rattle.query.specs.Words.{Word, parts, reads_as, word, words_from};
 ghost use Rattle.query.specs.Forms.{took};
-ghost use Rattle.query.specs.Parting.{after_part};
+ghost use Rattle.query.specs.TextLeft.{after_part};
 
 use crate::fault::QueryFault;
 use std::marker::Model;
+
+/// What parts the words of a text.
+pub(crate) const SPACE: u8 = b' ';
+
+/// What parts the items of a list.
+pub(crate) const COMMA: u8 = b',';
 
 /// A word, and the number of bytes that stand before it in the text.
 #[derive(Clone, Copy, Debug)]
@@ -27,7 +34,7 @@ impl<'a> Model for Words<'a> {
 
     ghost Value = { List Word };
 
-    ghost use Rattle.query.specs.Parting.{words_left, IsInText};
+    ghost use Rattle.query.specs.TextLeft.{words_left, IsInText};
 
     ghost view = { λ words. words_left words.at words.rest };
 
@@ -70,7 +77,7 @@ impl<'a> Words<'a> {
     {
         while let Some(text) = self.rest {
             let at = self.at;
-            let (part, rest) = cut(text, b' ');
+            let (part, rest) = cut(text, SPACE);
             self.at += part.len() + 1;
             self.rest = rest;
             if !part.is_empty() {

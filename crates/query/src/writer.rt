@@ -1,5 +1,6 @@
 //! Writes a query as its canonical text.
-ghost use Rattle.std.specs.Prelude.{◌≡◌, ◌∷◌, ◌++◌, [], ◌<◌, ◌≤◌, length, List, take, ◌&&◌, not, OnOk, OnErr, IfOk, true, Some};
+ghost use Rattle.std.specs.Prelude.{◌≡◌, ◌∷◌, ◌++◌, [], ◌<◌, ◌≤◌, length, List, take, ◌&&◌, not, OnOk, OnErr, IfOk};
+ghost use Rattle.std.specs.Prelude.{true, Some};
 ghost use Rattle.std.specs.Fmt.{decimal};
 ghost use Rattle.std.specs.List.{join_with_byte};
 ghost use Rattle.query.specs.Canonical.{
@@ -13,12 +14,15 @@ ghost use Rattle.query.specs.Canonical.{
   time_condition,
   what_words,
 };
-ghost use Rattle.query.specs.Writing.{letter_text, next_link, spaced};
+ghost use Rattle.query.specs.CanonicalPieces.{letter_text, next_link, spaced};
 
 use crate::OutOfMemory;
 use crate::query::{Query, What};
 use crate::symbols::{Symbol, Symbols};
+use crate::values::COLON;
+use crate::words::{COMMA, SPACE};
 use itoa::Buffer;
+use lists::limits::SECONDS_OF_DAY;
 use probe::{Kinds, Span};
 use std::alloc::Allocator;
 
@@ -35,7 +39,7 @@ pub fn write<A: Allocator + Clone, B: Allocator>(
     out.extend_from_slice(&text)
 }
 
-#[tactic(auto, using(crate::proofs::Writings::text), unfolding(crate::specs::Canonical::canonical))]
+#[tactic(auto, using(crate::proofs::WriterIsCanonical::text), unfolding(crate::specs::Canonical::canonical))]
 fn append_query<A: Allocator, B: Allocator>(
     text: &mut Vec<u8, A>,
     query: &Query<B>,
@@ -50,14 +54,14 @@ fn append_query<A: Allocator, B: Allocator>(
 }
 
 fn append_word<A: Allocator>(text: &mut Vec<u8, A>, word: &[u8]) -> Result<(), OutOfMemory>
-    ensures { OnOk result (text.new.items ≡ text.old.items ++ (32 ∷ word.now)) }
+    ensures { OnOk result (text.new.items ≡ text.old.items ++ (SPACE ∷ word.now)) }
 {
-    text.push(b' ')?;
+    text.push(SPACE)?;
     text.extend_from_slice(word)
 }
 
 fn append_what<A: Allocator>(text: &mut Vec<u8, A>, what: What) -> Result<(), OutOfMemory>
-    ensures { OnOk result (text.new.items ≡ text.old.items ++ join_with_byte 32 (what_words what)) }
+    ensures { OnOk result (text.new.items ≡ text.old.items ++ join_with_byte SPACE (what_words what)) }
 {
     match what {
         What::Sales => text.extend_from_slice(b"sales"),
@@ -69,13 +73,13 @@ fn append_what<A: Allocator>(text: &mut Vec<u8, A>, what: What) -> Result<(), Ou
     }
 }
 
-#[tactic(auto, using(crate::proofs::Writings::joined_first, crate::proofs::Writings::joined_next))]
+#[tactic(auto, using(crate::proofs::WriterIsCanonical::joined_first, crate::proofs::WriterIsCanonical::joined_next))]
 fn append_joined<A: Allocator>(text: &mut Vec<u8, A>, symbols: &[Symbol]) -> Result<(), OutOfMemory>
-    ensures { OnOk result (text.new.items ≡ text.old.items ++ join_with_byte 44 symbols.now) }
+    ensures { OnOk result (text.new.items ≡ text.old.items ++ join_with_byte COMMA symbols.now) }
 {
     for (place, symbol) in symbols.iter().enumerate() {
         if place > 0 {
-            text.push(b',')?;
+            text.push(COMMA)?;
         }
         text.extend_from_slice(symbol.as_slice())?;
     }
@@ -84,7 +88,7 @@ fn append_joined<A: Allocator>(text: &mut Vec<u8, A>, symbols: &[Symbol]) -> Res
 
 /// Appends the condition on symbols, if there is one, and answers the word before the next
 /// condition.
-#[tactic(auto, using(crate::proofs::Writings::symbols_text))]
+#[tactic(auto, using(crate::proofs::WriterIsCanonical::symbols_text))]
 fn append_symbols<'a, A: Allocator, B: Allocator>(
     text: &mut Vec<u8, A>,
     link: &'a [u8],
@@ -101,7 +105,7 @@ fn append_symbols<'a, A: Allocator, B: Allocator>(
     append_word(text, link)?;
     append_word(text, b"symbol")?;
     append_word(text, b"in")?;
-    text.push(b' ')?;
+    text.push(SPACE)?;
     append_joined(text, symbols.items())?;
     Ok(b"and")
 }
@@ -115,25 +119,25 @@ fn pair_text(number: u32) -> [u8; 2]
 
 #[tactic(auto, unfolding(crate::specs::Canonical::clock_text))]
 fn append_clock<A: Allocator>(text: &mut Vec<u8, A>, time: u32) -> Result<(), OutOfMemory>
-    requires { time ≤ 86400 }
-    ensures { OnOk result (text.new.items ≡ text.old.items ++ (32 ∷ clock_text time)) }
+    requires { time ≤ SECONDS_OF_DAY }
+    ensures { OnOk result (text.new.items ≡ text.old.items ++ (SPACE ∷ clock_text time)) }
 {
-    text.push(b' ')?;
+    text.push(SPACE)?;
     text.extend_from_slice(&pair_text(time / 3600))?;
-    text.push(b':')?;
+    text.push(COLON)?;
     text.extend_from_slice(&pair_text(time / 60 % 60))?;
-    text.push(b':')?;
+    text.push(COLON)?;
     text.extend_from_slice(&pair_text(time % 60))
 }
 
 /// The same for the condition on times.
-#[tactic(auto, using(crate::proofs::Writings::span_text))]
+#[tactic(auto, using(crate::proofs::WriterIsCanonical::span_text))]
 fn append_span<'a, A: Allocator>(
     text: &mut Vec<u8, A>,
     link: &'a [u8],
     span: Option<Span>,
 ) -> Result<&'a [u8], OutOfMemory>
-    requires { (times : Span) → span ≡ Some times → (times.since ≤ 86400) × (times.until ≤ 86400) }
+    requires { (times : Span) → span ≡ Some times → (times.since ≤ SECONDS_OF_DAY) × (times.until ≤ SECONDS_OF_DAY) }
     ensures text { OnOk result (text.new.items
         ≡ text.old.items ++ spaced (linked link.now (time_condition span))) }
     ensures link { IfOk result (λ next. next.now ≡ next_link link.now (time_condition span)) }
@@ -165,7 +169,7 @@ fn append_letter<A: Allocator>(
         return Ok(is_first);
     }
     if !is_first {
-        text.push(b',')?;
+        text.push(COMMA)?;
     }
     text.push(letter)?;
     Ok(false)
@@ -173,7 +177,7 @@ fn append_letter<A: Allocator>(
 
 fn append_letters<A: Allocator>(text: &mut Vec<u8, A>, kinds: Kinds) -> Result<(), OutOfMemory>
     ensures { OnOk result (text.new.items
-        ≡ text.old.items ++ join_with_byte 44 (kind_letters kinds)) }
+        ≡ text.old.items ++ join_with_byte COMMA (kind_letters kinds)) }
 {
     let is_first = append_letter(text, true, kinds.e, b'E')?;
     let is_first = append_letter(text, is_first, kinds.c, b'C')?;
@@ -197,6 +201,6 @@ fn append_kinds<A: Allocator>(
     append_word(text, link)?;
     append_word(text, b"kind")?;
     append_word(text, b"in")?;
-    text.push(b' ')?;
+    text.push(SPACE)?;
     append_letters(text, kinds)
 }

@@ -1,4 +1,4 @@
-use Rattle.query.proofs.Spellings.{canonical_means}
+use Rattle.query.proofs.CanonicalHasMeaning.{canonical_means}
 use Rattle.query.proofs.laws.canonical_text.Goals as goal
 
 pub returns : goal.returns

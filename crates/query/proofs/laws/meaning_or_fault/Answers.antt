@@ -1,4 +1,4 @@
-use Rattle.query.proofs.Readings.{no_fault, some_meaning}
+use Rattle.query.proofs.MeaningOrFault.{no_fault, some_meaning}
 use Rattle.query.proofs.laws.meaning_or_fault.Goals as goal
 
 pub returns-clause-never_both : goal.returns-clause-never_both

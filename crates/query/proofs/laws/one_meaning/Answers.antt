@@ -1,4 +1,4 @@
-use Rattle.query.proofs.Readings.{one_meaning}
+use Rattle.query.proofs.MeaningOrFault.{one_meaning}
 use Rattle.query.proofs.laws.one_meaning.Goals as goal
 
 pub returns : goal.returns

@@ -1,5 +1,5 @@
 use Rattle.std.proofs.Common.{sym}
-use Rattle.query.proofs.Partings.{parts_at, parts_none}
+use Rattle.query.proofs.CutAtSeparator.{parts_at, parts_none}
 use Rattle.query.proofs.words.cut.Goals as goal
 
 pub returns-in-Some-clause-parts : goal.returns-in-Some-clause-parts

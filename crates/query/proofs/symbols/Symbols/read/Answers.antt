@@ -3,7 +3,8 @@ use Rattle.query.proofs.symbols.Symbols.read.Goals as goal
 
 pub returns-in_default-of : goal.returns-in_default-of
 returns-in_default-of g c =
-    symbols_none c.loop-rest.items.items c.args.bytes.now c.in-Some.text c.cut.result.0.now c.loop-rest.rest c.cut.result.1 c.loop-rest.invariant.read c.in-Some.is c.cut.ensures.parts c.in_default-of.ensures
+    symbols_none c.loop-rest.items.items c.args.bytes.now c.in-Some.text c.cut.result.0.now c.loop-rest.rest c.cut.result.1 c.loop-rest.invariant.read
+    c.in-Some.is c.cut.ensures.parts c.in_default-of.ensures
 
 pub invariant_of-result : goal.invariant_of-result
 invariant_of-result g c =

@@ -2,8 +2,8 @@ use Rattle.std.proofs.Common.{◌≡◌, ◌++◌, true}
 use Rattle.std.specs.List.{list_all}
 use Rattle.query.specs.Values.{is_symbol}
 use Rattle.query.specs.Words.{parts}
-use Rattle.query.specs.Parting.{after_part}
-use Rattle.query.proofs.Partings.{left}
+use Rattle.query.specs.TextLeft.{after_part}
+use Rattle.query.proofs.CutAtSeparator.{left}
 use Rattle.query.proofs.symbols.Symbols.read.Given as goal
 
 abbrev pub invariant-loop-rest : goal.invariant-loop-rest

@@ -1,4 +1,5 @@
--- A text whose parts are taken off one after the other.
+-- What is left of a text whose parts are taken off one after the other.
+-- Derived: it follows the code, and only private functions cite it.
 use Rattle.std.specs.Prelude.{ℕ, ◌+◌, ◌<◌, ◌^◌, List, [], length, Option, Some, None}
 use Rattle.std.specs.Borrow.{Bor}
 use Rattle.query.specs.Words.{Word, parts, words_from}

@@ -1,5 +1,6 @@
 -- Locates that are listed one by one.
-use Rattle.std.proofs.Common.{◌≡◌, ℕ, ◌+◌, ◌<◌, ◌≤◌, Bool, true, false, cond, ◌||◌, List, [], ◌∷◌, ◌++◌, refl, sym, ap, ◌∙◌, subst, arith, nat_lt, eqb, IsPermutation}
+use Rattle.std.proofs.Common.{◌≡◌, ℕ, ◌+◌, ◌<◌, ◌≤◌, Bool, true, false, cond, ◌||◌, List, [], ◌∷◌, ◌++◌, refl, sym, ap, ◌∙◌, subst, arith, nat_lt, eqb}
+use Rattle.std.proofs.Common.{IsPermutation}
 use Rattle.std.proofs.lemmas.Bool.{lt-ltb, le-ltb, ltb-true, ltb-false, eqb-true, eqb-false}
 use Rattle.std.proofs.lemmas.List.Sorted.{list_any-IsPermutation}
 use Rattle.std.specs.List.{list_any}
@@ -68,6 +69,8 @@ all_listed rows i test before k below = before k ∙ ap (λ b. cond b (test k) f
 pub ruleset listing = (listed_more, listed_less, all_listed)
 
 -- a name is among the symbols where it is among them in another order
-pub same_symbols : (symbols sorted : List (List ℕ)) (shown name : List ℕ) (b : Bool) → IsPermutation symbols sorted → shown ≡ name → b ≡ list_any (λ symbol. bytes_eq symbol shown) sorted → b ≡ list_any (λ symbol. bytes_eq symbol name) symbols
+pub same_symbols : (symbols sorted : List (List ℕ)) (shown name : List ℕ) (b : Bool) → IsPermutation symbols sorted → shown ≡ name
+    → b ≡ list_any (λ symbol. bytes_eq symbol shown) sorted → b ≡ list_any (λ symbol. bytes_eq symbol name) symbols
 same_symbols symbols sorted shown name b moved same found =
-    subst (λ n. b ≡ list_any (λ symbol. bytes_eq symbol n) symbols) same (found ∙ sym (list_any-IsPermutation (λ symbol. bytes_eq symbol shown) symbols sorted moved))
+    subst (λ n. b ≡ list_any (λ symbol. bytes_eq symbol n) symbols) same
+    (found ∙ sym (list_any-IsPermutation (λ symbol. bytes_eq symbol shown) symbols sorted moved))

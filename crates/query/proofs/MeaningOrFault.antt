@@ -4,11 +4,11 @@ use Rattle.std.specs.Prelude.{is_some, Result, Ok, Err, codes}
 use Rattle.std.specs.Result.{result_err}
 use Rattle.std.proofs.lemmas.Slice.Eq.{bytes_eq-Decides}
 use Rattle.query.specs.Words.{Word, word, reads_as}
-use Rattle.query.specs.Values.{number_of, unit_of, time_of, symbols_of, kinds_of}
+use Rattle.query.specs.Values.{count_of, unit_of, time_of, symbols_of, kinds_of}
 use Rattle.query.specs.Meaning.{Meaning, Said, only, meaning_of, is_width}
 use Rattle.query.specs.Grammar.{Conditions, More, Filter, Means}
 use Rattle.query.specs.Grammar.{symbol, time, kind, done, further, all, those, sales, bars}
-use Rattle.query.specs.Faults.{Next, Step, expecting, valued, opening, begins, opens, wide, bounded, step, ended, continued, read_from, first_fault}
+use Rattle.query.specs.Faults.{Next, Step, expecting, valued, opening, begins, opens, wide, bounded, step, ended, continued, read_from, first_query_fault}
 use Rattle.query.specs.Faults.{query, number, unit, filter, condition, symbol_in, symbols, time_from, first_time, time_until, second_time, kind_in, kinds, more}
 use Rattle.query.specs.declared.query.What.TheVariants.{Sales, Bars}
 use Rattle.query.specs.declared.fault.QueryFault.{QueryFault}
@@ -44,15 +44,17 @@ means_read (bars count seconds width rest) = rw (count, seconds, width) (filter_
 abbrev Completes : Next → List Word → Meaning → Type 0
 Completes query ws q = Means ws q
 Completes number ws q = (a : ℕ) → Means (word a (codes "bars") ∷ ws) q
-Completes (unit at count) ws q = (a : ℕ) (bytes : List ℕ) → number_of bytes ≡ Some count → Means (word a (codes "bars") ∷ word at bytes ∷ ws) q
+Completes (unit at count) ws q = (a : ℕ) (bytes : List ℕ) → count_of bytes ≡ Some count → Means (word a (codes "bars") ∷ word at bytes ∷ ws) q
 Completes (filter said) ws q = Filter said ws q
 Completes (condition said) ws q = Conditions said ws q
 Completes (symbol_in said) ws q = (a : ℕ) → said.symbols ≡ None → Conditions said (word a (codes "symbol") ∷ ws) q
 Completes (symbols said) ws q = (a b : ℕ) → said.symbols ≡ None → Conditions said (word a (codes "symbol") ∷ word b (codes "in") ∷ ws) q
 Completes (time_from said) ws q = (a : ℕ) → said.span ≡ None → Conditions said (word a (codes "time") ∷ ws) q
 Completes (first_time said) ws q = (a b : ℕ) → said.span ≡ None → Conditions said (word a (codes "time") ∷ word b (codes "from") ∷ ws) q
-Completes (time_until said since) ws q = (a b c : ℕ) (first : List ℕ) → said.span ≡ None → time_of first ≡ Some since → Conditions said (word a (codes "time") ∷ word b (codes "from") ∷ word c first ∷ ws) q
-Completes (second_time said since) ws q = (a b c d : ℕ) (first : List ℕ) → said.span ≡ None → time_of first ≡ Some since → Conditions said (word a (codes "time") ∷ word b (codes "from") ∷ word c first ∷ word d (codes "until") ∷ ws) q
+Completes (time_until said since) ws q = (a b c : ℕ) (first : List ℕ) → said.span ≡ None → time_of first ≡ Some since
+    → Conditions said (word a (codes "time") ∷ word b (codes "from") ∷ word c first ∷ ws) q
+Completes (second_time said since) ws q = (a b c d : ℕ) (first : List ℕ) → said.span ≡ None → time_of first ≡ Some since
+    → Conditions said (word a (codes "time") ∷ word b (codes "from") ∷ word c first ∷ word d (codes "until") ∷ ws) q
 Completes (kind_in said) ws q = (a : ℕ) → said.kinds ≡ None → Conditions said (word a (codes "kind") ∷ ws) q
 Completes (kinds said) ws q = (a b : ℕ) → said.kinds ≡ None → Conditions said (word a (codes "kind") ∷ word b (codes "in") ∷ ws) q
 Completes (more said) ws q = More said ws q
@@ -72,7 +74,8 @@ expected : (text : List ℕ) (t : Next) (w : Word) (k : Goes) (q : Meaning) → 
 expected text t w k q e =
     let h = passed (reads_as text w) t _ k q e in (same_word text w h.0, h.1)
 
-has_value : {A : Type 0} (o : Option A) (fault : QueryFault) (next : A → Step) (k : Goes) (q : Meaning) → continued (valued o fault next) k ≡ Ok q → (x : A) × (o ≡ Some x) × (continued (next x) k ≡ Ok q)
+has_value : {A : Type 0} (o : Option A) (fault : QueryFault) (next : A → Step) (k : Goes) (q : Meaning) → continued (valued o fault next) k ≡ Ok q
+    → (x : A) × (o ≡ Some x) × (continued (next x) k ≡ Ok q)
 has_value None fault next k q e = absurd (cc)
 has_value (Some x) fault next k q e = (x, refl, e)
 
@@ -86,7 +89,8 @@ either true s t k q e = inl (refl, e)
 either false s t k q e = inr e
 
 -- what follows a word completes what stands before it, where what follows the next state does
-begun : (w : Word) (ws : List Word) (q : Meaning) → ((t : Next) → read_from t ws ≡ Ok q → Completes t ws q) → continued (begins w) (λ t. read_from t ws) ≡ Ok q → Means (w ∷ ws) q
+begun : (w : Word) (ws : List Word) (q : Meaning) → ((t : Next) → read_from t ws ≡ Ok q → Completes t ws q)
+    → continued (begins w) (λ t. read_from t ws) ≡ Ok q → Means (w ∷ ws) q
 begun w ws q rest e =
     let k : Goes = λ t. read_from t ws in
     let from_sales : (reads_as (codes "sales") w ≡ true) × (continued (Ok (filter (only Sales))) k ≡ Ok q) → Means (w ∷ ws) q =
@@ -98,7 +102,8 @@ begun w ws q rest e =
       | inr h ↦ from_bars (expected (codes "bars") number w k q h)
     ]
 
-opened : (said : Said) (w : Word) (ws : List Word) (q : Meaning) → ((t : Next) → read_from t ws ≡ Ok q → Completes t ws q) → continued (opens said w) (λ t. read_from t ws) ≡ Ok q → Conditions said (w ∷ ws) q
+opened : (said : Said) (w : Word) (ws : List Word) (q : Meaning) → ((t : Next) → read_from t ws ≡ Ok q → Completes t ws q)
+    → continued (opens said w) (λ t. read_from t ws) ≡ Ok q → Conditions said (w ∷ ws) q
 opened said w ws q rest e =
     let k : Goes = λ t. read_from t ws in
     let is_kind_step : Step = cond (reads_as (codes "kind") w) (opening w (is_some said.kinds) (kind_in said)) (Err (UnknownWord w.at)) in
@@ -116,11 +121,12 @@ opened said w ws q rest e =
       ]
     ]
 
-completed : (next : Next) (w : Word) (ws : List Word) (q : Meaning) → ((t : Next) → read_from t ws ≡ Ok q → Completes t ws q) → continued (step next w) (λ t. read_from t ws) ≡ Ok q → Completes next (w ∷ ws) q
+completed : (next : Next) (w : Word) (ws : List Word) (q : Meaning) → ((t : Next) → read_from t ws ≡ Ok q → Completes t ws q)
+    → continued (step next w) (λ t. read_from t ws) ≡ Ok q → Completes next (w ∷ ws) q
 unfolding step
 completed query w ws q rest e = begun w ws q rest e
 completed number w ws q rest e = λ a.
-    let h = has_value (number_of w.bytes) (BadNumber w.at) (λ count. Ok (unit w.at count)) (λ t. read_from t ws) q e in
+    let h = has_value (count_of w.bytes) (BadNumber w.at) (λ count. Ok (unit w.at count)) (λ t. read_from t ws) q e in
     rest (unit w.at h.0) h.2 a w.bytes h.1
 completed (unit at count) w ws q rest e = λ a bytes is_count.
     let h = has_value (unit_of w.bytes) (UnknownWord w.at) (λ seconds. wide at (count * seconds)) (λ t. read_from t ws) q e in
@@ -144,7 +150,8 @@ completed (first_time said) w ws q rest e = λ a b new.
     rest (time_until said h.0) h.2 a b w.at w.bytes new h.1
 completed (time_until said since) w ws q rest e = λ a b c first new is_first.
     let h = expected (codes "until") (second_time said since) w (λ t. read_from t ws) q e in
-    subst (λ v. Conditions said (word a (codes "time") ∷ word b (codes "from") ∷ word c first ∷ v ∷ ws) q) (sym h.0) (rest (second_time said since) h.1 a b c w.at first new is_first)
+    subst (λ v. Conditions said (word a (codes "time") ∷ word b (codes "from") ∷ word c first ∷ v ∷ ws) q) (sym h.0)
+    (rest (second_time said since) h.1 a b c w.at first new is_first)
 completed (second_time said since) w ws q rest e = λ a b c d first new is_first.
     let h = has_value (time_of w.bytes) (BadTime w.at) (bounded said since) (λ t. read_from t ws) q e in
     let next : Next = more (record said { span = Some (record { since = since; until = h.0 }) }) in
@@ -177,7 +184,7 @@ pub means_from_read : (ws : List Word) (q : Meaning) → read_from query ws ≡ 
 means_from_read ws q e = read_means ws query q e
 
 -- what is read to a fault has that first fault
-pub fault_from_read : (ws : List Word) (fault : QueryFault) → read_from query ws ≡ Err fault → first_fault ws ≡ Some fault
+pub fault_from_read : (ws : List Word) (fault : QueryFault) → read_from query ws ≡ Err fault → first_query_fault ws ≡ Some fault
 fault_from_read ws fault e = ap result_err e
 
 pub ruleset told = (means_from_read, fault_from_read)
@@ -190,11 +197,11 @@ one_meaning ws q p m n =
     cc
 
 -- a text with a meaning has no fault
-pub no_fault : (ws : List Word) (q : Meaning) → Means ws q → first_fault ws ≡ None
+pub no_fault : (ws : List Word) (q : Meaning) → Means ws q → first_query_fault ws ≡ None
 no_fault ws q m = ap result_err (means_read m)
 
 -- a text without a fault has a meaning
-pub some_meaning : (ws : List Word) → first_fault ws ≡ None → (q : Meaning) × Means ws q
+pub some_meaning : (ws : List Word) → first_query_fault ws ≡ None → (q : Meaning) × Means ws q
 some_meaning ws none =
     let go : (r : Result Meaning QueryFault) → read_from query ws ≡ r → result_err r ≡ None → (q : Meaning) × Means ws q =
     elim [
@@ -204,11 +211,12 @@ some_meaning ws none =
     go (read_from query ws) refl none
 
 -- a text with a meaning has no fault but want of memory
-pub only_memory : (ws : List Word) (q : Meaning) (fault : QueryFault) → Means ws q → (fault ≢ OutOfMemory → first_fault ws ≡ Some fault) → fault ≡ OutOfMemory
+pub only_memory : (ws : List Word) (q : Meaning) (fault : QueryFault) → Means ws q → (fault ≢ OutOfMemory → first_query_fault ws ≡ Some fault)
+    → fault ≡ OutOfMemory
 only_memory ws q fault m told =
     let clash : fault ≢ OutOfMemory → ⊥ = λ other.
-    let none : first_fault ws ≡ None = no_fault ws q m in
-    let some : first_fault ws ≡ Some fault = told other in
+    let none : first_query_fault ws ≡ None = no_fault ws q m in
+    let some : first_query_fault ws ≡ Some fault = told other in
     absurd (cc) in
     of_cases fault clash
   where

@@ -1,0 +1,183 @@
+-- Memory is wanted for a list of symbols alone.
+use Rattle.std.proofs.Common.{◌≡◌, ℕ, Bool, true, false, cond, ◌&&◌, ◌||◌, List, [], ◌∷◌, Option, Some, None, refl, nat_lt, subst}
+use Rattle.std.specs.Prelude.{◌*◌, ◌≢◌, Result, Ok, Err, codes, is_some}
+use Rattle.query.specs.Words.{Word, reads_as, begins_list, lists_symbols}
+use Rattle.query.specs.Forms.{◌>>=◌, value_or, took, timed, one_list, in_list, span_of, spanned, condition_of, width_at, unit_after, width_of, what_of}
+use Rattle.query.specs.Values.{count_of, unit_of, time_of, symbols_of, kinds_of}
+use Rattle.query.specs.Meaning.{Said, is_width}
+use Rattle.query.specs.declared.fault.QueryFault.{QueryFault}
+use Rattle.query.specs.declared.fault.QueryFault.TheVariants.{UnknownWord, BadNumber, BadTime, Repeated, EmptyRange, OutOfMemory}
+use Rattle.query.specs.declared.query.What.{What}
+use Rattle.query.specs.declared.query.What.TheVariants.{Sales, Bars}
+use Rattle.probe.specs.declared.selection.Span.{Span}
+
+or_right : (a b : Bool) → b ≡ true → (a || b) ≡ true
+or_right true b h = refl
+or_right false b h = h
+
+-- a list after the first word is a list of the words
+pub listed_later : (w : Word) (ws : List Word) → lists_symbols ws ≡ true → lists_symbols (w ∷ ws) ≡ true
+listed_later w ws h = or_right (reads_as (codes "symbol") w && begins_list ws) _ h
+
+-- a list begins with the first word
+pub listed_here : (w : Word) (ws : List Word) → reads_as (codes "symbol") w ≡ true → begins_list ws ≡ true → lists_symbols (w ∷ ws) ≡ true
+listed_here w ws g h = rw (g, h) refl
+
+-- the words that a form takes want no memory, and what it leaves lists symbols only where they do
+abbrev IsSparing : {A : Type 0} → (A → List Word) → List Word → Result A QueryFault → Type 0
+IsSparing left ws (Ok x) = lists_symbols (left x) ≡ true → lists_symbols ws ≡ true
+IsSparing left ws (Err fault) = fault ≢ OutOfMemory
+
+-- one form after another
+then_sparing : {A B : Type 0} (left : A → List Word) (last : B → List Word) (ws : List Word) (r : Result A QueryFault) (f : A → Result B QueryFault)
+    → IsSparing left ws r → ((x : A) → IsSparing last (left x) (f x)) → IsSparing last ws (r >>= f)
+then_sparing {A = A} {B = B} left last ws (Ok x) f one more =
+    let go : (s : Result B QueryFault) → IsSparing last (left x) s → IsSparing last ws s =
+    elim [ Ok y ↦ λ later h. one (later h) | Err fault ↦ λ other. other ] in
+    go (f x) (more x)
+then_sparing {A = A} {B = B} left last ws (Err fault) f one more = one
+
+-- what a form leaves, beside what it says
+abbrev after : {A : Type 0} → A × List Word → List Word
+after r = r.1
+
+abbrev whole : List Word → List Word
+whole ws = ws
+
+took_sparing : (text : List ℕ) (ws : List Word) → IsSparing whole ws (took text ws)
+took_sparing text [] = λ e. cc
+took_sparing text (w ∷ ws) =
+    let go : (b : Bool) → IsSparing whole (w ∷ ws) (cond b (Ok ws) (Err (UnknownWord w.at))) =
+    elim [ true ↦ listed_later w ws | false ↦ λ e. cc ] in
+    go (reads_as text w)
+
+value_sparing : {A : Type 0} (o : Option A) (fault : QueryFault) (w : Word) (ws : List Word) → fault ≢ OutOfMemory
+    → IsSparing after (w ∷ ws) (value_or o fault ws)
+value_sparing None fault w ws other = other
+value_sparing (Some x) fault w ws other = listed_later w ws
+
+timed_sparing : (ws : List Word) → IsSparing after ws (timed ws)
+timed_sparing [] = λ e. cc
+timed_sparing (w ∷ ws) = value_sparing (time_of w.bytes) (BadTime w.at) w ws (λ e. cc)
+
+list_sparing : {A : Type 0} (values : List ℕ → Option A) (ws : List Word) → IsSparing after ws (one_list values ws)
+list_sparing values [] = λ e. cc
+list_sparing values (w ∷ ws) = value_sparing (values w.bytes) (UnknownWord w.at) w ws (λ e. cc)
+
+in_sparing : {A : Type 0} (values : List ℕ → Option A) (ws : List Word) → IsSparing after ws (in_list values ws)
+unfolding in_list
+in_sparing values ws =
+    then_sparing whole after ws (took (codes "in") ws) (one_list values) (took_sparing (codes "in") ws) (list_sparing values)
+
+rising_sparing : (since until : ℕ) (ws : List Word) → IsSparing after ws (span_of since until ws)
+rising_sparing since until ws =
+    let go : (b : Bool) → IsSparing (after {A = Span}) ws (cond b (Ok (record { since = since; until = until }, ws)) (Err EmptyRange)) =
+    elim [ true ↦ λ h. h | false ↦ λ e. cc ] in
+    go (nat_lt since until)
+
+second_sparing : (since : ℕ) (ws : List Word) → IsSparing after ws (timed ws >>= (λ until. span_of since until.0 until.1))
+second_sparing since ws =
+    then_sparing after after ws (timed ws) (λ until. span_of since until.0 until.1) (timed_sparing ws)
+    (λ until. rising_sparing since until.0 until.1)
+
+abbrev times_after : ℕ → List Word → Result (Span × List Word) QueryFault
+times_after since rest = timed rest >>= (λ until. span_of since until.0 until.1)
+
+until_sparing : (since : ℕ) (ws : List Word) → IsSparing after ws (took (codes "until") ws >>= times_after since)
+until_sparing since ws =
+    then_sparing whole after ws (took (codes "until") ws) (times_after since) (took_sparing (codes "until") ws) (second_sparing since)
+
+first_sparing : (ws : List Word) → IsSparing after ws (timed ws >>= (λ since. took (codes "until") since.1 >>= times_after since.0))
+first_sparing ws =
+    then_sparing after after ws (timed ws) (λ since. took (codes "until") since.1 >>= times_after since.0) (timed_sparing ws)
+    (λ since. until_sparing since.0 since.1)
+
+span_sparing : (ws : List Word) → IsSparing after ws (spanned ws)
+unfolding spanned
+span_sparing ws =
+    then_sparing whole after ws (took (codes "from") ws)
+    (λ rest. timed rest >>= (λ since. took (codes "until") since.1 >>= times_after since.0)) (took_sparing (codes "from") ws) first_sparing
+
+-- a condition of which a word was taken
+kept_sparing : {A : Type 0} (w : Word) (ws : List Word) (r : Result (A × List Word) QueryFault) (f : A → Said) → IsSparing after ws r
+    → IsSparing after (w ∷ ws) (r >>= (λ x. Ok (f x.0, x.1)))
+kept_sparing w ws (Ok x) f one = λ h. listed_later w ws (one h)
+kept_sparing w ws (Err fault) f one = one
+
+opened_sparing : (w : Word) (ws : List Word) (given : Bool) (r : Result (Said × List Word) QueryFault) → IsSparing after (w ∷ ws) r
+    → IsSparing after (w ∷ ws) (cond given (Err (Repeated w.at)) r)
+opened_sparing w ws true r one = λ e. cc
+opened_sparing w ws false r one = one
+
+condition_sparing : (said : Said) (ws : List Word) → IsSparing after ws (condition_of said ws)
+unfolding condition_of
+condition_sparing said [] = λ e. cc
+condition_sparing said (w ∷ ws) =
+    let symbols = opened_sparing w ws (is_some said.symbols) _ (kept_sparing w ws (in_list symbols_of ws) (λ names. record said { symbols = Some names })
+    (in_sparing symbols_of ws)) in
+    let span = opened_sparing w ws (is_some said.span) _ (kept_sparing w ws (spanned ws) (λ times. record said { span = Some times }) (span_sparing ws)) in
+    let kinds = opened_sparing w ws (is_some said.kinds) _
+    (kept_sparing w ws (in_list kinds_of ws) (λ some. record said { kinds = Some some }) (in_sparing kinds_of ws)) in
+    one_of (reads_as (codes "symbol") w) (reads_as (codes "time") w) (reads_as (codes "kind") w) _ _ _ symbols span kinds
+  where
+    one_of : (is_symbol is_time is_kind : Bool) (r s t : Result (Said × List Word) QueryFault) → IsSparing after (w ∷ ws) r → IsSparing after (w ∷ ws) s
+        → IsSparing after (w ∷ ws) t → IsSparing after (w ∷ ws) (cond is_symbol r (cond is_time s (cond is_kind t (Err (UnknownWord w.at)))))
+    one_of true b c r s t one two three = one
+    one_of false true c r s t one two three = two
+    one_of false false true r s t one two three = three
+    one_of false false false r s t one two three = λ e. cc
+
+width_sparing : (at width : ℕ) (ws : List Word) → IsSparing after ws (width_at at width ws)
+width_sparing at width ws =
+    let go : (b : Bool) → IsSparing (after {A = ℕ}) ws (cond b (Ok (width, ws)) (Err (BadNumber at))) =
+    elim [ true ↦ λ h. h | false ↦ λ e. cc ] in
+    go (is_width width)
+
+unit_sparing : (at count : ℕ) (ws : List Word) → IsSparing after ws (unit_after at count ws)
+unit_sparing at count [] = λ e. cc
+unit_sparing at count (w ∷ ws) =
+    then_sparing after after (w ∷ ws) (value_or (unit_of w.bytes) (UnknownWord w.at) ws) (λ seconds. width_at at (count * seconds.0) seconds.1)
+    (value_sparing (unit_of w.bytes) (UnknownWord w.at) w ws (λ e. cc)) (λ seconds. width_sparing at (count * seconds.0) seconds.1)
+
+number_sparing : (ws : List Word) → IsSparing after ws (width_of ws)
+unfolding width_of
+number_sparing [] = λ e. cc
+number_sparing (w ∷ ws) =
+    then_sparing after after (w ∷ ws) (value_or (count_of w.bytes) (BadNumber w.at) ws) (λ count. unit_after w.at count.0 count.1)
+    (value_sparing (count_of w.bytes) (BadNumber w.at) w ws (λ e. cc)) (λ count. unit_sparing w.at count.0 count.1)
+
+bars_sparing : (w : Word) (ws : List Word) (r : Result (ℕ × List Word) QueryFault) → IsSparing after ws r
+    → IsSparing after (w ∷ ws) (r >>= (λ width. Ok (Bars width.0, width.1)))
+bars_sparing w ws (Ok x) one = λ h. listed_later w ws (one h)
+bars_sparing w ws (Err fault) one = one
+
+what_sparing : (ws : List Word) → IsSparing after ws (what_of ws)
+unfolding what_of
+what_sparing [] = λ e. cc
+what_sparing (w ∷ ws) =
+    one_of (reads_as (codes "sales") w) (reads_as (codes "bars") w) _ (bars_sparing w ws (width_of ws) (number_sparing ws))
+  where
+    one_of : (is_sales is_bars : Bool) (r : Result (What × List Word) QueryFault) → IsSparing after (w ∷ ws) r
+        → IsSparing after (w ∷ ws) (cond is_sales (Ok (Sales, ws)) (cond is_bars r (Err (UnknownWord w.at))))
+    one_of true b r one = listed_later w ws
+    one_of false true r one = one
+    one_of false false r one = λ e. cc
+
+-- ---- as the parser's functions need it
+
+pub what_wants_none : (ws : List Word) (fault : QueryFault) → what_of ws ≡ Err fault → fault ≢ OutOfMemory
+what_wants_none ws fault e = subst (IsSparing after ws) e (what_sparing ws)
+
+pub span_wants_none : (ws : List Word) (fault : QueryFault) → spanned ws ≡ Err fault → fault ≢ OutOfMemory
+span_wants_none ws fault e = subst (IsSparing after ws) e (span_sparing ws)
+
+pub kinds_want_none : (ws : List Word) (fault : QueryFault) → in_list kinds_of ws ≡ Err fault → fault ≢ OutOfMemory
+kinds_want_none ws fault e = subst (IsSparing after ws) e (in_sparing kinds_of ws)
+
+pub what_leaves : (what : What) (ws rest : List Word) → what_of ws ≡ Ok (what, rest) → lists_symbols rest ≡ true → lists_symbols ws ≡ true
+what_leaves what ws rest e = subst (IsSparing after ws) e (what_sparing ws)
+
+pub condition_leaves : (said next : Said) (ws rest : List Word) → condition_of said ws ≡ Ok (next, rest) → lists_symbols rest ≡ true → lists_symbols ws ≡ true
+condition_leaves said next ws rest e = subst (IsSparing after ws) e (condition_sparing said ws)
+
+pub ruleset memory = (listed_later, listed_here, span_wants_none, kinds_want_none, what_wants_none, what_leaves, condition_leaves)
