@@ -9,7 +9,6 @@ mod keeping;
 mod locates;
 mod pricing;
 mod rows;
-mod sales;
 mod selection;
 
 pub use broken_trades::Breaks;
@@ -18,7 +17,6 @@ pub use locates::LocateList;
 pub use order_table::{OrderTable, OutOfMemory};
 pub use pricing::{Priced, price_all};
 pub use rows::{Execution, Kind, Sale, Unknown};
-pub use sales::Sales;
 pub use selection::{Kinds, Locates, Selection, Span};
 
 #[cfg(test)]

@@ -8,7 +8,6 @@ ghost use Rattle.order_table.specs.Orders.{IsTableOf};
 ghost use Rattle.probe.specs.Pricing.{first_unknown, priced, sale_at, unknown_of};
 
 use crate::rows::{Execution, Kind, Sale, Unknown};
-use crate::sales::Sales;
 use order_table::{OrderTable, OutOfMemory};
 use std::alloc::{Allocator, Global};
 
@@ -17,7 +16,7 @@ use std::alloc::{Allocator, Global};
 #[derive_where(Debug)]
 pub struct Priced<A: Allocator = Global> {
     /// Of the executions that have a price, in the list's order, those of zero shares too.
-    pub sales: Sales<A>,
+    pub sales: Vec<Sale, A>,
     /// The execution of least place that has none.
     pub unknown: Option<Unknown>,
 }
@@ -64,7 +63,7 @@ pub fn price_all<A: Allocator, T: Allocator + Clone>(
 ) -> Result<Priced<A>, OutOfMemory>
     requires { IsDistinct nat_eq (map (λ execution. execution.place) executions.now) }
     ensures sales { IfOk result (λ outcome. (rows : List OrderRow) → IsTableOf rows table.now →
-        outcome.sales ≡ priced rows executions.now) }
+        outcome.sales.items ≡ priced rows executions.now) }
     ensures unknown { IfOk result (λ outcome. (rows : List OrderRow) → IsTableOf rows table.now →
         outcome.unknown ≡ option_map unknown_of (first_unknown rows executions.now)) }
 {
@@ -76,8 +75,5 @@ pub fn price_all<A: Allocator, T: Allocator + Clone>(
             None => unknown = earlier(unknown, unknown_of(execution)),
         }
     }
-    Ok(Priced {
-        sales: Sales::of(sales),
-        unknown,
-    })
+    Ok(Priced { sales, unknown })
 }

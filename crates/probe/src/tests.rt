@@ -2,8 +2,8 @@ ghost use Rattle.std.specs.Prelude.{map, nat_eq};
 ghost use Rattle.std.specs.List.{IsDistinct};
 
 use crate::{
-    Breaks, Execution, Kind, Kinds, LocateList, Locates, OrderTable, OutOfMemory, Sale, Sales,
-    Selection, Span, Unknown, keep, price_all,
+    Breaks, Execution, Kind, Kinds, LocateList, Locates, OrderTable, OutOfMemory, Sale, Selection,
+    Span, Unknown, keep, price_all,
 };
 use linked_list_allocator::LocalHeap;
 use order_table::OrderRow;
@@ -54,7 +54,7 @@ fn executions_are_priced(rt: HostRuntime) -> Result<(), Fail> {
         let heap = LocalHeap::new(rt.alloc(), 16 * step)?;
         if let Ok(priced) = price_all(&heap, &table, &executions()) {
             assert_eq!(rt;
-                priced.sales.into_vec().as_slice(),
+                priced.sales.as_slice(),
                 [sale(9, 0, Kind::E, 5)].as_slice()
             );
             assert_eq!(rt;
@@ -70,7 +70,7 @@ fn executions_are_priced(rt: HostRuntime) -> Result<(), Fail> {
     }
     assert!(rt; enough.is_some_and(|step| step > 1));
     let none = price_all(rt.alloc(), &table, &[])?;
-    assert!(rt; none.sales.items().is_empty());
+    assert!(rt; none.sales.is_empty());
     assert_eq!(rt; none.unknown, None);
     Ok(())
 }
@@ -84,10 +84,7 @@ fn broken_and_empty_sales_go(rt: HostRuntime) -> Result<(), Fail> {
     }
     let breaks = Breaks::from_rows([9].to_vec(rt.alloc())?);
     keep(&mut sales, &breaks, &Selection::all());
-    assert_eq!(rt;
-        Sales::of(sales).items(),
-        [sale(11, 7, Kind::P, 5)].as_slice()
-    );
+    assert_eq!(rt; sales.as_slice(), [sale(11, 7, Kind::P, 5)].as_slice());
     Ok(())
 }
 

@@ -131,7 +131,7 @@ fn price<A: Allocator + Copy>(
     if let Some(Unknown { place, order_no }) = unknown {
         return Ok(Pricing::Faulty(DayFault::UnknownReference { place, order_no }));
     }
-    Ok(Pricing::Sales(sales.into_vec()))
+    Ok(Pricing::Sales(sales))
 }
 
 /// The sales that no break removes and that the selection admits, by place.
