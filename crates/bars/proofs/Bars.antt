@@ -104,7 +104,7 @@ pub AreBarsOf-none : (width : ℕ) → AreBarsOf width [] []
 unfolding IsStrictlySortedBy
 AreBarsOf-none width = record { rise = tt; each = λ key. refl }
 
--- the table that two tables are merged to is the table of their sales together
+-- the table that two tables are merged_tables to is the table of their sales together
 pub AreBarsOf-merged : (width : ℕ) (xs ys : List Sale) (one other table : List Bar) → AreBarsOf width xs one → AreBarsOf width ys other → IsMergeOf one other table → AreBarsOf width (xs ++ ys) table
 AreBarsOf-merged width xs ys one other table p q h = record {
   rise = h.rise;

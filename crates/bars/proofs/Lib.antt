@@ -1,4 +1,4 @@
 pub mod Bars
 pub mod MergedTables
-pub mod Ends
-pub mod Sums
+pub mod LastBar
+pub mod SumsAreBounded

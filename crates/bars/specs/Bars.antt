@@ -1,10 +1,12 @@
 -- What the bar of a list of sales is, and which tables are those of a list of sales.
+-- To be believed.
 use Rattle.std.specs.Prelude.{◌≡◌, ℕ, ◌+◌, ◌*◌, ◌/◌, ◌==◌, ◌<◌, ◌≤◌, ◌^◌, nat_lt, max, min, Bool, ◌&&◌}
 use Rattle.std.specs.Prelude.{cond, List, [], ◌∷◌, length, Option, Some, None, filter, find, sum_by}
 use Rattle.std.specs.Ordering.{nat_cmp, ordering_then}
 use Rattle.std.specs.declared.cmp.Ordering.{Ordering}
 use Rattle.std.specs.List.Sorted.{IsStrictlySortedBy}
 use Rattle.lists.specs.Least.{least_of, greatest_of}
+use Rattle.lists.specs.declared.limits.TheConstants.{NANOSECONDS}
 use Rattle.probe.specs.declared.rows.Sale.{Sale}
 pub use Rattle.bars.specs.declared.bar.Bar.{Bar}
 
@@ -15,7 +17,7 @@ pub record Key : Type 0 where
 
 -- the start of the interval that a time lies in, both in nanoseconds, at a width in seconds
 abbrev pub start_of : ℕ → ℕ → ℕ
-start_of width time = time / (width * 1000000000) * (width * 1000000000)
+start_of width time = time / (width * NANOSECONDS) * (width * NANOSECONDS)
 
 -- the sale's locate and interval are the key's
 abbrev pub has_key : ℕ → Key → Sale → Bool

@@ -1,5 +1,6 @@
 -- What the steps of making tables compute: the bar of one sale, and two tables in one.
-use Rattle.std.specs.Prelude.{◌≡◌, ℕ, ◌*◌, false, All, List, [], ◌∷◌, ◌++◌}
+-- Derived: it follows the code; of what it computes, the public contracts say `AreBarsOf` and `IsMergeOf`.
+use Rattle.std.specs.Prelude.{◌≡◌, ℕ, ◌*◌, false, All, List, [], ◌∷◌}
 use Rattle.std.specs.declared.cmp.Ordering.{Ordering}
 use Rattle.std.specs.declared.cmp.Ordering.TheVariants.{Less, Equal, Greater}
 use Rattle.std.specs.Ordering.{is_gt}
@@ -42,11 +43,6 @@ put_before one others (other ∷ table) =
     (joined_bar one other ∷ others table) (other ∷ put_before one others table)
 
 -- two tables in one, bar after bar
-abbrev pub merged : List Bar → List Bar → List Bar
-merged [] other = other
-merged (one ∷ others) other = put_before one (merged others) other
-
--- a text with more after it
-pub record Extends (old new : List ℕ) : Type 0 where
-  pub rest : List ℕ
-  pub is : new ≡ old ++ rest
+abbrev pub merged_tables : List Bar → List Bar → List Bar
+merged_tables [] other = other
+merged_tables (one ∷ others) other = put_before one (merged_tables others) other

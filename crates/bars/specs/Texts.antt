@@ -1,7 +1,9 @@
 -- The texts of a bar and of a table of bars.
+-- To be believed.
 use Rattle.std.specs.Prelude.{ℕ, ◌/◌, ◌^◌, ◌<◌, ◌%◌, List, ◌++◌, codes}
 use Rattle.std.specs.List.{flat_map}
 use Rattle.std.specs.Fmt.{decimal}
+use Rattle.lists.specs.declared.limits.TheConstants.{TIME_LIMIT}
 use Rattle.time_and_sales.specs.Texts.{price_text, seconds_text}
 use Rattle.bars.specs.declared.bar.Bar.{Bar}
 
@@ -22,7 +24,7 @@ sums_text bar = codes "," ++ decimal bar.volume ++ codes "," ++ decimal bar.trad
 
 -- a bar whose numbers have a text
 abbrev pub IsWritable : Bar → Type 0
-IsWritable bar = (bar.start < 2 ^ 48) × (0 < bar.volume) × (bar.notional / bar.volume < 2 ^ 32)
+IsWritable bar = (bar.start < TIME_LIMIT) × (0 < bar.volume) × (bar.notional / bar.volume < 2 ^ 32)
 
 -- the line of a bar whose locate has the name
 abbrev pub bar_line : Bar → List ℕ → List ℕ

@@ -9,10 +9,8 @@ mod table;
 mod texts;
 
 pub use bar::Bar;
-pub use probe::{OutOfMemory, Sale};
+pub use lists::OutOfMemory;
+pub use probe::Sale;
 pub use table::BarTable;
 pub use texts::{write_bar, write_header};
 pub use time_and_sales::Name;
-
-#[cfg(test)]
-mod tests;

@@ -1,13 +1,15 @@
 //! A table of bars.
-ghost use Rattle.std.specs.Prelude.{◌≡◌, ℕ, ◌<◌, ◌≤◌, ◌^◌, List, [], ◌∷◌, ◌++◌, length, map};
+ghost use Rattle.std.specs.Prelude.{◌≡◌, ℕ, ◌<◌, ◌≤◌, List, [], ◌∷◌, ◌++◌, length, map};
 ghost use Rattle.std.specs.Prelude.{All, IfOk, OnErr, OnOk, nat_eq, vec_len};
 ghost use Rattle.std.specs.List.{IsDistinct};
 ghost use Rattle.probe.specs.declared.rows.Sale.{Sale};
 ghost use Rattle.bars.specs.Bars.{AreBarsOf, CanJoin, IsByKey, IsMergeOf, IsTraded, SumsFit};
-ghost use Rattle.bars.specs.Steps.{IsUpTo, merged};
+ghost use Rattle.bars.specs.Steps.{IsUpTo, merged_tables};
 
+use crate::OutOfMemory;
 use crate::bar::Bar;
-use probe::{OutOfMemory, Sale};
+use lists::limits::{SECONDS_OF_DAY, TRADE_LIMIT};
+use probe::Sale;
 use std::alloc::{Allocator, Global};
 use std::cmp::Ordering;
 use std::marker::Model;
@@ -67,9 +69,9 @@ impl<A: Allocator + Clone> BarTable<A> {
     /// where there is no memory to sort a copy of them, or for the bars.
     pub fn of_sales(alloc: A, sales: &[Sale], width: u32) -> Result<BarTable<A>, OutOfMemory>
         requires places { IsDistinct nat_eq (map (λ sale. sale.place) sales.now) }
-        requires count { length sales.now < 2 ^ 31 }
+        requires count { length sales.now < TRADE_LIMIT }
         requires shares { All (λ sale. 0 < sale.shares) sales.now }
-        requires width { (1 ≤ width) × (width ≤ 86400) }
+        requires width { (1 ≤ width) × (width ≤ SECONDS_OF_DAY) }
         ensures bars { IfOk result (λ table. AreBarsOf width sales.now table) }
         ensures traded { IfOk result (λ table. All IsTraded table) }
     {
@@ -106,7 +108,7 @@ fn add<A: Allocator>(bars: &mut Vec<Bar, A>, bar: Bar) -> Result<(), OutOfMemory
     requires traded { All IsTraded bars.old.items × IsTraded bar }
     requires up_to { IsUpTo bars.old.items bar }
     requires sums { All (λ kept. CanJoin kept bar) bars.old.items }
-    ensures merged { OnOk result (bars.new.items ≡ merged bars.old.items (bar ∷ [])) }
+    ensures merged { OnOk result (bars.new.items ≡ merged_tables bars.old.items (bar ∷ [])) }
     ensures traded { OnOk result (All IsTraded bars.new.items) }
     ensures up_to { OnOk result (IsUpTo bars.new.items bar) }
 {
@@ -131,7 +133,7 @@ fn merge_bars<A: Allocator>(
     requires one { IsByKey one.now × All IsTraded one.now }
     requires other { IsByKey other.now × All IsTraded other.now }
     requires sums { SumsFit one.now other.now }
-    ensures value { IfOk result (λ bars. bars.items ≡ merged one.now other.now) }
+    ensures value { IfOk result (λ bars. bars.items ≡ merged_tables one.now other.now) }
     ensures traded { IfOk result (λ bars. All IsTraded bars.items) }
 {
     let mut bars = Vec::with_capacity(alloc, one.len().max(other.len()))?;

@@ -1,4 +1,4 @@
-pub mod Digits
+pub mod DigitsJoined
 pub mod LastRows
-pub mod ByPlace
-pub mod Padding
+pub mod SortedByPlace
+pub mod TrailingSpaces

@@ -1,5 +1,5 @@
 //! A listing: sales by place.
-ghost use Rattle.std.specs.Prelude.{◌≡◌, List, [], ◌++◌, map, nat_eq, OnOk, OnErr};
+ghost use Rattle.std.specs.Prelude.{◌≡◌, List, [], ◌++◌, map, nat_eq, IsOk, OnOk, OnErr};
 ghost use Rattle.std.specs.List.{IsDistinct};
 ghost use Rattle.std.specs.List.Sorted.{IsPermutation};
 ghost use Rattle.time_and_sales.specs.Listings.{IsByPlace};
@@ -48,12 +48,14 @@ impl<A: Allocator> Listing<A> {
     }
 
     /// Takes in the sales of `other`. Where there is no memory to merge the two in, they are sorted
-    /// where they lie. A refusal leaves the listing as it was.
+    /// where they lie. It is refused only where there is no memory for the sales of `other`, of which
+    /// there are some, and then leaves the listing as it was.
     pub fn unite(&mut self, other: &Listing<A>) -> Result<(), OutOfMemory>
         requires { IsDistinct nat_eq (map (λ sale. sale.place) (self.old ++ other.now)) }
         ensures permutation { OnOk result (IsPermutation (self.old ++ other.now) self.new) }
         ensures by_place { IsByPlace self.new }
         ensures unchanged { OnErr result (self.new ≡ self.old) }
+        ensures none { other.now ≡ [] → IsOk result }
     {
         self.sales.extend_from_slice(other.items())?;
         if self.sales.sort_by_key(|listed| listed.place).is_err() {

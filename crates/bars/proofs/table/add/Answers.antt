@@ -2,7 +2,7 @@ use Rattle.std.proofs.Common.{◌≡◌, ◌-◌, ◌+◌, ◌∷◌, [], ◌++�
 use Rattle.std.specs.Ordering.{is_eq}
 use Rattle.std.specs.Vec.{vec_len}
 use Rattle.bars.specs.Steps.{IsUpTo}
-use Rattle.bars.proofs.Ends.{joined_to_last, pushed_after_last, set_same, up_to_pushed, equal_from}
+use Rattle.bars.proofs.LastBar.{joined_to_last, pushed_after_last, set_same, up_to_pushed, equal_from}
 use Rattle.bars.proofs.table.add.Goals as goal
 
 pub returns-then-is_eq-clause-merged : goal.returns-then-is_eq-clause-merged

@@ -8,8 +8,8 @@ use Rattle.probe.specs.declared.rows.Sale.{Sale}
 use Rattle.bars.specs.Bars.{AreBarsOf}
 use Rattle.bars.specs.Steps.{bar_of_one}
 use Rattle.bars.proofs.Bars.{AreBarsOf-permutation}
-use Rattle.bars.proofs.Sums.{can_join_one}
-use Rattle.bars.proofs.Ends.{AreBarsOf-no_bars, up_to_none, no_bars, sorted_by_time, by_time, told_one_more, next_up_to}
+use Rattle.bars.proofs.SumsAreBounded.{can_join_one}
+use Rattle.bars.proofs.LastBar.{AreBarsOf-no_bars, up_to_none, no_bars, sorted_by_time, by_time, told_one_more, next_up_to}
 use Rattle.std.specs.List.Sorted.{IsSortedByKey}
 use Rattle.bars.proofs.table.BarTable.of_sales.Goals as goal
 

@@ -10,7 +10,7 @@ use Rattle.probe.specs.declared.rows.Execution.{Execution}
 use Rattle.probe.specs.declared.rows.Sale.{Sale}
 use Rattle.time_and_sales.specs.Names.{IsNamesOf, last_row, name_text}
 use Rattle.bars.specs.Bars.{AreBarsOf}
-use Rattle.bars.proofs.Sums.{table_is_writable}
+use Rattle.bars.proofs.SumsAreBounded.{table_is_writable}
 use Rattle.answers.specs.Answers.{IsTextFor, fault_of, reference_fault}
 use Rattle.answers.specs.Messages.{directory_rows}
 use Rattle.executor.specs.Rows.{IsStamped}

@@ -18,7 +18,7 @@ use Rattle.std.proofs.lemmas.List.{length-take-le}
 use Rattle.lists.proofs.Order.{Contains_cons, Contains_head, Contains_later}
 use Rattle.probe.specs.declared.rows.Sale.{Sale}
 use Rattle.bars.specs.Bars.{Key, Bar, start_of, has_key, bar_of, key_cmp, found, joined_bar, IsByKey, IsTraded, AreBarsOf}
-use Rattle.bars.specs.Steps.{bar_of_one, by_order, put_before, merged, IsUpTo}
+use Rattle.bars.specs.Steps.{bar_of_one, by_order, put_before, merged_tables, IsUpTo}
 use Rattle.bars.proofs.Bars.{key_total, AreBarsOf-merged, AreBarsOf-none}
 use Rattle.bars.proofs.MergedTables.{merged_is}
 
@@ -51,7 +51,7 @@ AreBarsOf-one width sale = record { rise = (tt, tt); each = λ key. go key (has_
         }))
     go key false e = ap (λ c. cond c (Some (bar_of_one width sale)) None) e
 
-pub AreBarsOf-more : (width : ℕ) (xs : List Sale) (sale : Sale) (table : List Bar) → AreBarsOf width xs table → AreBarsOf width (xs ++ sale ∷ []) (merged table (bar_of_one width sale ∷ []))
+pub AreBarsOf-more : (width : ℕ) (xs : List Sale) (sale : Sale) (table : List Bar) → AreBarsOf width xs table → AreBarsOf width (xs ++ sale ∷ []) (merged_tables table (bar_of_one width sale ∷ []))
 AreBarsOf-more width xs sale table h =
     let one = AreBarsOf-one width sale in
     AreBarsOf-merged width xs (sale ∷ []) table (bar_of_one width sale ∷ []) _ h one (merged_is table (bar_of_one width sale ∷ []) h.rise one.rise)
@@ -59,18 +59,18 @@ AreBarsOf-more width xs sale table h =
 -- ---- where the bar goes
 
 -- behind a table whose bars all stand before it
-merged_after : (table : List Bar) (bar : Bar) → ((z : Bar) → Contains table z → key_cmp z bar ≡ Less) → merged table (bar ∷ []) ≡ table ++ bar ∷ []
+merged_after : (table : List Bar) (bar : Bar) → ((z : Bar) → Contains table z → key_cmp z bar ≡ Less) → merged_tables table (bar ∷ []) ≡ table ++ bar ∷ []
 merged_after [] bar h = refl
 merged_after (a ∷ table) bar h =
-    ap (λ o. by_order o (a ∷ merged table (bar ∷ [])) (joined_bar a bar ∷ merged table []) (bar ∷ put_before a (merged table) [])) (h a (Contains_head a table))
+    ap (λ o. by_order o (a ∷ merged_tables table (bar ∷ [])) (joined_bar a bar ∷ merged_tables table []) (bar ∷ put_before a (merged_tables table) [])) (h a (Contains_head a table))
     ∙ ap (λ l. a ∷ l) (merged_after table bar (λ z c. h z (Contains_later a z table c)))
 
 -- into the last, which has its key
 merged_onto : (front : List Bar) (last bar : Bar) → ((z : Bar) → Contains front z → key_cmp z bar ≡ Less) → key_cmp last bar ≡ Equal
-    → merged (front ++ last ∷ []) (bar ∷ []) ≡ front ++ joined_bar last bar ∷ []
-merged_onto [] last bar h e = ap (λ o. by_order o (last ∷ bar ∷ []) (joined_bar last bar ∷ []) (bar ∷ put_before last (merged []) [])) e
+    → merged_tables (front ++ last ∷ []) (bar ∷ []) ≡ front ++ joined_bar last bar ∷ []
+merged_onto [] last bar h e = ap (λ o. by_order o (last ∷ bar ∷ []) (joined_bar last bar ∷ []) (bar ∷ put_before last (merged_tables []) [])) e
 merged_onto (a ∷ front) last bar h e =
-    ap (λ o. by_order o (a ∷ merged (front ++ last ∷ []) (bar ∷ [])) (joined_bar a bar ∷ merged (front ++ last ∷ []) []) (bar ∷ put_before a (merged (front ++ last ∷ [])) [])) (h a (Contains_head a front))
+    ap (λ o. by_order o (a ∷ merged_tables (front ++ last ∷ []) (bar ∷ [])) (joined_bar a bar ∷ merged_tables (front ++ last ∷ []) []) (bar ∷ put_before a (merged_tables (front ++ last ∷ [])) [])) (h a (Contains_head a front))
     ∙ ap (λ l. a ∷ l) (merged_onto front last bar (λ z c. h z (Contains_later a z front c)) e)
 
 below_last : (front : List Bar) (last : Bar) → IsByKey (front ++ last ∷ []) → (z : Bar) → Contains front z → key_cmp z last ≡ Less
@@ -87,7 +87,7 @@ split_last table n d e = sym (take_all (n + 1) table (omega (arith, e))) ∙ tak
 
 -- the bar is joined to the last bar of a table
 pub joined_to_last : (table : List Bar) (n : ℕ) (last bar : Bar) → n + 1 ≡ length table → last ≡ get_or table n last → IsByKey table
-    → key_cmp last bar ≡ Equal → set table n (joined_bar last bar) ≡ merged table (bar ∷ [])
+    → key_cmp last bar ≡ Equal → set table n (joined_bar last bar) ≡ merged_tables table (bar ∷ [])
 joined_to_last table n last bar e at up same =
     let front = take n table in
     let split : table ≡ front ++ last ∷ [] = split_last table n last e ∙ ap (λ z. front ++ z ∷ []) (sym at) in
@@ -97,11 +97,11 @@ joined_to_last table n last bar e at up same =
     ∙ ap (λ k. set (front ++ last ∷ []) k (joined_bar last bar)) (sym count)
     ∙ set-append_seam front last [] (joined_bar last bar)
     ∙ sym (merged_onto front last bar (λ z c. below_more z last bar (below_last front last rises z c) (ap is_gt same)) same)
-    ∙ ap (λ t. merged t (bar ∷ [])) (sym split)
+    ∙ ap (λ t. merged_tables t (bar ∷ [])) (sym split)
 
 -- the bar is pushed behind the last bar of a table
 pub pushed_after_last : (table : List Bar) (n : ℕ) (last bar : Bar) → n + 1 ≡ length table → last ≡ get_or table n last → IsByKey table
-    → IsUpTo table bar → is_eq (key_cmp last bar) ≡ false → table ++ bar ∷ [] ≡ merged table (bar ∷ [])
+    → IsUpTo table bar → is_eq (key_cmp last bar) ≡ false → table ++ bar ∷ [] ≡ merged_tables table (bar ∷ [])
 pushed_after_last table n last bar e at up to differ =
     let front = take n table in
     let split : table ≡ front ++ last ∷ [] = split_last table n last e ∙ ap (λ z. front ++ z ∷ []) (sym at) in
@@ -187,10 +187,10 @@ equal_from Greater e = absurd (cc)
 -- ---- the steps of the loop over the sorted sales
 
 pub told_one_more : (width : ℕ) (sales : List Sale) (i : ℕ) (d : Sale) (table new : List Bar) (bar : Bar) → i < length sales → bar ≡ bar_of_one width (get_or sales i d)
-    → AreBarsOf width (take i sales) table → new ≡ merged table (bar ∷ []) → AreBarsOf width (take (i + 1) sales) new
+    → AreBarsOf width (take i sales) table → new ≡ merged_tables table (bar ∷ []) → AreBarsOf width (take (i + 1) sales) new
 told_one_more width sales i d table new bar within is are made =
-    subst (AreBarsOf width (take (i + 1) sales)) (sym (made ∙ ap (λ z. merged table (z ∷ [])) is))
-    (subst (λ l. AreBarsOf width l (merged table (bar_of_one width (get_or sales i d) ∷ []))) (sym (take_more sales i d within))
+    subst (AreBarsOf width (take (i + 1) sales)) (sym (made ∙ ap (λ z. merged_tables table (z ∷ [])) is))
+    (subst (λ l. AreBarsOf width l (merged_tables table (bar_of_one width (get_or sales i d) ∷ []))) (sym (take_more sales i d within))
     (AreBarsOf-more width (take i sales) (get_or sales i d) table are))
 
 pub next_up_to : (width : ℕ) (sales : List Sale) (i : ℕ) (d e : Sale) (new : List Bar) (bar : Bar) → 0 < width → IsSortedByKey (λ (s : Sale). (s.locate, s.time)) by_time sales
