@@ -1,5 +1,7 @@
--- The answer to a query: the file's one fault, or the text made of the whole message list.
-use Rattle.std.specs.Prelude.{◌≡◌, ℕ, Bool, ◌&&◌, List, Option, Some, None, Result, Ok, Err, filter_map, ◌⊎◌}
+-- The answer to a query over a day file: the file's one fault, or the text made of its whole message list.
+-- To be believed.
+-- The language wants each name before it is used, so what stands last is what the others lead to: `IsAnswer`.
+use Rattle.std.specs.Prelude.{◌≡◌, ℕ, Bool, ◌&&◌, List, Option, Result, Ok, Err, filter_map, MatchOption, ◌⊎◌}
 use Rattle.std.specs.Option.{option_and_then}
 use Rattle.itch_messages.specs.Body.{length_fault_of}
 use Rattle.itch_messages.specs.declared.message.Message.{Message}
@@ -7,7 +9,6 @@ use Rattle.itch_messages.specs.declared.message.Message.TheVariants.{Executed}
 use Rattle.day_file.specs.Frames.{PlacedBody, StandsFor, IsTruncatedAt}
 use Rattle.order_table.specs.declared.row.OrderRow.{OrderRow}
 use Rattle.order_table.specs.Orders.{first_repeated}
-use Rattle.probe.specs.declared.rows.Execution.{Execution}
 use Rattle.probe.specs.declared.rows.Sale.{Sale}
 use Rattle.probe.specs.Pricing.{first_unknown, sale_of}
 use Rattle.probe.specs.Selection.{has_kind, has_time}
@@ -43,6 +44,8 @@ use Rattle.answers.specs.declared.day_fault.DayFault.TheVariants.{
   UnknownReference,
 }
 
+-- ---- what is asked for
+
 -- an execution is a trade where its order's price is known; the others have a price of their own
 abbrev pub trade_at : List OrderRow → ℕ → Message → Option Sale
 trade_at rows place (Executed executed) =
@@ -64,11 +67,30 @@ abbrev pub selected_sales : Meaning → List Placed → List Sale
 selected_sales query messages =
     kept (break_numbers messages) (asks_for query (directory_rows messages)) (trades messages)
 
+-- ---- the text
+
 -- a header line, then a line for each sale, or for each bar of the sales
-abbrev pub IsTextOf : What → (ℕ → List ℕ) → List Sale → List ℕ → Type 0
-IsTextOf Sales names sales text = text ≡ listing_text names sales
-IsTextOf (Bars width) names sales text =
+abbrev pub IsTextOfSales : What → (ℕ → List ℕ) → List Sale → List ℕ → Type 0
+IsTextOfSales Sales names sales text = text ≡ listing_text names sales
+IsTextOfSales (Bars width) names sales text =
     (table : List Bar) × AreBarsOf width sales table × (text ≡ bars_text names table)
+
+-- the text that a query asks for of a message list
+abbrev pub IsTextOfMessages : Meaning → List Placed → List ℕ → Type 0
+IsTextOfMessages query messages text =
+    IsTextOfSales query.what (name_of (directory_rows messages)) (selected_sales query messages) text
+
+-- ---- the answer: a text, or a fault
+
+-- over messages: the first order reference that is given again; else the first that an execution names and no
+-- message before it gives; else the text that is asked for
+abbrev pub IsAnswerToMessages : List Placed → Meaning → Result (List ℕ) DayFault → Type 0
+IsAnswerToMessages messages query answer =
+    MatchOption (first_repeated (order_rows messages))
+    (MatchOption (first_unknown (order_rows messages) (executions messages))
+    ((text : List ℕ) × IsTextOfMessages query messages text × (answer ≡ Ok text))
+    (λ unknown. answer ≡ Err (UnknownReference unknown.place unknown.order_no)))
+    (λ repeated. answer ≡ Err (RepeatedReference repeated.place repeated.order_no))
 
 -- what is told of a frame whose length is wrong
 abbrev pub wrong_length_at : PlacedBody → DayFault
@@ -76,40 +98,19 @@ wrong_length_at frame =
     let fault = length_fault_of frame.body in
     WrongLength frame.place fault.kind fault.length fault.wanted
 
--- the first fault that there is, in this order
-abbrev pub fault_of : Option PlacedBody → Option OrderRow → Option Execution → Option DayFault
-fault_of (Some frame) repeated unknown = Some (wrong_length_at frame)
-fault_of None (Some row) unknown = Some (RepeatedReference row.place row.order_no)
-fault_of None None (Some execution) = Some (UnknownReference execution.place execution.order_no)
-fault_of None None None = None
+-- over frames: the first wrong length; else what answers to their messages
+abbrev pub IsAnswerToFrames : List PlacedBody → Meaning → Result (List ℕ) DayFault → Type 0
+IsAnswerToFrames frames query answer =
+    MatchOption (first_wrong frames)
+    (IsAnswerToMessages (messages_of frames) query answer)
+    (λ wrong. answer ≡ Err (wrong_length_at wrong))
 
--- the fault of a message list with no wrong length
-abbrev pub reference_fault : List Placed → Option DayFault
-reference_fault messages =
-    fault_of None (first_repeated (order_rows messages)) (first_unknown (order_rows messages) (executions messages))
-
--- the fault of a list of frames
-abbrev pub first_fault : List PlacedBody → Option DayFault
-first_fault frames =
-    let messages = messages_of frames in
-    fault_of (first_wrong frames)
-    (first_repeated (order_rows messages)) (first_unknown (order_rows messages) (executions messages))
-
--- the text that a query asks for of a message list
-abbrev pub IsTextFor : Meaning → List Placed → List ℕ → Type 0
-IsTextFor query messages text =
-    IsTextOf query.what (name_of (directory_rows messages)) (selected_sales query messages) text
-
--- the answer over the frames of a whole file: a text where there is no fault, else the first fault
-abbrev pub IsAnswerOver : List PlacedBody → Meaning → Result (List ℕ) DayFault → Type 0
-IsAnswerOver frames query (Ok text) = (first_fault frames ≡ None) × IsTextFor query (messages_of frames) text
-IsAnswerOver frames query (Err fault) = first_fault frames ≡ Some fault
-
--- a truncated file is told as such; else its frames have the answer
+-- over a file: its truncation; else what answers to its frames. No file has both, as day_file's `one_reading`
+-- says; and no file and query have two answers, as `one_answer` says.
 abbrev pub IsAnswer : List ℕ → Meaning → Result (List ℕ) DayFault → Type 0
 IsAnswer file query answer =
     ((place : ℕ) × IsTruncatedAt file place × (answer ≡ Err (Truncated place)))
-    ⊎ ((frames : List PlacedBody) × StandsFor frames file × IsAnswerOver frames query answer)
+    ⊎ ((frames : List PlacedBody) × StandsFor frames file × IsAnswerToFrames frames query answer)
 
 -- what an answer tells: a text, or a fault
 abbrev pub told_by : {A : Type 0} → Answer A → Result (List ℕ) DayFault

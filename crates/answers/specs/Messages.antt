@@ -1,4 +1,5 @@
 -- The message list of a file's frames, and the rows that messages give.
+-- To be believed.
 use Rattle.std.specs.Prelude.{ℕ, List, Option, Some, None, filter, filter_map, ◌==◌, if◌then◌else◌}
 use Rattle.itch_messages.specs.Body.{message_of, has_wrong_length}
 use Rattle.itch_messages.specs.declared.message.Message.{Message}
@@ -48,7 +49,7 @@ execution_at place (Executed executed) = Some (record {
 })
 execution_at place _ = None
 
--- a sale with a price of its own: a printable execution with price, a trade, a cross
+-- a sale with a price of its own: a printable execution with price (89 is the letter Y), a trade, a cross
 abbrev pub own_priced_at : ℕ → Message → Option Sale
 own_priced_at place (ExecutedAt executed) = if executed.printable == 89 then Some (record {
   place = place;

@@ -1,4 +1,3 @@
 pub mod Counted
 pub mod Runs
-pub mod Rows
 pub mod Steps

@@ -2,12 +2,10 @@
 #![tactic(auto)]
 
 mod calls;
-mod rows;
+mod refused;
 mod run_fault;
 mod settings;
 mod sink;
-#[cfg(test)]
-mod tests;
 
 pub use answers::{Answer, DayFault, Text, one_answer};
 pub use calls::plain::plain;
