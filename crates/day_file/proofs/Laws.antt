@@ -57,14 +57,14 @@ frames_within bytes frames s = ends_by (length bytes) 0 frames (omega (arith, ap
 -- ---- one reading
 
 pub frames_are_one : (bytes : List ℕ) (some others : List PlacedBody) → StandsFor some bytes → StandsFor others bytes → some ≡ others
-frames_are_one bytes some others p q = (same_reading 0 bytes some others [] [] (IsReading-whole bytes some p) (IsReading-whole bytes others q)).0
+frames_are_one bytes some others p q = (same_reading 0 bytes some others [] [] (IsReading-whole 0 bytes some p) (IsReading-whole 0 bytes others q)).0
 
 pub not_both : (bytes : List ℕ) (frames : List PlacedBody) (place : ℕ) → StandsFor frames bytes → ¬ IsTruncatedAt bytes place
 not_both bytes frames place s t =
-    let e = (same_reading 0 bytes frames t.front.0 [] (drop place bytes) (IsReading-whole bytes frames s) (IsReading-truncated bytes place t.front.0 t t.front.1)).1 in
+    let e = (same_reading 0 bytes frames t.front.0 [] (drop place bytes) (IsReading-whole 0 bytes frames s) (IsReading-truncated 0 bytes place t.front.0 t t.front.1)).1 in
     omega (arith, ap length e, length-drop place bytes, t.within)
 
 pub truncated_once : (bytes : List ℕ) (one other : ℕ) → IsTruncatedAt bytes one → IsTruncatedAt bytes other → one ≡ other
 truncated_once bytes one other p q =
-    let e = (same_reading 0 bytes p.front.0 q.front.0 (drop one bytes) (drop other bytes) (IsReading-truncated bytes one p.front.0 p p.front.1) (IsReading-truncated bytes other q.front.0 q q.front.1)).1 in
+    let e = (same_reading 0 bytes p.front.0 q.front.0 (drop one bytes) (drop other bytes) (IsReading-truncated 0 bytes one p.front.0 p p.front.1) (IsReading-truncated 0 bytes other q.front.0 q q.front.1)).1 in
     omega (arith, ap length e, length-drop one bytes, length-drop other bytes, p.within, q.within)

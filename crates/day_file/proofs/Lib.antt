@@ -1,4 +1,5 @@
 pub mod Laws
+pub mod Moved
 pub mod Pieces
 pub mod Readings
 pub mod Walks

@@ -1,11 +1,11 @@
 -- A file has one list of frames: what whole frames and a stuck rest say of the bytes that they make.
-use Rattle.std.proofs.Common.{◌≡◌, ℕ, ◌+◌, ◌<◌, ◌≤◌, List, ◌⊎◌, inl, inr, [], ◌∷◌, ◌++◌, length, take, drop, All, refl, sym, ap, ap₂, ◌∙◌, subst, ⊎_elim, append_assoc, append-nil, arith}
-use Rattle.std.proofs.Math.Seq.{take-append_seam, take-length, drop-append_seam}
-use Rattle.std.proofs.lemmas.List.{length-append, length-take-le, take-append-drop}
+use Rattle.std.proofs.Common.{◌≡◌, ℕ, ◌+◌, List, ◌⊎◌, inl, inr, [], ◌∷◌, ◌++◌, length, take, drop, All, refl, sym, ap, ap₂, ◌∙◌, subst, append_assoc, append-nil, arith}
+use Rattle.std.proofs.Math.Seq.{take-append_seam, drop-append_seam}
+use Rattle.std.proofs.lemmas.List.{length-append, take-append-drop}
 use Rattle.std.proofs.lemmas.List.Elements.{All-tail}
 use Rattle.byteorder.specs.Endian.{big_number}
 use Rattle.byteorder.specs.Numbers.{big_number-reads_back}
-use Rattle.day_file.specs.Frames.{PlacedBody, frame_of, spelling, StandAt, IsShort, StandsFor, IsStuck, IsTruncatedAt, IsWhole}
+use Rattle.day_file.specs.Frames.{PlacedBody, frame_of, spelling, StandAt, IsShort, StandsFrom, IsStuck, IsTruncatedAt, IsWhole}
 
 -- ---- one frame at the head of bytes
 
@@ -38,7 +38,7 @@ pub record IsReading (place : ℕ) (bytes : List ℕ) (frames : List PlacedBody)
   pub split : bytes ≡ spelling frames ++ rest
   pub stuck : IsStuck rest
 
-head_short : (x : PlacedBody) (xs : List PlacedBody) → AreShort (x ∷ xs) → IsShort x.body
+pub head_short : (x : PlacedBody) (xs : List PlacedBody) → AreShort (x ∷ xs) → IsShort x.body
 head_short x xs h = h 0 x (omega arith)
 
 pub tail_short : (x : PlacedBody) (xs : List PlacedBody) → AreShort (x ∷ xs) → AreShort xs
@@ -77,19 +77,19 @@ IsStuck-nil body rest h e = absurd (cc)
 
 -- ---- whole files and truncated ones
 
-pub IsReading-whole : (bytes : List ℕ) (frames : List PlacedBody) → StandsFor frames bytes → IsReading 0 bytes frames []
-IsReading-whole bytes frames s = record {
+pub IsReading-whole : (start : ℕ) (bytes : List ℕ) (frames : List PlacedBody) → StandsFrom start frames bytes → IsReading start bytes frames []
+IsReading-whole start bytes frames s = record {
   places = s.places;
   short = s.short;
   split = s.whole ∙ sym (append-nil (spelling frames));
   stuck = IsStuck-nil;
 }
 
-pub IsReading-truncated : (bytes : List ℕ) (place : ℕ) (frames : List PlacedBody) → IsTruncatedAt bytes place → StandsFor frames (take place bytes) → IsReading 0 bytes frames (drop place bytes)
-IsReading-truncated bytes place frames t s = record {
+pub IsReading-truncated : (start : ℕ) (bytes : List ℕ) (count : ℕ) (frames : List PlacedBody) → IsTruncatedAt bytes count → StandsFrom start frames (take count bytes) → IsReading start bytes frames (drop count bytes)
+IsReading-truncated start bytes count frames t s = record {
   places = s.places;
   short = s.short;
-  split = sym (take-append-drop place bytes) ∙ ap (λ l. l ++ drop place bytes) s.whole;
+  split = sym (take-append-drop count bytes) ∙ ap (λ l. l ++ drop count bytes) s.whole;
   stuck = t.stuck;
 }
 
@@ -108,46 +108,3 @@ reading_ends bytes frames (x ∷ rest) r =
         stuck = subst IsStuck (sym back) r.stuck;
       },
     )
-
--- ---- what a caller of `frames` knows
-
--- the frames end at this place: the end of a whole file, or the place where the file is truncated
-pub record EndsAt (bytes : List ℕ) (frames : List PlacedBody) (place : ℕ) : Type 0 where
-  pub stands : StandsFor frames (take place bytes)
-  pub length_is : length (spelling frames) ≡ place
-  pub within : place ≤ length bytes
-  pub whole : place ≡ length bytes → IsWhole bytes
-  pub truncated : place < length bytes → IsTruncatedAt bytes place
-
-length_of_front : (bytes : List ℕ) (frames : List PlacedBody) (place : ℕ) → place ≤ length bytes → StandsFor frames (take place bytes) → length (spelling frames) ≡ place
-length_of_front bytes frames place h s = ap length (sym s.whole) ∙ length-take-le place bytes h
-
--- what the clauses of `frames` say together
-pub EndsAt-from_clauses : (bytes : List ℕ) (frames : List PlacedBody) → ((all : List PlacedBody) → StandsFor all bytes → frames ≡ all)
-    → ((place : ℕ) → IsTruncatedAt bytes place → StandsFor frames (take place bytes)) → (IsWhole bytes ⊎ ((place : ℕ) × IsTruncatedAt bytes place)) → (place : ℕ) × EndsAt bytes frames place
-EndsAt-from_clauses bytes frames whole truncated either =
-    ⊎_elim
-    (λ w.
-    let all_bytes : take (length bytes) bytes ≡ bytes = take-length bytes in
-    let stands : StandsFor frames (take (length bytes) bytes) = subst (StandsFor frames) (sym all_bytes) (subst (λ l. StandsFor l bytes) (sym (whole w.0 w.1)) w.1) in (
-      length bytes,
-      record {
-        stands = stands;
-        length_is = length_of_front bytes frames (length bytes) (omega arith) stands;
-        within = omega arith;
-        whole = λ _. w;
-        truncated = λ h. absurd (omega (arith, h));
-      },
-    ))
-    (λ t.
-    let stands = truncated t.0 t.1 in (
-      t.0,
-      record {
-        stands = stands;
-        length_is = length_of_front bytes frames t.0 (omega (arith, t.1.within)) stands;
-        within = omega (arith, t.1.within);
-        whole = λ e. absurd (omega (arith, t.1.within, e));
-        truncated = λ _. t.1;
-      },
-    ))
-    either

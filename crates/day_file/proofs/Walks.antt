@@ -1,13 +1,15 @@
 -- The cursor's walk: one step of it, and that it reads the bytes.
-use Rattle.std.proofs.Common.{◌≡◌, ℕ, zero, suc, ◌+◌, ◌*◌, ◌/◌, ◌%◌, ◌<◌, ◌≤◌, ◌^◌, ◌&&◌, Bool, true, false, List, ◌⊎◌, [], ◌∷◌, ◌++◌, length, take, drop, slice_index, Option, Some, None, refl, sym, ap, ◌∙◌, subst, append_assoc, arith, length-drop, nat_le, if◌then◌else◌}
+use Rattle.std.proofs.Common.{◌≡◌, ℕ, zero, suc, ◌+◌, ◌*◌, ◌/◌, ◌%◌, ◌<◌, ◌≤◌, ◌^◌, ◌==◌, ◌&&◌, Bool, true, false, List, ◌⊎◌, [], ◌∷◌, ◌++◌, length, take, drop, slice_index, Option, Some, None, MatchOption, ⊎_elim, refl, sym, ap, ap₂, ◌∙◌, subst, append_assoc, arith, length-drop, nat_le, if◌then◌else◌}
 use Rattle.std.specs.Option.{option_map_or}
-use Rattle.std.proofs.lemmas.Bool.{leb-true, le-leb}
-use Rattle.std.proofs.lemmas.List.{length-append, take-append-drop, length-take-le, get_or-drop}
+use Rattle.std.proofs.lemmas.Bool.{eqb-true, leb-true, le-leb}
+use Rattle.std.proofs.lemmas.List.{length-append, take-append-drop, length-take-le, get_or-drop, drop-drop}
+use Rattle.std.proofs.Math.Seq.{drop-length}
 use Rattle.std.proofs.lemmas.List.Elements.{All-cons, All-nil}
 use Rattle.byteorder.specs.Endian.{big_number}
-use Rattle.day_file.specs.Frames.{PlacedBody, frame_of, spelling, StandAt, IsShort, IsStuck, StandsFor, IsTruncatedAt, IsWhole}
-use Rattle.day_file.specs.Walk.{first_length, walk}
-use Rattle.day_file.proofs.Readings.{IsReading, IsReading-whole, IsReading-truncated, same_reading, reading_ends, IsStuck-nil, length_told}
+use Rattle.day_file.specs.Frames.{PlacedBody, frame_of, spelling, StandAt, IsShort, IsStuck, StandsFrom, IsTruncatedAt, IsWhole}
+use Rattle.day_file.specs.Walk.{first_length, left_of, place_if_any, truncated_after, walk}
+use Rattle.day_file.proofs.Moved.{moved, stands_moved}
+use Rattle.day_file.proofs.Readings.{IsReading, IsReading-whole, IsReading-truncated, same_reading, reading_ends, IsStuck-nil, length-spelling, length_told}
 
 -- ---- the first frame
 
@@ -152,19 +154,83 @@ walk_next place size bytes prefix after body rest two p a told fits b r n =
 
 -- ---- the walk over a whole file
 
-pub walk_whole : (bytes : List ℕ) (all : List PlacedBody) → AreBytes bytes → StandsFor all bytes → walk (length bytes) 0 bytes ≡ all
-walk_whole bytes all b s =
-    let r = walk_reads (length bytes) 0 bytes (omega arith) b in
-    (same_reading 0 bytes _ all r.0 [] r.1 (IsReading-whole bytes all s)).0
+pub walk_whole : (start : ℕ) (bytes : List ℕ) (all : List PlacedBody) → AreBytes bytes → StandsFrom start all bytes → walk (length bytes) start bytes ≡ all
+walk_whole start bytes all b s =
+    let r = walk_reads (length bytes) start bytes (omega arith) b in
+    (same_reading start bytes _ all r.0 [] r.1 (IsReading-whole start bytes all s)).0
 
-pub walk_truncated : (bytes : List ℕ) (place : ℕ) → AreBytes bytes → IsTruncatedAt bytes place → StandsFor (walk (length bytes) 0 bytes) (take place bytes)
-walk_truncated bytes place b t =
-    let r = walk_reads (length bytes) 0 bytes (omega arith) b in
-    let e = (same_reading 0 bytes _ t.front.0 r.0 (drop place bytes) r.1 (IsReading-truncated bytes place t.front.0 t t.front.1)).0 in
-    subst (λ frames. StandsFor frames (take place bytes)) (sym e) t.front.1
+pub walk_truncated : (start : ℕ) (bytes : List ℕ) (count : ℕ) → AreBytes bytes → IsTruncatedAt bytes count → StandsFrom start (walk (length bytes) start bytes) (take count bytes)
+walk_truncated start bytes count b t =
+    let r = walk_reads (length bytes) start bytes (omega arith) b in
+    let front = stands_moved start (take count bytes) t.front.0 t.front.1 in
+    let e = (same_reading start bytes _ (moved start t.front.0) r.0 (drop count bytes) r.1 (IsReading-truncated start bytes count (moved start t.front.0) t front)).0 in
+    subst (λ frames. StandsFrom start frames (take count bytes)) (sym e) front
 
 -- bytes are whole frames, or truncated at a place
 pub whole_or_truncated : (bytes : List ℕ) → AreBytes bytes → IsWhole bytes ⊎ ((place : ℕ) × IsTruncatedAt bytes place)
 whole_or_truncated bytes b =
     let r = walk_reads (length bytes) 0 bytes (omega arith) b in
     reading_ends bytes _ r.0 r.1
+
+-- ---- what stands behind the frames
+
+some_place : (place : ℕ) (bytes : List ℕ) → 0 < length bytes → place_if_any place bytes ≡ Some place
+some_place place [] h = absurd (omega (arith, h))
+some_place place (byte ∷ bytes) h = refl
+
+-- the walk knows how the bytes end
+pub walk_ends : (start : ℕ) (bytes : List ℕ) → AreBytes bytes →
+    MatchOption (left_of start bytes).truncated (IsWhole bytes) (λ end. (count : ℕ) × (end ≡ start + count) × IsTruncatedAt bytes count)
+walk_ends start bytes b =
+    let frames = walk (length bytes) start bytes in
+    let Ends : Option ℕ → Type 0 = λ o. MatchOption o (IsWhole bytes) (λ end. (count : ℕ) × (end ≡ start + count) × IsTruncatedAt bytes count) in
+    ⊎_elim
+    (λ w.
+    let all = stands_moved start bytes w.0 w.1 in
+    let spelled : spelling frames ≡ bytes = ap spelling (walk_whole start bytes (moved start w.0) b all) ∙ sym all.whole in
+    let none : truncated_after frames start bytes ≡ None =
+    ap (λ n. place_if_any (start + n) (drop n bytes)) (ap length spelled) ∙ ap (place_if_any (start + length bytes)) (drop-length bytes) in
+    subst Ends (sym none) w)
+    (λ t.
+    let front = walk_truncated start bytes t.0 b t.1 in
+    let n : length (spelling frames) ≡ t.0 = ap length (sym front.whole) ∙ length-take-le t.0 bytes (omega (arith, t.1.within)) in
+    let some : truncated_after frames start bytes ≡ Some (start + t.0) =
+    ap (λ n. place_if_any (start + n) (drop n bytes)) n ∙ some_place (start + t.0) (drop t.0 bytes) (omega (arith, t.1.within, length-drop t.0 bytes)) in
+    subst Ends (sym some) (t.0, refl, t.1))
+    (whole_or_truncated bytes b)
+
+-- the frames of a walk are no longer than the bytes
+pub walk_within : (start : ℕ) (bytes : List ℕ) → AreBytes bytes → length (spelling (walk (length bytes) start bytes)) ≤ length bytes
+walk_within start bytes b =
+    let r = walk_reads (length bytes) start bytes (omega arith) b in
+    omega (arith, ap length r.1.split, length-append (spelling (walk (length bytes) start bytes)) r.0)
+
+-- what is left behind the first frame
+pub rest_stands : (bytes after body rest : List ℕ) (size : ℕ) → after ≡ drop 2 bytes → rest ≡ drop size after → length body ≡ size → drop (2 + length body) bytes ≡ rest
+rest_stands bytes after body rest size a r n =
+    sym (drop-drop (length body) 2 bytes) ∙ ap (drop (length body)) (sym a) ∙ ap (λ k. drop k after) n ∙ sym r
+
+-- behind the first frame the bytes end as they did
+pub same_end : (place : ℕ) (bytes rest : List ℕ) (first : PlacedBody) (frames : List PlacedBody) → drop (2 + length first.body) bytes ≡ rest
+    → truncated_after frames (place + (2 + length first.body)) rest ≡ truncated_after (first ∷ frames) place bytes
+same_end place bytes rest first frames r =
+    let k = 2 + length first.body in
+    let m = length (spelling frames) in
+    let n : length (spelling (first ∷ frames)) ≡ k + m = omega (arith, length-spelling first frames) in
+    let e : (place + k) + m ≡ place + (k + m) = omega arith in
+    ap (λ l. place_if_any ((place + k) + m) (drop m l)) (sym r)
+    ∙ ap (λ l. place_if_any ((place + k) + m) l) (drop-drop m k bytes)
+    ∙ ap₂ place_if_any e (ap (λ i. drop i bytes) (omega arith))
+    ∙ ap (λ i. place_if_any (place + i) (drop i bytes)) (sym n)
+
+-- where no frame is left, the end is here
+pub end_here : (place : ℕ) (rest : List ℕ) → walk (length rest) place rest ≡ [] → (left_of place rest).truncated ≡ place_if_any place rest
+end_here place rest none = ap (λ frames. truncated_after frames place rest) none ∙ ap (λ n. place_if_any n rest) (omega arith)
+
+pub none_left : (place : ℕ) (rest : List ℕ) → (length rest == 0) ≡ true → place_if_any place rest ≡ None
+none_left place [] e = refl
+none_left place (byte ∷ rest) e = absurd (omega (arith, eqb-true (length (byte ∷ rest)) 0 e))
+
+pub some_left : (place : ℕ) (rest : List ℕ) → (length rest == 0) ≡ false → place_if_any place rest ≡ Some place
+some_left place [] e = absurd (cc)
+some_left place (byte ∷ rest) e = refl

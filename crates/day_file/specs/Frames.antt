@@ -1,5 +1,5 @@
 -- The frames of a day file: each body stands after its length, in two bytes, the high one first.
-use Rattle.std.specs.Prelude.{◌≡◌, ℕ, ◌+◌, ◌<◌, ◌^◌, List, [], ◌∷◌, ◌++◌, length, take, drop, All}
+use Rattle.std.specs.Prelude.{◌≡◌, ℕ, ◌+◌, ◌<◌, ◌^◌, List, [], ◌∷◌, ◌++◌, length, take, drop, All, Option}
 use Rattle.std.specs.List.{flat_map}
 use Rattle.byteorder.specs.Endian.{big_bytes}
 
@@ -26,11 +26,15 @@ StandAt place (frame ∷ frames) =
 abbrev pub IsShort : List ℕ → Type 0
 IsShort body = length body < 2 ^ 16
 
--- these are the frames of these bytes, each with the number of bytes before it
-pub record StandsFor (frames : List PlacedBody) (bytes : List ℕ) : Type 0 where
-  pub places : StandAt 0 frames
+-- these are the frames of these bytes, of which the first stands at this place
+pub record StandsFrom (start : ℕ) (frames : List PlacedBody) (bytes : List ℕ) : Type 0 where
+  pub places : StandAt start frames
   pub short : All (λ frame. IsShort frame.body) frames
   pub whole : bytes ≡ spelling frames
+
+-- these are the frames of these bytes, each with the number of bytes before it
+abbrev pub StandsFor : List PlacedBody → List ℕ → Type 0
+StandsFor frames bytes = StandsFrom 0 frames bytes
 
 -- the bytes are whole frames
 abbrev pub IsWhole : List ℕ → Type 0
@@ -45,3 +49,9 @@ pub record IsTruncatedAt (bytes : List ℕ) (place : ℕ) : Type 0 where
   pub front : IsWhole (take place bytes)
   pub within : place < length bytes
   pub stuck : IsStuck (drop place bytes)
+
+-- what a `Frames` is seen as: the frames that are left, in order, and the place where the bytes are
+-- truncated behind them, if they are
+pub record FramesLeft : Type 0 where
+  pub frames : List PlacedBody
+  pub truncated : Option ℕ

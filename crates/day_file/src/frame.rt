@@ -1,9 +1,10 @@
-ghost use Rattle.std.specs.Prelude.{◌≡◌, ◌≤◌, ◌<◌, ◌^◌, ◌++◌, ◌⊎◌, ℕ, List, [], ◌∷◌, length, take, OnOk, OnErr};
-ghost use Rattle.std.specs.Iterator.{YieldsFirstBy, item_count};
-ghost use Rattle.day_file.specs.Frames.{IsTruncatedAt, IsWhole, PlacedBody, StandsFor, frame_of};
-ghost use Rattle.day_file.specs.Placed.{placed_body};
+ghost use Rattle.std.specs.Prelude.{◌≡◌, ◌+◌, ◌≤◌, ◌<◌, ◌^◌, ◌++◌, ℕ, List, [], length, take, None, Some, MatchOption, MatchResult, OnOk, OnErr};
+ghost use Rattle.std.specs.Iterator.{item_count};
+ghost use Rattle.day_file.specs.Frames.{FramesLeft, IsTruncatedAt, IsWhole, PlacedBody, StandsFrom, frame_of, spelling};
+ghost use Rattle.day_file.specs.Placed.{GivesFrame, frames_left};
+ghost use Rattle.lists.specs.declared.limits.TheConstants.{LONGEST_FILE};
 
-use crate::{LONGEST_FILE, OutOfMemory};
+use crate::{OutOfMemory, Truncated};
 use byteorder::{BigEndian, ByteOrder};
 use std::alloc::Allocator;
 use std::marker::Model;
@@ -18,7 +19,8 @@ pub struct Frame<'a> {
     pub body: &'a [u8],
 }
 
-/// The frames of a day file that are left, in order, which is how contracts see it.
+/// The frames of a day file that are left, in order, and the place where the file is truncated
+/// behind them, if it is.
 #[derive(Debug, Drop)]
 pub struct Frames<'a> {
     place: u64,
@@ -26,40 +28,53 @@ pub struct Frames<'a> {
 }
 
 impl<'a> Model for Frames<'a> {
-    ghost use Rattle.std.specs.Prelude.{List, ◌+◌, ◌≤◌, length};
+    ghost use Rattle.std.specs.Prelude.{◌+◌, ◌≤◌, length};
     ghost use Rattle.lists.specs.declared.limits.TheConstants.{LONGEST_FILE};
-    ghost use Rattle.day_file.specs.Frames.{PlacedBody};
-    ghost use Rattle.day_file.specs.Walk.{walk};
+    ghost use Rattle.day_file.specs.Frames.{FramesLeft};
+    ghost use Rattle.day_file.specs.Walk.{left_of};
 
-    ghost Value = { List PlacedBody };
+    ghost Value = { FramesLeft };
 
-    ghost view = { λ it. walk (length it.rest.now) it.place it.rest.now };
+    ghost view = { λ it. left_of it.place it.rest.now };
 
     ghost invariant = { λ it. it.place + length it.rest.now ≤ LONGEST_FILE };
 }
 
 impl<'a> Frames<'a> {
-    // The frames of these bytes, which a file begins with.
-    pub(crate) fn of(bytes: &'a [u8]) -> Self
-        requires { length bytes.now ≤ LONGEST_FILE }
-        ensures whole { (all : List PlacedBody) → StandsFor all bytes.now → result ≡ all }
-        ensures truncated { (place : ℕ) → IsTruncatedAt bytes.now place →
-            StandsFor result (take place bytes.now) }
-        ensures either { IsWhole bytes.now ⊎ ((place : ℕ) × IsTruncatedAt bytes.now place) }
+    // The frames of these bytes, of which the first stands at this place.
+    pub(crate) fn of(place: u64, bytes: &'a [u8]) -> Self
+        requires { place + length bytes.now ≤ LONGEST_FILE }
+        ensures whole { (all : List PlacedBody) → StandsFrom place all bytes.now →
+            result.frames ≡ all }
+        ensures truncated { (count : ℕ) → IsTruncatedAt bytes.now count →
+            StandsFrom place result.frames (take count bytes.now) }
+        ensures end { MatchOption result.truncated (IsWhole bytes.now) (λ end.
+            (count : ℕ) × (end ≡ place + count) × IsTruncatedAt bytes.now count) }
+        ensures within { length (spelling result.frames) ≤ length bytes.now }
     {
-        Frames {
-            place: 0,
-            rest: bytes,
+        Frames { place, rest: bytes }
+    }
+
+    /// Walks over the frames that are left. It is an error exactly if the bytes are truncated
+    /// behind them.
+    pub fn finish(mut self) -> Result<(), Truncated>
+        ensures { MatchResult result (λ _. self.entry.truncated ≡ None)
+            (λ fault. self.entry.truncated ≡ Some fault.place) }
+    {
+        while let Some(_) = self.next() {}
+        if self.rest.is_empty() {
+            return Ok(());
         }
+        Err(Truncated { place: self.place })
     }
 }
 
 impl<'a> Iterator for Frames<'a> {
     type Item = Frame<'a>;
 
-    ghost next_gives = { YieldsFirstBy placed_body (λ left. left) };
+    ghost next_gives = { GivesFrame };
 
-    ghost remaining = { item_count (λ left. left) };
+    ghost remaining = { item_count frames_left };
 
     #[inline(always)]
     fn next(&mut self) -> Option<Frame<'a>> {

@@ -1,6 +1,2 @@
-pub mod Listings
-pub mod Collecting
-pub mod OneAnswer
-pub mod Counts
-pub mod Trades
+pub mod Steps
 pub mod Written

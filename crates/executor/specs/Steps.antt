@@ -1,34 +1,50 @@
--- What the steps of the plain program give each other.
-use Rattle.std.specs.Prelude.{◌≡◌, ℕ, List, Some, None, Result, Ok, Err}
-use Rattle.day_file.specs.Frames.{PlacedBody}
+-- What the steps of `plain` give each other.
+-- Derived: no public clause cites it.
+use Rattle.std.specs.Prelude.{◌≡◌, ℕ, ◌<◌, ◌+◌, List, None, MatchOption, IsSomeAnd, length}
+use Rattle.lists.specs.declared.limits.TheConstants.{TRADE_LIMIT}
+use Rattle.day_file.specs.Frames.{PlacedBody, StandsFor}
 use Rattle.order_table.specs.declared.row.OrderRow.{OrderRow}
 use Rattle.order_table.specs.Orders.{first_repeated}
 use Rattle.probe.specs.declared.rows.Execution.{Execution}
-use Rattle.probe.specs.Pricing.{first_unknown, priced}
-use Rattle.query.specs.Meaning.{Meaning}
-use Rattle.executor.specs.Answers.{IsTextFor, fault_of, reference_fault, wrong_length_at}
-use Rattle.executor.specs.Messages.{Placed, messages_of, first_wrong}
-use Rattle.executor.specs.Rows.{AreFew, AreRowsOf, FitRows}
-use Rattle.executor.specs.declared.answer.DayFault.{DayFault}
-use Rattle.executor.specs.declared.answering.Collected.{Collected}
-use Rattle.executor.specs.declared.answering.Collected.TheVariants.{Rows, Wrong}
-use Rattle.executor.specs.declared.answering.Pricing.{Pricing}
-use Rattle.executor.specs.declared.answering.Pricing.TheVariants.{Sales, Faulty}
+use Rattle.probe.specs.Pricing.{first_unknown}
+use Rattle.answers.specs.DayRows.{AreByPlace, DayRows, rows_of}
+use Rattle.answers.specs.Messages.{Placed, messages_of, first_wrong}
+use Rattle.answers.specs.declared.day_fault.DayFault.{DayFault}
+use Rattle.answers.specs.declared.day_fault.DayFault.TheVariants.{RepeatedReference, UnknownReference}
+use Rattle.executor.specs.declared.refused.Refused.{Refused}
+use Rattle.executor.specs.declared.refused.Refused.TheVariants.{Day, OutOfMemory}
 
--- the rows of the frames' messages, or the first wrong length
-abbrev pub IsCollected : {A : Type 0} → List PlacedBody → Collected A → Type 0
-IsCollected frames (Rows rows) =
-    (first_wrong frames ≡ None) × AreRowsOf (messages_of frames) rows × FitRows rows × AreFew rows
-IsCollected frames (Wrong fault) =
-    (frame : PlacedBody) × (first_wrong frames ≡ Some frame) × (fault ≡ wrong_length_at frame)
+-- P of the day's fault; nothing is said where memory was refused
+abbrev pub IfDay : Refused → (DayFault → Type 0) → Type 0
+IfDay (Day fault) P = P fault
+IfDay OutOfMemory P = Unit {0}
 
--- the sales of the priced executions, or the first fault in the order references
-abbrev pub IsPriced : {A : Type 0} → List OrderRow → List Execution → Pricing A → Type 0
-IsPriced rows all (Sales sales) =
-    (fault_of None (first_repeated rows) (first_unknown rows all) ≡ None) × (sales.items ≡ priced rows all)
-IsPriced rows all (Faulty fault) = fault_of None (first_repeated rows) (first_unknown rows all) ≡ Some fault
+-- fewer trades than a file of the greatest length has room for
+abbrev pub AreFew : DayRows → Type 0
+AreFew rows = length rows.executions + length rows.own_priced < TRADE_LIMIT
 
--- the answer of a file whose lengths are right
-abbrev pub IsAnswerOf : List Placed → Meaning → Result (List ℕ) DayFault → Type 0
-IsAnswerOf messages query (Ok text) = (reference_fault messages ≡ None) × IsTextFor query messages text
-IsAnswerOf messages query (Err fault) = reference_fault messages ≡ Some fault
+-- the rows of the messages of a whole file, all of whose lengths are right
+pub record AreOfDay (file : List ℕ) (rows : DayRows) : Type 0 where
+  pub frames : List PlacedBody
+  pub stands : StandsFor frames file
+  pub right : first_wrong frames ≡ None
+  pub are : rows ≡ rows_of (messages_of frames)
+  pub few : AreFew rows
+
+-- the rows of some messages, by place
+pub record AreOfMessages (rows : DayRows) : Type 0 where
+  pub messages : List Placed
+  pub by_place : AreByPlace messages
+  pub are : rows ≡ rows_of messages
+  pub few : AreFew rows
+
+-- no reference is given again, and none is named that isn't known
+abbrev pub HaveNoFault : List OrderRow → List Execution → Type 0
+HaveNoFault orders executions = (first_repeated orders ≡ None) × (first_unknown orders executions ≡ None)
+
+-- the first fault in the references
+abbrev pub IsReferenceFault : List OrderRow → List Execution → DayFault → Type 0
+IsReferenceFault orders executions fault =
+    MatchOption (first_repeated orders)
+    (IsSomeAnd (first_unknown orders executions) (λ unknown. fault ≡ UnknownReference unknown.place unknown.order_no))
+    (λ repeated. fault ≡ RepeatedReference repeated.place repeated.order_no)

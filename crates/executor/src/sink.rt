@@ -43,7 +43,9 @@ pub trait Sink {
 }
 
 /// The sink over any writer. Any error of the writer, an interruption too, and a write of no byte of
-/// a slice that is not empty are failures. That a writer passes on what it keeps back, no clause says.
+/// a slice that is not empty are failures. Each call of the sink calls the writer once, and none is
+/// made after an error: no clause of a writer lets that be said, so tests count the calls. That a
+/// writer passes on what it keeps back, no clause says.
 #[derive(Debug, Drop)]
 pub struct CountedSink<W: Write> {
     writer: W,

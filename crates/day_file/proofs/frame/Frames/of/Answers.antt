@@ -1,12 +1,15 @@
 use Rattle.std.proofs.Common.{arith}
-use Rattle.day_file.proofs.Walks.{walk_whole, walk_truncated, whole_or_truncated}
+use Rattle.day_file.proofs.Walks.{walk_ends, walk_truncated, walk_whole, walk_within}
 use Rattle.day_file.proofs.frame.Frames.of.Goals as goal
 
 pub returns-clause-whole : goal.returns-clause-whole
-returns-clause-whole c = λ all s. walk_whole c.args.bytes.now all (λ k. let f = c.type_inv.bytes k in omega arith) s
+returns-clause-whole c = λ all s. walk_whole c.args.place c.args.bytes.now all (λ k. let f = c.type_inv.bytes k in omega arith) s
 
 pub returns-clause-truncated : goal.returns-clause-truncated
-returns-clause-truncated c = λ place t. walk_truncated c.args.bytes.now place (λ k. let f = c.type_inv.bytes k in omega arith) t
+returns-clause-truncated c = λ count t. walk_truncated c.args.place c.args.bytes.now count (λ k. let f = c.type_inv.bytes k in omega arith) t
 
-pub returns-clause-either : goal.returns-clause-either
-returns-clause-either c = whole_or_truncated c.args.bytes.now (λ k. let f = c.type_inv.bytes k in omega arith)
+pub returns-clause-end : goal.returns-clause-end
+returns-clause-end c = walk_ends c.args.place c.args.bytes.now (λ k. let f = c.type_inv.bytes k in omega arith)
+
+pub returns-clause-within : goal.returns-clause-within
+returns-clause-within c = walk_within c.args.place c.args.bytes.now (λ k. let f = c.type_inv.bytes k in omega arith)

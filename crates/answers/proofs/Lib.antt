@@ -1,0 +1,10 @@
+pub mod AnswerOfSteps
+pub mod FewTrades
+pub mod JoinedRows
+pub mod OneAnswer
+pub mod RowsByPlace
+pub mod RowsOfFrames
+pub mod SelectedSales
+pub mod StampedSales
+pub mod TextsByLine
+pub mod TradesOfRows

@@ -1,0 +1,17 @@
+//! What the answer to a query over a day file is, for each program that answers one.
+#![tactic(auto)]
+
+mod answer;
+mod day_fault;
+mod laws;
+mod rows;
+mod text;
+mod texts;
+
+pub use answer::Answer;
+pub use day_fault::DayFault;
+pub use laws::{one_answer, rows_are_joined};
+pub use lists::OutOfMemory;
+pub use rows::Rows;
+pub use text::Text;
+pub use texts::{text_of_bars, text_of_sales};

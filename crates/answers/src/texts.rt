@@ -1,0 +1,48 @@
+ghost use Rattle.std.specs.Prelude.{◌≡◌, ◌<◌, All, IfOk};
+ghost use Rattle.lists.specs.declared.limits.TheConstants.{TIME_LIMIT};
+ghost use Rattle.bars.specs.Texts.{IsWritable, bars_text};
+ghost use Rattle.time_and_sales.specs.Names.{last_row, name_text};
+ghost use Rattle.time_and_sales.specs.Texts.{listing_text};
+
+use crate::OutOfMemory;
+use crate::text::Text;
+use bars::Bar;
+use probe::Sale;
+use std::alloc::Allocator;
+use time_and_sales::Names;
+
+/// The text of time and sales: a header line, then a line for each of these sales, in their order.
+pub fn text_of_sales<A: Allocator + Copy>(
+    alloc: A,
+    sales: &[Sale],
+    names: &Names<A>,
+) -> Result<Text<A>, OutOfMemory>
+    requires { All (λ sale. sale.time < TIME_LIMIT) sales.now }
+    ensures { IfOk result (λ text. text
+        ≡ listing_text (λ locate. name_text locate (last_row names.now locate)) sales.now) }
+{
+    let mut bytes = Vec::new(alloc);
+    time_and_sales::write_header(&mut bytes)?;
+    for sale in sales {
+        time_and_sales::write_sale(&mut bytes, sale, &names.name(sale.locate))?;
+    }
+    Ok(Text::of(bytes))
+}
+
+/// The text of a table of bars: a header line, then a line for each of these bars, in their order.
+pub fn text_of_bars<A: Allocator + Copy>(
+    alloc: A,
+    table: &[Bar],
+    names: &Names<A>,
+) -> Result<Text<A>, OutOfMemory>
+    requires { All IsWritable table.now }
+    ensures { IfOk result (λ text. text
+        ≡ bars_text (λ locate. name_text locate (last_row names.now locate)) table.now) }
+{
+    let mut bytes = Vec::new(alloc);
+    bars::write_header(&mut bytes)?;
+    for bar in table {
+        bars::write_bar(&mut bytes, bar, &names.name(bar.locate))?;
+    }
+    Ok(Text::of(bytes))
+}

@@ -1,0 +1,37 @@
+use Rattle.std.proofs.Common.{◌≡◌, Err, Ok}
+use Rattle.std.proofs.lemmas.Result.{err_from_is_err_and}
+use Rattle.query.specs.Meaning.{Meaning}
+use Rattle.day_file.proofs.Laws.{places_rise}
+use Rattle.answers.specs.Answers.{IsAnswer, IsAnswerToMessages}
+use Rattle.answers.specs.DayRows.{AreByPlace, rows_of}
+use Rattle.answers.specs.Messages.{messages_of}
+use Rattle.answers.proofs.AnswerOfSteps.{messages_answer}
+use Rattle.answers.proofs.RowsByPlace.{messages_by_place}
+use Rattle.executor.specs.Steps.{AreOfDay, AreOfMessages}
+use Rattle.executor.proofs.Steps.{on_day, on_ok}
+use Rattle.executor.proofs.calls.plain.text_of_day.Goals as goal
+
+pub text_of_rows-requires : goal.text_of_rows-requires
+text_of_rows-requires g c =
+    let of = c.in_ok-rows.ensures.rows in
+    record {
+      messages = messages_of of.frames;
+      by_place = messages_by_place of.frames (places_rise 0 of.frames of.stands.places);
+      are = of.are;
+      few = of.few;
+    }
+
+pub returns-in_err-rows-clause-fault : goal.returns-in_err-rows-clause-fault
+returns-in_err-rows-clause-fault g c =
+    let exit = err_from_is_err_and c.from_residual.result c.from_residual.ensures.1 in
+    rw (exit.1, exit.2)
+    (on_day c.in_err-rows.field-0.0 (λ fault. (query : Meaning) → IsAnswer c.args.day.now query (Err fault))
+    (λ fault. IsAnswer c.args.day.now c.args.query.now (Err fault)) (λ fault answers. answers c.args.query.now) c.in_err-rows.ensures.fault)
+
+pub returns-clause-text : goal.returns-clause-text
+returns-clause-text g c =
+    let of = c.in_ok-rows.ensures.rows in
+    let by_place = messages_by_place of.frames (places_rise 0 of.frames of.stands.places) in
+    on_ok c.text_of_rows.result _ _
+    (λ text is. messages_answer c.args.day.now c.args.query.now of.frames (Ok text) of.stands of.right (is (messages_of of.frames) by_place of.are))
+    c.text_of_rows.ensures.text

@@ -1,0 +1,64 @@
+//! What `plain` and `run` answer in the tests.
+ghost use Rattle.std.specs.Prelude.{◌≤◌};
+
+use executor::{
+    Answer, Counted, CountedSink, Crew, DayFault, LONGEST_FILE, OutOfMemory, Query, QueryFault,
+    RunFault, Settings, parse, plain, run,
+};
+use std::alloc::{AllocError, Allocator, Global};
+use std::process::Abort;
+use std::test::Fail;
+use tests_support::file_of;
+
+/// The query that a text means.
+pub fn asked<A: Allocator + Copy>(
+    rt: &impl Abort,
+    alloc: A,
+    text: &str,
+) -> Result<Query<A>, OutOfMemory> {
+    match parse(alloc, text) {
+        Ok(query) => Ok(query),
+        Err(fault) => {
+            assert!(rt; fault == QueryFault::OutOfMemory, "{text}");
+            Err(AllocError)
+        }
+    }
+}
+
+/// Settings with this limit, in bytes.
+pub fn settings(limit: u64) -> Settings
+    requires { limit ≤ LONGEST_FILE }
+{
+    Settings {
+        crew: Crew {
+            workers: 2,
+            gatherers: 1,
+        },
+        morsel: 1,
+        limit,
+    }
+}
+
+/// What `plain` answers to a query over the bytes.
+pub fn told_by_plain(
+    rt: &impl Abort,
+    alloc: Global,
+    text: &str,
+    bytes: Vec<u8>,
+) -> Result<Result<Vec<u8>, DayFault>, Fail> {
+    let query = asked(rt, alloc, text)?;
+    match plain(alloc, &file_of(bytes)?, &query)? {
+        Answer::Printed(text) => Ok(Ok(text.into_vec())),
+        Answer::Faulty(fault) => Ok(Err(fault)),
+    }
+}
+
+/// What `run` answers to a query over the bytes, and what was written.
+pub fn told_by_run(alloc: Global, text: &str, bytes: &[u8]) -> (Result<(), RunFault>, Vec<u8>) {
+    let mut written = Vec::new(alloc);
+    let mut source = Counted::of(bytes);
+    let mut sink = CountedSink::of(&mut written);
+    let settings = settings(LONGEST_FILE);
+    let told = run(&(), alloc, &mut source, text, settings, &mut sink);
+    (told, written)
+}

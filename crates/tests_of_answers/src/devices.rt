@@ -1,0 +1,139 @@
+//! Sinks and writers that take a few bytes a call, and fail at some call.
+ghost use Rattle.std.specs.Prelude.{◌≡◌, false};
+
+use executor::{DeviceFailed, Sink};
+use std::alloc::Global;
+use std::io::{self, Write};
+
+/// A sink that takes at most `step` bytes a call and `room` in all, and whose flush may fail.
+#[derive(Drop)]
+pub struct Narrow {
+    pub taken: Vec<u8>,
+    pub step: usize,
+    pub room: usize,
+    pub flushes: bool,
+    pub is_flushed: bool,
+    pub failed: bool,
+}
+
+impl Narrow {
+    pub fn of(alloc: Global, step: usize, room: usize, flushes: bool) -> Narrow
+        ensures { result.failed ≡ false }
+    {
+        Narrow {
+            taken: Vec::new(alloc),
+            step,
+            room,
+            flushes,
+            is_flushed: false,
+            failed: false,
+        }
+    }
+}
+
+impl Sink for Narrow {
+    ghost use Rattle.std.specs.Prelude.{◌≡◌, ◌++◌, [], refl, true};
+    ghost use Rattle.std.proofs.Common.{◌∙◌, sym, ap, append-nil, append_assoc};
+
+    ghost Took = { λ s t bytes. t.taken.items ≡ s.taken.items ++ bytes };
+
+    ghost has_failed = { λ s. s.failed };
+
+    ghost HasFlushed = { λ s. s.is_flushed ≡ true };
+
+    ghost took_nothing = { λ s. sym (append-nil s.taken.items) };
+
+    ghost took_more = { λ a b c xs ys p q.
+        q ∙ ap (λ l. l ++ ys) p ∙ append_assoc a.taken.items xs ys };
+
+    fn put(&mut self, bytes: &[u8]) -> Result<usize, DeviceFailed> {
+        let count = bytes.len().min(self.step).min(self.room);
+        let is_full = count == 0 && !bytes.is_empty();
+        if is_full || self.taken.extend_from_slice(&bytes[..count]).is_err() {
+            self.failed = true;
+            return Err(DeviceFailed);
+        }
+        self.room -= count;
+        self.is_flushed = false;
+        Ok(count)
+    }
+
+    fn flush(&mut self) -> Result<(), DeviceFailed> {
+        self.is_flushed = self.flushes;
+        self.failed = !self.flushes;
+        if self.failed {
+            Err(DeviceFailed)
+        } else {
+            Ok(())
+        }
+    }
+
+    fn failed(&self) -> bool {
+        self.failed
+    }
+}
+
+/// A writer that takes so many bytes a call, or fails, and whose flush fails.
+#[derive(Drop)]
+pub struct Stuck {
+    pub takes: Option<usize>,
+}
+
+impl Write for Stuck {
+    fn write(&mut self, buf: &[u8]) -> io::Result<usize> {
+        match self.takes {
+            Some(count) => Ok(count.min(buf.len())),
+            None => Err(io::Error::from(io::ErrorKind::Interrupted)),
+        }
+    }
+
+    fn flush(&mut self) -> io::Result<()> {
+        Err(io::Error::from(io::ErrorKind::Interrupted))
+    }
+}
+
+/// A writer that takes at most `step` bytes a call, whose call number `interrupted` is interrupted
+/// (the first call has the number 0, and flushes are calls), and which goes on after that call. It
+/// counts its calls.
+#[derive(Drop)]
+pub struct Interrupted {
+    pub taken: Vec<u8>,
+    pub step: usize,
+    pub interrupted: u32,
+    pub calls: u32,
+}
+
+impl Interrupted {
+    /// The writer that has not been called.
+    pub fn of(alloc: Global, step: usize, interrupted: u32) -> Interrupted {
+        Interrupted {
+            taken: Vec::new(alloc),
+            step,
+            interrupted,
+            calls: 0,
+        }
+    }
+
+    /// Counts a call, and says whether it is interrupted.
+    fn call(&mut self) -> io::Result<()> {
+        let call = self.calls;
+        self.calls = call.saturating_add(1);
+        if call == self.interrupted {
+            return Err(io::Error::from(io::ErrorKind::Interrupted));
+        }
+        Ok(())
+    }
+}
+
+impl Write for Interrupted {
+    fn write(&mut self, buf: &[u8]) -> io::Result<usize> {
+        self.call()?;
+        let count = self.step.min(buf.len());
+        self.taken.extend_from_slice(&buf[..count])?;
+        Ok(count)
+    }
+
+    fn flush(&mut self) -> io::Result<()> {
+        self.call()
+    }
+}

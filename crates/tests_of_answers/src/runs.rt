@@ -1,0 +1,229 @@
+//! What runs over devices do, and what they answer.
+use crate::asking::settings;
+use crate::devices::{Interrupted, Narrow, Stuck};
+use executor::{
+    Counted, CountedSink, DayFault, DeviceFailed, QueryFault, RunFault, Sink, Source, parse, run,
+};
+use std::alloc::Global;
+use std::process::Abort;
+use std::test::Fail;
+use tests_support::{Day, Trickle, UNNAMED, UNNAMED_TEXT};
+
+/// The bytes that a sink takes a call and in all, whether its flush succeeds, the answer of a run, and
+/// how many bytes of the text the sink has taken then.
+type Writing = (usize, usize, bool, Result<(), RunFault>, usize);
+
+/// A run to such a sink is answered so.
+fn is_written(rt: &impl Abort, alloc: Global, writing: Writing) -> Result<(), Fail> {
+    let (step, room, flushes, want, taken) = writing;
+    let bytes = Day::of(alloc, &UNNAMED)?.bytes;
+    let mut source = Counted::of(bytes.as_slice());
+    let mut sink = Narrow::of(alloc, step, room, flushes);
+    let told = run(rt, alloc, &mut source, "sales", settings(71), &mut sink);
+    assert!(rt; told == want, "{step} {room}");
+    let text = UNNAMED_TEXT.as_bytes();
+    assert!(rt;
+        Some(sink.taken.as_slice()) == text.get(..taken),
+        "{step} {room}"
+    );
+    assert!(rt; sink.failed() == told.is_err() && sink.is_flushed == told.is_ok());
+    Ok(())
+}
+
+#[test]
+fn a_failed_sink_has_taken_as_many_bytes_as_are_told(rt: HostRuntime) -> Result<(), Fail> {
+    let failed = |written| Err(RunFault::WriteFailed { written });
+    for room in 0..75 {
+        let want = failed(room as u64);
+        is_written(&rt, rt.alloc(), (1, room, true, want, room))?;
+    }
+    for writing in [
+        (100, 10, true, failed(10), 10),
+        (2, 100, true, Ok(()), 75),
+        (100, 100, false, failed(75), 75),
+    ] {
+        is_written(&rt, rt.alloc(), writing)?;
+    }
+    Ok(())
+}
+
+#[test]
+fn an_error_of_a_writer_is_a_failure(rt: HostRuntime) -> Result<(), Fail> {
+    let texts: [(Option<usize>, &[u8], _); 4] = [
+        (None, b"ab", Err(DeviceFailed)),
+        (Some(0), b"ab", Err(DeviceFailed)),
+        (Some(0), b"", Ok(0)),
+        (Some(1), b"ab", Ok(1)),
+    ];
+    for (takes, text, want) in texts {
+        let mut sink = CountedSink::of(Stuck { takes });
+        assert!(rt; sink.put(text) == want && sink.failed() == want.is_err());
+        let mut sink = CountedSink::of(Stuck { takes });
+        assert!(rt; sink.flush() == Err(DeviceFailed) && sink.failed());
+    }
+    Ok(())
+}
+
+/// Whether the call is a flush, which call of the writer is interrupted, what is answered, and how
+/// many bytes the writer has taken then.
+type Calling = (bool, u32, Result<usize, DeviceFailed>, usize);
+
+#[test]
+fn a_writer_is_called_once_a_call_and_never_after_its_error(rt: HostRuntime) -> Result<(), Fail> {
+    let callings: [Calling; 4] = [
+        (false, 0, Err(DeviceFailed), 0),
+        (false, 1, Ok(1), 1),
+        (true, 0, Err(DeviceFailed), 0),
+        (true, 1, Ok(0), 0),
+    ];
+    for (flushes, interrupted, want, taken) in callings {
+        let mut writer = Interrupted::of(rt.alloc(), 1, interrupted);
+        let mut sink = CountedSink::of(&mut writer);
+        let told = if flushes {
+            sink.flush().map(|_| 0)
+        } else {
+            sink.put(b"ab")
+        };
+        assert!(rt;
+            told == want && sink.failed() == want.is_err(),
+            "{flushes} {interrupted}"
+        );
+        assert!(rt;
+            writer.calls == 1 && writer.taken.len() == taken,
+            "{flushes} {interrupted}"
+        );
+    }
+    Ok(())
+}
+
+#[test]
+fn a_run_ends_at_a_writers_first_error(rt: HostRuntime) -> Result<(), Fail> {
+    let bytes = Day::of(rt.alloc(), &UNNAMED)?.bytes;
+    // 75 bytes are written one a call, and then flushed.
+    for call in 0..77u32 {
+        let mut source = Counted::of(bytes.as_slice());
+        let mut writer = Interrupted::of(rt.alloc(), 1, call);
+        let mut sink = CountedSink::of(&mut writer);
+        let told = run(
+            &rt,
+            rt.alloc(),
+            &mut source,
+            "sales",
+            settings(71),
+            &mut sink,
+        );
+        let taken = call.min(75) as usize;
+        let (want, calls) = if call == 76 {
+            (Ok(()), 76)
+        } else {
+            let written = taken as u64;
+            (Err(RunFault::WriteFailed { written }), call + 1)
+        };
+        assert!(rt; told == want && writer.calls == calls, "{call}");
+        let text = UNNAMED_TEXT.as_bytes();
+        assert!(rt;
+            Some(writer.taken.as_slice()) == text.get(..taken),
+            "{call}"
+        );
+    }
+    Ok(())
+}
+
+#[test]
+fn a_source_that_fails_or_is_too_long_leaves_the_sink_alone(rt: HostRuntime) -> Result<(), Fail> {
+    let bytes = Day::of(rt.alloc(), &UNNAMED)?.bytes;
+    for calls in 0..75 {
+        let mut source = Trickle::of(bytes.as_slice(), calls);
+        let mut sink = Narrow::of(rt.alloc(), 100, 100, true);
+        let limit = if calls == 74 { 70 } else { 71 };
+        let settings = settings(limit);
+        let told = run(&rt, rt.alloc(), &mut source, "sales", settings, &mut sink);
+        let (want, taken) = match calls {
+            0..72 => (Err(RunFault::ReadFailed), 0),
+            74 => (Err(RunFault::TooLong { limit }), 0),
+            _ => (Ok(()), UNNAMED_TEXT.len()),
+        };
+        assert!(rt; told == want && source.failed() == (calls < 72), "{calls}");
+        let text = UNNAMED_TEXT.as_bytes();
+        assert!(rt; Some(sink.taken.as_slice()) == text.get(..taken), "{calls}");
+    }
+    Ok(())
+}
+
+#[test]
+fn a_refused_query_leaves_the_source_unread(rt: HostRuntime) -> Result<(), Fail> {
+    let unknown = |at| Err(QueryFault::UnknownWord { at });
+    for (text, want) in [
+        ("sales", Ok(())),
+        ("   sales  ", Ok(())),
+        ("bars 86400 s where kind in P,E", Ok(())),
+        ("", Err(QueryFault::Incomplete)),
+        ("  ", Err(QueryFault::Incomplete)),
+        ("Sales", unknown(0)),
+        (" sale", unknown(1)),
+        ("sales\t", unknown(0)),
+        ("sales  sales", unknown(7)),
+        ("bars 0 s", Err(QueryFault::BadNumber { at: 5 })),
+        ("bars", Err(QueryFault::Incomplete)),
+    ] {
+        assert!(rt; parse(rt.alloc(), text).map(|_| ()) == want, "{text}");
+        let mut source = Trickle::of(&[], 1);
+        let mut sink = Narrow::of(rt.alloc(), 100, 100, true);
+        let told = run(&rt, rt.alloc(), &mut source, text, settings(0), &mut sink);
+        assert!(rt; told.err() == want.err().map(RunFault::Query), "{text}");
+        assert!(rt; (source.calls == 1) == want.is_err(), "{text}");
+    }
+    Ok(())
+}
+
+#[test]
+fn faults_have_their_texts(rt: HostRuntime) -> Result<(), Fail> {
+    let wrong_length = DayFault::WrongLength {
+        place: 84,
+        kind: b'A',
+        length: 35,
+        wanted: 36,
+    };
+    let (place, order_no) = (71, 1);
+    let repeated = DayFault::RepeatedReference { place, order_no };
+    let unknown = DayFault::UnknownReference { place, order_no };
+    for (fault, want) in [
+        (RunFault::ReadFailed, "reading failed"),
+        (
+            RunFault::TooLong { limit: 70 },
+            "file is longer than 70 bytes",
+        ),
+        (
+            RunFault::Day(DayFault::Truncated { place: 41 }),
+            "place 41: message runs past the end",
+        ),
+        (
+            RunFault::Day(wrong_length),
+            "place 84: message A has length 35, not 36",
+        ),
+        (
+            RunFault::Day(repeated),
+            "place 71: order reference 1 was given before",
+        ),
+        (
+            RunFault::Day(unknown),
+            "place 71: order reference 1 is not known",
+        ),
+        (
+            RunFault::Query(QueryFault::UnknownWord { at: 7 }),
+            "query byte 7: unknown word",
+        ),
+        (
+            RunFault::Query(QueryFault::Incomplete),
+            "query ends too early",
+        ),
+        (
+            RunFault::WriteFailed { written: 10 },
+            "writing failed after 10 bytes",
+        ),
+        (RunFault::OutOfMemory, "out of memory"),
+    ] {
+        assert!(rt; format!(in rt.alloc(); "{fault}")?.as_str() == want);
+    }
+    Ok(())
+}
