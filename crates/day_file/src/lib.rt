@@ -10,8 +10,6 @@ mod frame;
 mod law;
 mod reading;
 mod source;
-#[cfg(test)]
-mod tests;
 mod truncated;
 
 pub use counted::Counted;

@@ -20,6 +20,3 @@ pub use lists::OutOfMemory;
 pub use message::{Add, Broken, Cross, Directory, Executed, ExecutedAt, Message, Replace, Trade};
 pub use reading::read;
 pub use writing::append;
-
-#[cfg(test)]
-mod tests;
