@@ -18,14 +18,16 @@ spelling-append xs ys = flat_map-append (λ frame. frame_of frame.body) xs ys
 pub StandAt-append : (place : ℕ) (xs ys : List PlacedBody) → StandAt place xs → StandAt (place + length (spelling xs)) ys → StandAt place (xs ++ ys)
 StandAt-append place [] ys p q = subst (λ n. StandAt n ys) (omega arith) q
 StandAt-append place (x ∷ xs) ys p q =
-    let n : place + length (spelling (x ∷ xs)) ≡ (place + length (frame_of x.body)) + length (spelling xs) = omega (arith, length-append (frame_of x.body) (spelling xs)) in
+    let n : place + length (spelling (x ∷ xs)) ≡ (place + length (frame_of x.body)) + length (spelling xs) =
+    omega (arith, length-append (frame_of x.body) (spelling xs)) in
     (p.0, StandAt-append (place + length (frame_of x.body)) xs ys p.1 (subst (λ k. StandAt k ys) n q))
 
 -- and the other way round
 pub StandAt-split : (place : ℕ) (xs ys : List PlacedBody) → StandAt place (xs ++ ys) → StandAt place xs × StandAt (place + length (spelling xs)) ys
 StandAt-split place [] ys p = (tt, subst (λ n. StandAt n ys) (omega arith) p)
 StandAt-split place (x ∷ xs) ys p =
-    let n : (place + length (frame_of x.body)) + length (spelling xs) ≡ place + length (spelling (x ∷ xs)) = omega (arith, length-append (frame_of x.body) (spelling xs)) in
+    let n : (place + length (frame_of x.body)) + length (spelling xs) ≡ place + length (spelling (x ∷ xs)) =
+    omega (arith, length-append (frame_of x.body) (spelling xs)) in
     let q = StandAt-split (place + length (frame_of x.body)) xs ys p.1 in
     ((p.0, q.0), subst (λ k. StandAt k ys) n q.1)
 
@@ -41,17 +43,23 @@ later_places least place (x ∷ xs) h p =
 pub places_rise : (place : ℕ) (xs : List PlacedBody) → StandAt place xs → IsStrictlySortedBy (λ a b. nat_cmp a.place b.place) xs
 unfolding IsStrictlySortedBy
 places_rise place [] p = tt
-places_rise place (x ∷ xs) p =
-    (later_places x.place (place + length (frame_of x.body)) xs (omega (arith, p.0, length-frame_of x.body)) p.1, places_rise (place + length (frame_of x.body)) xs p.1)
+places_rise place (x ∷ xs) p = (
+  later_places x.place (place + length (frame_of x.body)) xs (omega (arith, p.0, length-frame_of x.body)) p.1,
+  places_rise
+      (place + length (frame_of x.body)) xs p.1,
+)
 
-ends_by : (end place : ℕ) (xs : List PlacedBody) → place + length (spelling xs) ≤ end → StandAt place xs → All (λ frame. frame.place + 2 + length frame.body ≤ end) xs
+ends_by : (end place : ℕ) (xs : List PlacedBody) → place + length (spelling xs) ≤ end → StandAt place xs
+    → All (λ frame. frame.place + 2 + length frame.body ≤ end) xs
 ends_by end place [] h p = All-nil _
 ends_by end place (x ∷ xs) h p =
     let n : length (spelling (x ∷ xs)) ≡ length (frame_of x.body) + length (spelling xs) = length-append (frame_of x.body) (spelling xs) in
-    All-cons (λ frame. frame.place + 2 + length frame.body ≤ end) x xs (omega (arith, p.0, h, n, length-frame_of x.body)) (ends_by end (place + length (frame_of x.body)) xs (omega (arith, h, n)) p.1)
+    All-cons (λ frame. frame.place + 2 + length frame.body ≤ end) x xs (omega (arith, p.0, h, n, length-frame_of x.body))
+    (ends_by end (place + length (frame_of x.body)) xs (omega (arith, h, n)) p.1)
 
 -- each frame of a file ends within it
-pub frames_within : (bytes : List ℕ) (frames : List PlacedBody) → StandsFor frames bytes → All (λ frame. frame.place + 2 + length frame.body ≤ length bytes) frames
+pub frames_within : (bytes : List ℕ) (frames : List PlacedBody) → StandsFor frames bytes
+    → All (λ frame. frame.place + 2 + length frame.body ≤ length bytes) frames
 frames_within bytes frames s = ends_by (length bytes) 0 frames (omega (arith, ap length s.whole)) s.places
 
 -- ---- one reading
@@ -61,10 +69,12 @@ frames_are_one bytes some others p q = (same_reading 0 bytes some others [] [] (
 
 pub not_both : (bytes : List ℕ) (frames : List PlacedBody) (place : ℕ) → StandsFor frames bytes → ¬ IsTruncatedAt bytes place
 not_both bytes frames place s t =
-    let e = (same_reading 0 bytes frames t.front.0 [] (drop place bytes) (IsReading-whole 0 bytes frames s) (IsReading-truncated 0 bytes place t.front.0 t t.front.1)).1 in
+    let e = (same_reading 0 bytes frames t.front.0 [] (drop place bytes) (IsReading-whole 0 bytes frames s)
+    (IsReading-truncated 0 bytes place t.front.0 t t.front.1)).1 in
     omega (arith, ap length e, length-drop place bytes, t.within)
 
 pub truncated_once : (bytes : List ℕ) (one other : ℕ) → IsTruncatedAt bytes one → IsTruncatedAt bytes other → one ≡ other
 truncated_once bytes one other p q =
-    let e = (same_reading 0 bytes p.front.0 q.front.0 (drop one bytes) (drop other bytes) (IsReading-truncated 0 bytes one p.front.0 p p.front.1) (IsReading-truncated 0 bytes other q.front.0 q q.front.1)).1 in
+    let e = (same_reading 0 bytes p.front.0 q.front.0 (drop one bytes) (drop other bytes) (IsReading-truncated 0 bytes one p.front.0 p p.front.1)
+    (IsReading-truncated 0 bytes other q.front.0 q q.front.1)).1 in
     omega (arith, ap length e, length-drop one bytes, length-drop other bytes, p.within, q.within)

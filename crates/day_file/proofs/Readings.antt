@@ -1,5 +1,6 @@
 -- A file has one list of frames: what whole frames and a stuck rest say of the bytes that they make.
-use Rattle.std.proofs.Common.{◌≡◌, ℕ, ◌+◌, List, ◌⊎◌, inl, inr, [], ◌∷◌, ◌++◌, length, take, drop, All, refl, sym, ap, ap₂, ◌∙◌, subst, append_assoc, append-nil, arith}
+use Rattle.std.proofs.Common.{◌≡◌, ℕ, ◌+◌, List, ◌⊎◌, inl, inr, [], ◌∷◌, ◌++◌, length, take, drop, All, refl, sym, ap, ap₂, ◌∙◌, subst, append_assoc}
+use Rattle.std.proofs.Common.{append-nil, arith}
 use Rattle.std.proofs.Math.Seq.{take-append_seam, drop-append_seam}
 use Rattle.std.proofs.lemmas.List.{length-append, take-append-drop}
 use Rattle.std.proofs.lemmas.List.Elements.{All-tail}
@@ -63,12 +64,15 @@ same_split place [] (y ∷ ys) r s px py hx hy jr js e =
 same_split place (x ∷ xs) [] r s px py hx hy jr js e =
     absurd (js x.body (spelling xs ++ r) (head_short x xs hx) (sym e ∙ spelling_first x xs r))
 same_split place (x ∷ xs) (y ∷ ys) r s px py hx hy jr js e =
-    let first = head_apart x.body y.body (spelling xs ++ r) (spelling ys ++ s) (head_short x xs hx) (head_short y ys hy) (sym (spelling_first x xs r) ∙ e ∙ spelling_first y ys s) in
-    let later = same_split (place + length (frame_of x.body)) xs ys r s px.1 (subst (λ b. StandAt (place + length (frame_of b)) ys) (sym first.0) py.1) (tail_short x xs hx) (tail_short y ys hy) jr js first.1 in
+    let first = head_apart x.body y.body (spelling xs ++ r) (spelling ys ++ s) (head_short x xs hx) (head_short y ys hy)
+    (sym (spelling_first x xs r) ∙ e ∙ spelling_first y ys s) in
+    let later = same_split (place + length (frame_of x.body)) xs ys r s px.1 (subst (λ b. StandAt (place + length (frame_of b)) ys) (sym first.0) py.1)
+    (tail_short x xs hx) (tail_short y ys hy) jr js first.1 in
     (ap₂ ◌∷◌ (same_frame x y (px.0 ∙ sym py.0) first.0) later.0, later.1)
 
 -- bytes have one reading
-pub same_reading : (place : ℕ) (bytes : List ℕ) (xs ys : List PlacedBody) (r s : List ℕ) → IsReading place bytes xs r → IsReading place bytes ys s → (xs ≡ ys) × (r ≡ s)
+pub same_reading : (place : ℕ) (bytes : List ℕ) (xs ys : List PlacedBody) (r s : List ℕ) → IsReading place bytes xs r → IsReading place bytes ys s
+    → (xs ≡ ys) × (r ≡ s)
 same_reading place bytes xs ys r s p q = same_split place xs ys r s p.places q.places p.short q.short p.stuck q.stuck (sym p.split ∙ q.split)
 
 -- no frame stands at the head of no bytes
@@ -85,7 +89,8 @@ IsReading-whole start bytes frames s = record {
   stuck = IsStuck-nil;
 }
 
-pub IsReading-truncated : (start : ℕ) (bytes : List ℕ) (count : ℕ) (frames : List PlacedBody) → IsTruncatedAt bytes count → StandsFrom start frames (take count bytes) → IsReading start bytes frames (drop count bytes)
+pub IsReading-truncated : (start : ℕ) (bytes : List ℕ) (count : ℕ) (frames : List PlacedBody) → IsTruncatedAt bytes count
+    → StandsFrom start frames (take count bytes) → IsReading start bytes frames (drop count bytes)
 IsReading-truncated start bytes count frames t s = record {
   places = s.places;
   short = s.short;
@@ -94,7 +99,8 @@ IsReading-truncated start bytes count frames t s = record {
 }
 
 -- bytes that have a reading are whole frames, or truncated where the rest begins
-pub reading_ends : (bytes : List ℕ) (frames : List PlacedBody) (rest : List ℕ) → IsReading 0 bytes frames rest → IsWhole bytes ⊎ ((place : ℕ) × IsTruncatedAt bytes place)
+pub reading_ends : (bytes : List ℕ) (frames : List PlacedBody) (rest : List ℕ) → IsReading 0 bytes frames rest
+    → IsWhole bytes ⊎ ((place : ℕ) × IsTruncatedAt bytes place)
 reading_ends bytes frames [] r = inl (frames, record { places = r.places; short = r.short; whole = r.split ∙ append-nil (spelling frames) })
 reading_ends bytes frames (x ∷ rest) r =
     let place = length (spelling frames) in

@@ -1,5 +1,7 @@
 -- The cursor's walk: one step of it, and that it reads the bytes.
-use Rattle.std.proofs.Common.{◌≡◌, ℕ, zero, suc, ◌+◌, ◌*◌, ◌/◌, ◌%◌, ◌<◌, ◌≤◌, ◌^◌, ◌==◌, ◌&&◌, Bool, true, false, List, ◌⊎◌, [], ◌∷◌, ◌++◌, length, take, drop, slice_index, Option, Some, None, MatchOption, ⊎_elim, refl, sym, ap, ap₂, ◌∙◌, subst, append_assoc, arith, length-drop, nat_le, if◌then◌else◌}
+use Rattle.std.proofs.Common.{◌≡◌, ℕ, zero, suc, ◌+◌, ◌*◌, ◌/◌, ◌%◌, ◌<◌, ◌≤◌, ◌^◌, ◌==◌, ◌&&◌, Bool, true, false, List, ◌⊎◌, [], ◌∷◌, ◌++◌, length, take}
+use Rattle.std.proofs.Common.{drop, slice_index, Option, Some, None, MatchOption, ⊎_elim, refl, sym, ap, ap₂, ◌∙◌, subst, append_assoc, arith, length-drop}
+use Rattle.std.proofs.Common.{nat_le, if◌then◌else◌}
 use Rattle.std.specs.Option.{option_map_or}
 use Rattle.std.proofs.lemmas.Bool.{eqb-true, leb-true, le-leb}
 use Rattle.std.proofs.lemmas.List.{length-append, take-append-drop, length-take-le, get_or-drop, drop-drop}
@@ -43,7 +45,8 @@ pub first_length-is : (bytes : List ℕ) (size : ℕ) → HasFirst bytes size �
 first_length-is bytes size h =
     let n = big_number 2 (take 2 bytes) in
     let after = drop 2 bytes in
-    picks (nat_le 2 (length bytes)) (nat_le n (length after)) n size (le-leb _ _ h.prefix) (le-leb _ _ (subst (λ k. k ≤ length after) (sym h.told) h.body)) h.told
+    picks (nat_le 2 (length bytes)) (nat_le n (length after)) n size (le-leb _ _ h.prefix) (le-leb _ _ (subst (λ k. k ≤ length after) (sym h.told) h.body))
+    h.told
 
 same_map_or : (f g : ℕ → List PlacedBody) (o : Option ℕ) → ((x : ℕ) → o ≡ Some x → f x ≡ g x) → option_map_or f o [] ≡ option_map_or g o []
 same_map_or f g None h = refl
@@ -67,16 +70,20 @@ at_some : (f : ℕ → List PlacedBody) (o : Option ℕ) (x : ℕ) → o ≡ Som
 at_some f o x e = ap (λ p. option_map_or f p []) e
 
 walk_step : (most place : ℕ) (bytes : List ℕ) (size : ℕ) → length bytes ≤ most → HasFirst bytes size →
-    walk most place bytes ≡ record { place = place; body = take size (drop 2 bytes) } ∷ walk (length (drop size (drop 2 bytes))) (place + (2 + size)) (drop size (drop 2 bytes))
+    walk most place bytes ≡ record { place = place; body = take size (drop 2 bytes) } ∷ walk (length (drop size (drop 2 bytes))) (place + (2 + size))
+    (drop size (drop 2 bytes))
 walk_step zero place bytes size p h = absurd (omega (arith, h.prefix))
 walk_step (suc most) place bytes size p h =
     let after = drop 2 bytes in
     at_some _ (first_length bytes) size (first_length-is bytes size h)
-    ∙ ap (λ later. record { place = place; body = take size after } ∷ later) (walk-enough most (length (drop size after)) (place + (2 + size)) (drop size after) (omega (arith, length-drop size after, length-drop 2 bytes, h.prefix)) (omega arith))
+    ∙ ap (λ later. record { place = place; body = take size after } ∷ later)
+    (walk-enough most (length (drop size after)) (place + (2 + size)) (drop size after)
+    (omega (arith, length-drop size after, length-drop 2 bytes, h.prefix)) (omega arith))
 
 -- the walk over bytes with a whole frame at their head
 pub walk_more : (place : ℕ) (bytes : List ℕ) (size : ℕ) → HasFirst bytes size →
-    walk (length bytes) place bytes ≡ record { place = place; body = take size (drop 2 bytes) } ∷ walk (length (drop size (drop 2 bytes))) (place + (2 + size)) (drop size (drop 2 bytes))
+    walk (length bytes) place bytes ≡ record { place = place; body = take size (drop 2 bytes) } ∷ walk (length (drop size (drop 2 bytes)))
+    (place + (2 + size)) (drop size (drop 2 bytes))
 walk_more place bytes size h = walk_step (length bytes) place bytes size (omega arith) h
 
 -- ---- what the walk reads
@@ -159,11 +166,13 @@ walk_whole start bytes all b s =
     let r = walk_reads (length bytes) start bytes (omega arith) b in
     (same_reading start bytes _ all r.0 [] r.1 (IsReading-whole start bytes all s)).0
 
-pub walk_truncated : (start : ℕ) (bytes : List ℕ) (count : ℕ) → AreBytes bytes → IsTruncatedAt bytes count → StandsFrom start (walk (length bytes) start bytes) (take count bytes)
+pub walk_truncated : (start : ℕ) (bytes : List ℕ) (count : ℕ) → AreBytes bytes → IsTruncatedAt bytes count
+    → StandsFrom start (walk (length bytes) start bytes) (take count bytes)
 walk_truncated start bytes count b t =
     let r = walk_reads (length bytes) start bytes (omega arith) b in
     let front = stands_moved start (take count bytes) t.front.0 t.front.1 in
-    let e = (same_reading start bytes _ (moved start t.front.0) r.0 (drop count bytes) r.1 (IsReading-truncated start bytes count (moved start t.front.0) t front)).0 in
+    let e = (same_reading start bytes _ (moved start t.front.0) r.0 (drop count bytes) r.1
+    (IsReading-truncated start bytes count (moved start t.front.0) t front)).0 in
     subst (λ frames. StandsFrom start frames (take count bytes)) (sym e) front
 
 -- bytes are whole frames, or truncated at a place
@@ -206,7 +215,8 @@ walk_within start bytes b =
     omega (arith, ap length r.1.split, length-append (spelling (walk (length bytes) start bytes)) r.0)
 
 -- what is left behind the first frame
-pub rest_stands : (bytes after body rest : List ℕ) (size : ℕ) → after ≡ drop 2 bytes → rest ≡ drop size after → length body ≡ size → drop (2 + length body) bytes ≡ rest
+pub rest_stands : (bytes after body rest : List ℕ) (size : ℕ) → after ≡ drop 2 bytes → rest ≡ drop size after → length body ≡ size
+    → drop (2 + length body) bytes ≡ rest
 rest_stands bytes after body rest size a r n =
     sym (drop-drop (length body) 2 bytes) ∙ ap (drop (length body)) (sym a) ∙ ap (λ k. drop k after) n ∙ sym r
 

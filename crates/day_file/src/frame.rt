@@ -1,4 +1,4 @@
-ghost use Rattle.std.specs.Prelude.{◌≡◌, ◌+◌, ◌≤◌, ◌<◌, ◌^◌, ◌++◌, ℕ, List, [], length, take, None, Some, MatchOption, MatchResult, OnOk, OnErr};
+ghost use Rattle.std.specs.Prelude.{◌≡◌, ◌+◌, ◌≤◌, ◌<◌, ◌^◌, ◌++◌, ℕ, List, [], length, take, None, Some, MatchOption, MatchResult, OnOk, OnErr, vec_capacity, vec_len};
 ghost use Rattle.std.specs.Iterator.{item_count};
 ghost use Rattle.day_file.specs.Frames.{FramesLeft, IsTruncatedAt, IsWhole, PlacedBody, StandsFrom, frame_of, spelling};
 ghost use Rattle.day_file.specs.Placed.{GivesFrame, frames_left};
@@ -96,6 +96,10 @@ pub fn append_frame<A: Allocator>(out: &mut Vec<u8, A>, body: &[u8]) -> Result<(
     requires { length body.now < 2 ^ 16 }
     ensures ok { OnOk result (out.new.items ≡ out.old.items ++ frame_of body.now) }
     ensures err { OnErr result (out.new.items ≡ out.old.items) }
+
+    // It is refused only if the room was short.
+    ensures full { OnErr result
+        (vec_capacity out.old < vec_len out.old + length (frame_of body.now)) }
 {
     out.reserve(LENGTH_BYTES + body.len())?;
     out.extend_from_slice(&(body.len() as u16).to_be_bytes())?;

@@ -10,17 +10,16 @@ mod frame;
 mod law;
 mod reading;
 mod source;
-#[cfg(test)]
-mod tests;
 mod truncated;
 
 pub use counted::Counted;
 pub use day::{DayFile, frames};
 pub use frame::{Frame, Frames, append_frame};
 pub use law::one_reading;
+pub use lists::OutOfMemory;
+pub use lists::limits::LONGEST_FILE;
 pub use reading::{ReadFault, read_day};
 pub use source::{DeviceFailed, Source};
 pub use truncated::{Truncated, check};
 
-pub use lists::OutOfMemory;
-pub use lists::limits::LONGEST_FILE;
+const _: () = prove!(LONGEST_FILE == 68_719_476_736);

@@ -21,7 +21,16 @@ unfoldable pub add_row : Row 65 add_fields
 unfolding message_of_kind
 add_row = record {
   made = λ (locate, (tracking, (time, (order_no, (side, (shares, (stock, (price, _)))))))).
-      Add (record { header = record { locate = locate; tracking = tracking; time = time }; order_no = order_no; side = side; shares = shares; stock = stock; price = price; attribution = None });
+      Add (record {
+        header = record { locate = locate; tracking = tracking; time = time };
+        order_no = order_no;
+        side = side;
+        shares = shares;
+        stock =
+            stock;
+        price = price;
+        attribution = None;
+      });
   reads = λ body. refl;
   writes = λ values. refl;
   fits = λ values f. ((f.0, f.1.0, f.1.1.0), f.1.1.1.0, f.1.1.1.1.0, f.1.1.1.1.1.0, f.1.1.1.1.1.1.0, f.1.1.1.1.1.1.1.0, tt);
@@ -36,7 +45,16 @@ unfoldable pub attributed_row : Row 70 attributed_fields
 unfolding message_of_kind
 attributed_row = record {
   made = λ (locate, (tracking, (time, (order_no, (side, (shares, (stock, (price, (attribution, _))))))))).
-      Add (record { header = record { locate = locate; tracking = tracking; time = time }; order_no = order_no; side = side; shares = shares; stock = stock; price = price; attribution = Some attribution });
+      Add (record {
+        header = record { locate = locate; tracking = tracking; time = time };
+        order_no = order_no;
+        side = side;
+        shares = shares;
+        stock =
+            stock;
+        price = price;
+        attribution = Some attribution;
+      });
   reads = λ body. refl;
   writes = λ values. refl;
   fits = λ values f. ((f.0, f.1.0, f.1.1.0), f.1.1.1.0, f.1.1.1.1.0, f.1.1.1.1.1.0, f.1.1.1.1.1.1.0, f.1.1.1.1.1.1.1.0, f.1.1.1.1.1.1.1.1.0);
@@ -66,7 +84,15 @@ unfoldable pub executed_at_row : Row 67 executed_at_fields
 unfolding message_of_kind
 executed_at_row = record {
   made = λ (locate, (tracking, (time, (order_no, (shares, (trade_no, (printable, (price, _)))))))).
-      ExecutedAt (record { header = record { locate = locate; tracking = tracking; time = time }; order_no = order_no; shares = shares; trade_no = trade_no; printable = printable; price = price });
+      ExecutedAt (record {
+        header = record { locate = locate; tracking = tracking; time = time };
+        order_no = order_no;
+        shares = shares;
+        trade_no =
+            trade_no;
+        printable = printable;
+        price = price;
+      });
   reads = λ body. refl;
   writes = λ values. refl;
   fits = λ values f. ((f.0, f.1.0, f.1.1.0), f.1.1.1.0, f.1.1.1.1.0, f.1.1.1.1.1.0, f.1.1.1.1.1.1.0, f.1.1.1.1.1.1.1.0);
@@ -81,7 +107,14 @@ unfoldable pub replace_row : Row 85 replace_fields
 unfolding message_of_kind
 replace_row = record {
   made = λ (locate, (tracking, (time, (old_no, (new_no, (shares, (price, _))))))).
-      Replace (record { header = record { locate = locate; tracking = tracking; time = time }; old_no = old_no; new_no = new_no; shares = shares; price = price });
+      Replace (record {
+        header = record { locate = locate; tracking = tracking; time = time };
+        old_no = old_no;
+        new_no = new_no;
+        shares = shares;
+        price =
+            price;
+      });
   reads = λ body. refl;
   writes = λ values. refl;
   fits = λ values f. ((f.0, f.1.0, f.1.1.0), f.1.1.1.0, f.1.1.1.1.0, f.1.1.1.1.1.0, f.1.1.1.1.1.1.0);
@@ -96,7 +129,16 @@ unfoldable pub trade_row : Row 80 trade_fields
 unfolding message_of_kind
 trade_row = record {
   made = λ (locate, (tracking, (time, (order_no, (side, (shares, (stock, (price, (trade_no, _))))))))).
-      Trade (record { header = record { locate = locate; tracking = tracking; time = time }; order_no = order_no; side = side; shares = shares; stock = stock; price = price; trade_no = trade_no });
+      Trade (record {
+        header = record { locate = locate; tracking = tracking; time = time };
+        order_no = order_no;
+        side = side;
+        shares = shares;
+        stock =
+            stock;
+        price = price;
+        trade_no = trade_no;
+      });
   reads = λ body. refl;
   writes = λ values. refl;
   fits = λ values f. ((f.0, f.1.0, f.1.1.0), f.1.1.1.0, f.1.1.1.1.0, f.1.1.1.1.1.0, f.1.1.1.1.1.1.0, f.1.1.1.1.1.1.1.0, f.1.1.1.1.1.1.1.1.0);
@@ -111,7 +153,15 @@ unfoldable pub cross_row : Row 81 cross_fields
 unfolding message_of_kind
 cross_row = record {
   made = λ (locate, (tracking, (time, (shares, (stock, (price, (trade_no, (cross_type, _)))))))).
-      Cross (record { header = record { locate = locate; tracking = tracking; time = time }; shares = shares; stock = stock; price = price; trade_no = trade_no; cross_type = cross_type });
+      Cross (record {
+        header = record { locate = locate; tracking = tracking; time = time };
+        shares = shares;
+        stock = stock;
+        price = price;
+        trade_no =
+            trade_no;
+        cross_type = cross_type;
+      });
   reads = λ body. refl;
   writes = λ values. refl;
   fits = λ values f. ((f.0, f.1.0, f.1.1.0), f.1.1.1.0, f.1.1.1.1.0, f.1.1.1.1.1.0, f.1.1.1.1.1.1.0, f.1.1.1.1.1.1.1.0);

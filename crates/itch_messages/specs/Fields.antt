@@ -1,4 +1,5 @@
 -- The fields of a body, by their offsets and widths in bytes.
+-- To be believed.
 use Rattle.std.specs.Prelude.{ℕ, ◌<◌, List, take, drop, All}
 use Rattle.byteorder.specs.Endian.{big_number, big_bytes}
 

@@ -1,4 +1,5 @@
 -- What a message begins with, after its type.
+-- To be believed.
 use Rattle.std.specs.Prelude.{ℕ}
 
 -- a header: the locate, the tracking number, and the time in nanoseconds since midnight

@@ -1,4 +1,5 @@
 -- The table of types and lengths.
+-- To be believed.
 use Rattle.std.specs.Prelude.{ℕ, ◌==◌, if◌then◌else◌, Option, None, Some}
 
 -- the length of a body, from its first byte, where that is one of the nine types

@@ -16,10 +16,7 @@ mod writing;
 pub use header::Header;
 pub use law::one_body_each;
 pub use layout::LengthFault;
+pub use lists::OutOfMemory;
 pub use message::{Add, Broken, Cross, Directory, Executed, ExecutedAt, Message, Replace, Trade};
 pub use reading::read;
-pub use lists::OutOfMemory;
 pub use writing::append;
-
-#[cfg(test)]
-mod tests;

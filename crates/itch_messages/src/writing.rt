@@ -1,7 +1,7 @@
 //! Writing a body.
 #![tactic(auto, using(std::proofs::lemmas::List::append_assoc))]
 
-ghost use Rattle.std.specs.Prelude.{◌≡◌, ◌≤◌, ◌+◌, ◌∷◌, ◌++◌, [], false, length, OnErr, OnOk};
+ghost use Rattle.std.specs.Prelude.{◌≡◌, ◌≤◌, ◌<◌, ◌+◌, ◌∷◌, ◌++◌, [], false, length, OnErr, OnOk, vec_capacity, vec_len};
 ghost use Rattle.std.specs.List.{concat};
 ghost use Rattle.itch_messages.specs.Body.{body_of, header_parts, is_skipped, order_parts};
 
@@ -159,6 +159,10 @@ pub fn append<A: Allocator>(out: &mut Vec<u8, A>, message: &Message) -> Result<(
     requires { is_skipped message.now ≡ false }
     ensures ok { OnOk result (out.new.items ≡ out.old.items ++ body_of message.now) }
     ensures err { OnErr result (out.new.items ≡ out.old.items) }
+
+    // It is refused only if the room was short.
+    ensures full { OnErr result
+        (vec_capacity out.old < vec_len out.old + length (body_of message.now)) }
 
     // The longest body is a trade's.
     ensures short { OnOk result (length out.new.items ≤ length out.old.items + 44) }

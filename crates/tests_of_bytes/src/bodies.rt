@@ -1,7 +1,8 @@
+//! The bodies of messages, byte by byte.
 ghost use Rattle.std.specs.Prelude.{◌≡◌, false};
 ghost use Rattle.itch_messages.specs.Body.{is_skipped};
 
-use crate::{
+use itch_messages::{
     Add, Broken, Cross, Directory, Executed, ExecutedAt, Header, LengthFault, Message, Replace,
     Trade, append, one_body_each, read,
 };
@@ -20,8 +21,8 @@ fn stands_for(rt: &impl Abort, alloc: Global, message: Message, body: &[u8]) -> 
 {
     let mut out = Vec::new(alloc);
     append(&mut out, &message)?;
-    assert_eq!(rt; out.as_slice(), body);
-    assert_eq!(rt; read(body), Ok(message));
+    assert!(rt; out.as_slice() == body);
+    assert!(rt; read(body) == Ok(message));
     Ok(())
 }
 
@@ -129,8 +130,8 @@ fn other_types_stand_for_their_bytes(rt: HostRuntime) -> Result<(), Fail> {
 }
 
 #[test]
-fn a_type_has_one_length(rt: HostRuntime) {
-    assert_eq!(rt; read(b""), Ok(Message::Skipped));
+fn a_body_of_a_type_that_is_read_has_one_length(rt: HostRuntime) {
+    assert!(rt; read(b"") == Ok(Message::Skipped));
     let lengths = [
         (b'A', 36),
         (b'F', 40),
@@ -146,36 +147,27 @@ fn a_type_has_one_length(rt: HostRuntime) {
         let mut bytes = [0u8; 46];
         bytes[0] = kind;
         for length in 1..46 {
-            match read(&bytes[..length]) {
-                Ok(message) => {
-                    assert!(rt;
-                        length == wanted && message != Message::Skipped,
-                        "at {kind}"
-                    )
-                }
-                Err(fault) => {
-                    assert_eq!(rt;
-                        fault,
-                        LengthFault {
-                            kind,
-                            length,
-                            wanted
-                        }
-                    );
-                    assert!(rt; length != wanted, "at {kind}");
-                }
-            }
+            let fault = LengthFault {
+                kind,
+                length,
+                wanted,
+            };
+            let is_told = match read(&bytes[..length]) {
+                Ok(message) => length == wanted && message != Message::Skipped,
+                Err(told) => length != wanted && told == fault,
+            };
+            assert!(rt; is_told, "{fault:?}");
         }
     }
 }
 
 #[test]
-fn another_type_is_skipped_at_any_length(rt: HostRuntime) {
+fn a_body_of_another_type_is_skipped_at_any_length(rt: HostRuntime) {
     for kind in *b"XDSHYLVWKJhINOaz\x00\xff" {
         let mut bytes = [0u8; 46];
         bytes[0] = kind;
         for length in 1..46 {
-            assert_eq!(rt; read(&bytes[..length]), Ok(Message::Skipped), "at {kind}");
+            assert!(rt; read(&bytes[..length]) == Ok(Message::Skipped), "at {kind}");
         }
     }
 }
@@ -193,11 +185,11 @@ fn a_refused_growth_leaves_what_stood(rt: HostRuntime) -> Result<(), Fail> {
             continue;
         };
         if append(&mut out, &broken).is_ok() {
-            assert_eq!(rt; out.len(), 25);
+            assert!(rt; out.len() == 25);
             appended = true;
             break;
         }
-        assert_eq!(rt; out.as_slice(), b"before".as_slice());
+        assert!(rt; out.as_slice() == b"before".as_slice());
         refused = true;
     }
     assert!(rt; refused && appended);

@@ -1,0 +1,9 @@
+//! The tests of the crates `itch_messages` and `day_file`, which need their public items alone.
+#![tactic(auto)]
+
+#[cfg(test)]
+mod bodies;
+#[cfg(test)]
+mod day_files;
+#[cfg(test)]
+mod devices;
