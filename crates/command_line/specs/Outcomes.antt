@@ -1,8 +1,8 @@
 -- The program's status, and what it does to its devices.
 use Rattle.std.specs.Prelude.{◌≡◌, ◌∷◌, ◌++◌, [], ℕ, Bool, false, true, List, Result, Ok, Err, codes, string_bytes, take}
 use Rattle.executor.specs.Runs.{Ran, is_read_failed, is_write_failed}
-use Rattle.executor.specs.declared.running.RunFault.{RunFault}
-use Rattle.executor.specs.declared.running.RunFault.TheVariants as fault
+use Rattle.executor.specs.declared.run_fault.RunFault.{RunFault}
+use Rattle.executor.specs.declared.run_fault.RunFault.TheVariants as fault
 use Rattle.command_line.specs.declared.arguments.Job.{Job}
 use Rattle.command_line.specs.declared.arguments.WordsFault.{WordsFault}
 use Rattle.command_line.specs.declared.arguments.WordsFault.TheVariants as words

@@ -11,7 +11,7 @@ use Rattle.itch_messages.specs.declared.message.Message.{Message}
 use Rattle.itch_messages.specs.declared.message.Message.TheVariants.{Add, Executed, ExecutedAt, Replace, Trade, Cross, Broken, Directory, Skipped}
 use Rattle.day_file.specs.Frames.{PlacedBody}
 use Rattle.lists.specs.Least.{least_by}
-use Rattle.executor.specs.Messages.{Placed, placed_at, messages_of, first_wrong, order_row_at, execution_at, own_priced_at, break_of, directory_row_at}
+use Rattle.answers.specs.Messages.{Placed, placed_at, messages_of, first_wrong, order_row_at, execution_at, own_priced_at, break_of, directory_row_at}
 use Rattle.executor.specs.Rows.{Adds, AreRowsOf, FitRows}
 use Rattle.executor.specs.declared.rows.Rows.{Rows}
 

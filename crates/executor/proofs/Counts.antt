@@ -12,7 +12,7 @@ use Rattle.day_file.proofs.Readings.{length-spelling}
 use Rattle.probe.specs.declared.rows.Kind.TheVariants.{C}
 use Rattle.probe.specs.declared.rows.Sale.{Sale}
 use Rattle.executor.proofs.Collecting.{given_once}
-use Rattle.executor.specs.Messages.{Placed, placed_at, messages_of, execution_at, own_priced_at, executions, own_priced_sales}
+use Rattle.answers.specs.Messages.{Placed, placed_at, messages_of, execution_at, own_priced_at, executions, own_priced_sales}
 
 -- how many executions and sales with a price of their own a message gives
 abbrev trades_of : ℕ → Message → ℕ

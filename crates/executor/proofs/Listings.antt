@@ -29,11 +29,11 @@ use Rattle.bars.specs.declared.bar.Bar.{Bar}
 use Rattle.query.specs.Meaning.{Meaning}
 use Rattle.query.specs.Selected.{AreLocatesOf, has_name}
 use Rattle.query.specs.declared.query.What.TheVariants.{Sales, Bars}
-use Rattle.executor.specs.Answers.{IsAnswer, IsTextFor, IsTextOf, asks_for, fault_of, selected_sales}
-use Rattle.executor.specs.Messages.{Placed, first_wrong, messages_of, order_rows, executions, own_priced_sales, break_numbers, directory_rows}
+use Rattle.answers.specs.Answers.{IsAnswer, IsTextFor, IsTextOf, asks_for, fault_of, selected_sales}
+use Rattle.answers.specs.Messages.{Placed, first_wrong, messages_of, order_rows, executions, own_priced_sales, break_numbers, directory_rows}
 use Rattle.executor.specs.Rows.{AreByPlace, IsStamped}
 use Rattle.executor.specs.Steps.{IsAnswerOf}
-use Rattle.executor.specs.declared.answer.DayFault.{DayFault}
+use Rattle.answers.specs.declared.day_fault.DayFault.{DayFault}
 use Rattle.executor.proofs.Trades.{distinct_places, kept_distinct, listing_is}
 
 -- ---- a selection with the query's locates admits what the query asks for

@@ -23,8 +23,8 @@ use Rattle.time_and_sales.specs.Listings.{place_cmp}
 use Rattle.itch_messages.specs.Body.{message_of}
 use Rattle.day_file.specs.Frames.{PlacedBody}
 use Rattle.time_and_sales.specs.declared.directory.DirectoryRow.{DirectoryRow}
-use Rattle.executor.specs.Messages.{Placed, placed_at, messages_of, order_row_at, execution_at, own_priced_at, directory_row_at, order_rows, executions, own_priced_sales, break_numbers, directory_rows}
-use Rattle.executor.specs.Answers.{trade_at, trades}
+use Rattle.answers.specs.Messages.{Placed, placed_at, messages_of, order_row_at, execution_at, own_priced_at, directory_row_at, order_rows, executions, own_priced_sales, break_numbers, directory_rows}
+use Rattle.answers.specs.Answers.{trade_at, trades}
 use Rattle.executor.specs.Rows.{AreByPlace, IsStamped}
 
 one_trade : (rows : List OrderRow) (place : ℕ) (message : Message)

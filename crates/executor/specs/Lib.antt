@@ -1,5 +1,3 @@
-pub mod Messages
-pub mod Answers
 pub mod Counted
 pub mod Runs
 pub mod Rows

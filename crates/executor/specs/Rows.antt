@@ -1,7 +1,7 @@
 -- Rows in memory, and what one message adds to them.
 use Rattle.std.specs.Prelude.{◌≡◌, ℕ, ◌<◌, ◌^◌, ◌+◌, ◌++◌, List, All, length, option_to_list}
 use Rattle.itch_messages.specs.declared.message.Message.{Message}
-use Rattle.executor.specs.Messages.{Placed, order_row_at, execution_at, own_priced_at, break_of, directory_row_at, order_rows, executions, own_priced_sales, break_numbers, directory_rows}
+use Rattle.answers.specs.Messages.{Placed, order_row_at, execution_at, own_priced_at, break_of, directory_row_at, order_rows, executions, own_priced_sales, break_numbers, directory_rows}
 use Rattle.std.specs.Ordering.{nat_cmp}
 use Rattle.std.specs.List.Sorted.{IsStrictlySortedBy}
 use Rattle.executor.specs.declared.rows.Rows.{Rows}

@@ -1,13 +1,13 @@
 -- What a run reads of its source, answers, and hands to its sink.
 use Rattle.std.specs.Prelude.{◌≡◌, ℕ, ◌+◌, ◌≤◌, ◌⊎◌, Bool, true, false, List, length, take, Some, Result, Ok, Err}
-use Rattle.executor.specs.Answers.{IsAnswer}
+use Rattle.answers.specs.Answers.{IsAnswer}
 use Rattle.query.specs.Faults.{first_fault}
 use Rattle.query.specs.Grammar.{Means}
 use Rattle.query.specs.Meaning.{Meaning}
 use Rattle.query.specs.Words.{words_of}
-use Rattle.executor.specs.declared.answer.DayFault.{DayFault}
-use Rattle.executor.specs.declared.running.RunFault.{RunFault}
-use Rattle.executor.specs.declared.running.RunFault.TheVariants as fault
+use Rattle.answers.specs.declared.day_fault.DayFault.{DayFault}
+use Rattle.executor.specs.declared.run_fault.RunFault.{RunFault}
+use Rattle.executor.specs.declared.run_fault.RunFault.TheVariants as fault
 
 -- S and K are the states of a source and of a sink. `Gave` and `Took` say which bytes a source gave, and
 -- which a sink took, from one state to a later one; `HasEnded` that a source has told its end, and

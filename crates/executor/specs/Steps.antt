@@ -6,14 +6,14 @@ use Rattle.order_table.specs.Orders.{first_repeated}
 use Rattle.probe.specs.declared.rows.Execution.{Execution}
 use Rattle.probe.specs.Pricing.{first_unknown, priced}
 use Rattle.query.specs.Meaning.{Meaning}
-use Rattle.executor.specs.Answers.{IsTextFor, fault_of, reference_fault, wrong_length_at}
-use Rattle.executor.specs.Messages.{Placed, messages_of, first_wrong}
+use Rattle.answers.specs.Answers.{IsTextFor, fault_of, reference_fault, wrong_length_at}
+use Rattle.answers.specs.Messages.{Placed, messages_of, first_wrong}
 use Rattle.executor.specs.Rows.{AreFew, AreRowsOf, FitRows}
-use Rattle.executor.specs.declared.answer.DayFault.{DayFault}
-use Rattle.executor.specs.declared.answering.Collected.{Collected}
-use Rattle.executor.specs.declared.answering.Collected.TheVariants.{Rows, Wrong}
-use Rattle.executor.specs.declared.answering.Pricing.{Pricing}
-use Rattle.executor.specs.declared.answering.Pricing.TheVariants.{Sales, Faulty}
+use Rattle.answers.specs.declared.day_fault.DayFault.{DayFault}
+use Rattle.executor.specs.declared.calls.plain.Collected.{Collected}
+use Rattle.executor.specs.declared.calls.plain.Collected.TheVariants.{Rows, Wrong}
+use Rattle.executor.specs.declared.calls.plain.Pricing.{Pricing}
+use Rattle.executor.specs.declared.calls.plain.Pricing.TheVariants.{Sales, Faulty}
 
 -- the rows of the frames' messages, or the first wrong length
 abbrev pub IsCollected : {A : Type 0} → List PlacedBody → Collected A → Type 0

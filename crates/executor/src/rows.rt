@@ -1,5 +1,5 @@
 ghost use Rattle.std.specs.Prelude.{◌≡◌, ◌<◌, ◌^◌, [], Some, OnOk};
-ghost use Rattle.executor.specs.Messages.{directory_row_at};
+ghost use Rattle.answers.specs.Messages.{directory_row_at};
 ghost use Rattle.executor.specs.Rows.{Adds, FitRows, IsStamped};
 
 use crate::OutOfMemory;

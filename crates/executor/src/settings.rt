@@ -1,15 +1,6 @@
 ghost use Rattle.std.specs.Prelude.{◌≡◌, ◌<◌, ◌≤◌};
 
-/// How many threads work on a query.
-#[derive(Clone, Copy, Debug, PartialEq, Eq)]
-pub struct Crew {
-    /// The worker threads of each pipeline, 1 to 64.
-    pub workers: u32,
-    /// The gatherers of each pipeline: 1.
-    pub gatherers: u32,
-    ghost workers_in_range: { (0 < workers) × (workers ≤ 64) },
-    ghost one_gatherer: { gatherers ≡ 1 },
-}
+use pipelines::Crew;
 
 /// How a query is answered. No text of an answer depends on the crew or the morsel.
 #[derive(Clone, Copy, Debug, PartialEq, Eq)]

@@ -1,0 +1,117 @@
+-- The answer to a query: the file's one fault, or the text made of the whole message list.
+use Rattle.std.specs.Prelude.{◌≡◌, ℕ, Bool, ◌&&◌, List, Option, Some, None, Result, Ok, Err, filter_map, ◌⊎◌}
+use Rattle.std.specs.Option.{option_and_then}
+use Rattle.itch_messages.specs.Body.{length_fault_of}
+use Rattle.itch_messages.specs.declared.message.Message.{Message}
+use Rattle.itch_messages.specs.declared.message.Message.TheVariants.{Executed}
+use Rattle.day_file.specs.Frames.{PlacedBody, StandsFor, IsTruncatedAt}
+use Rattle.order_table.specs.declared.row.OrderRow.{OrderRow}
+use Rattle.order_table.specs.Orders.{first_repeated}
+use Rattle.probe.specs.declared.rows.Execution.{Execution}
+use Rattle.probe.specs.declared.rows.Sale.{Sale}
+use Rattle.probe.specs.Pricing.{first_unknown, sale_of}
+use Rattle.probe.specs.Selection.{has_kind, has_time}
+use Rattle.probe.specs.Trades.{kept}
+use Rattle.time_and_sales.specs.Names.{name_of}
+use Rattle.time_and_sales.specs.Texts.{listing_text}
+use Rattle.time_and_sales.specs.declared.directory.DirectoryRow.{DirectoryRow}
+use Rattle.bars.specs.Bars.{AreBarsOf}
+use Rattle.bars.specs.Texts.{bars_text}
+use Rattle.bars.specs.declared.bar.Bar.{Bar}
+use Rattle.query.specs.Meaning.{Meaning}
+use Rattle.query.specs.Selected.{has_name}
+use Rattle.query.specs.declared.query.What.{What}
+use Rattle.query.specs.declared.query.What.TheVariants.{Sales, Bars}
+use Rattle.answers.specs.Messages.{
+  Placed,
+  messages_of,
+  first_wrong,
+  order_rows,
+  executions,
+  execution_at,
+  own_priced_at,
+  break_numbers,
+  directory_rows,
+}
+use Rattle.answers.specs.declared.answer.Answer.{Answer}
+use Rattle.answers.specs.declared.answer.Answer.TheVariants.{Printed, Faulty}
+use Rattle.answers.specs.declared.day_fault.DayFault.{DayFault}
+use Rattle.answers.specs.declared.day_fault.DayFault.TheVariants.{
+  Truncated,
+  WrongLength,
+  RepeatedReference,
+  UnknownReference,
+}
+
+-- an execution is a trade where its order's price is known; the others have a price of their own
+abbrev pub trade_at : List OrderRow → ℕ → Message → Option Sale
+trade_at rows place (Executed executed) =
+    option_and_then (sale_of rows) (execution_at place (Executed executed))
+trade_at rows place message = own_priced_at place message
+
+-- the trades of the message list, by place; those of zero shares are among them
+abbrev pub trades : List Placed → List Sale
+trades messages = filter_map (λ m. trade_at (order_rows messages) m.place m.message) messages
+
+-- a query asks for a sale: its name is among the symbols, its time in the span and its kind admitted
+abbrev pub asks_for : Meaning → List DirectoryRow → Sale → Bool
+asks_for query rows sale =
+    has_name query.symbols (name_of rows sale.locate)
+    && (has_time query.span sale.time && has_kind query.kinds sale.kind)
+
+-- the trades of more than zero shares that no break names and that the query asks for, by place
+abbrev pub selected_sales : Meaning → List Placed → List Sale
+selected_sales query messages =
+    kept (break_numbers messages) (asks_for query (directory_rows messages)) (trades messages)
+
+-- a header line, then a line for each sale, or for each bar of the sales
+abbrev pub IsTextOf : What → (ℕ → List ℕ) → List Sale → List ℕ → Type 0
+IsTextOf Sales names sales text = text ≡ listing_text names sales
+IsTextOf (Bars width) names sales text =
+    (table : List Bar) × AreBarsOf width sales table × (text ≡ bars_text names table)
+
+-- what is told of a frame whose length is wrong
+abbrev pub wrong_length_at : PlacedBody → DayFault
+wrong_length_at frame =
+    let fault = length_fault_of frame.body in
+    WrongLength frame.place fault.kind fault.length fault.wanted
+
+-- the first fault that there is, in this order
+abbrev pub fault_of : Option PlacedBody → Option OrderRow → Option Execution → Option DayFault
+fault_of (Some frame) repeated unknown = Some (wrong_length_at frame)
+fault_of None (Some row) unknown = Some (RepeatedReference row.place row.order_no)
+fault_of None None (Some execution) = Some (UnknownReference execution.place execution.order_no)
+fault_of None None None = None
+
+-- the fault of a message list with no wrong length
+abbrev pub reference_fault : List Placed → Option DayFault
+reference_fault messages =
+    fault_of None (first_repeated (order_rows messages)) (first_unknown (order_rows messages) (executions messages))
+
+-- the fault of a list of frames
+abbrev pub first_fault : List PlacedBody → Option DayFault
+first_fault frames =
+    let messages = messages_of frames in
+    fault_of (first_wrong frames)
+    (first_repeated (order_rows messages)) (first_unknown (order_rows messages) (executions messages))
+
+-- the text that a query asks for of a message list
+abbrev pub IsTextFor : Meaning → List Placed → List ℕ → Type 0
+IsTextFor query messages text =
+    IsTextOf query.what (name_of (directory_rows messages)) (selected_sales query messages) text
+
+-- the answer over the frames of a whole file: a text where there is no fault, else the first fault
+abbrev pub IsAnswerOver : List PlacedBody → Meaning → Result (List ℕ) DayFault → Type 0
+IsAnswerOver frames query (Ok text) = (first_fault frames ≡ None) × IsTextFor query (messages_of frames) text
+IsAnswerOver frames query (Err fault) = first_fault frames ≡ Some fault
+
+-- a truncated file is told as such; else its frames have the answer
+abbrev pub IsAnswer : List ℕ → Meaning → Result (List ℕ) DayFault → Type 0
+IsAnswer file query answer =
+    ((place : ℕ) × IsTruncatedAt file place × (answer ≡ Err (Truncated place)))
+    ⊎ ((frames : List PlacedBody) × StandsFor frames file × IsAnswerOver frames query answer)
+
+-- what an answer tells: a text, or a fault
+abbrev pub told_by : {A : Type 0} → Answer A → Result (List ℕ) DayFault
+told_by (Printed text) = Ok text
+told_by (Faulty fault) = Err fault

@@ -1,0 +1,12 @@
+use crate::day_fault::DayFault;
+use crate::text::Text;
+use std::alloc::{Allocator, Global};
+
+/// The answer to a query.
+#[derive(Debug, Drop)]
+pub enum Answer<A: Allocator = Global> {
+    /// The text that was asked for.
+    Printed(Text<A>),
+    /// The file's one fault.
+    Faulty(DayFault),
+}

@@ -1,5 +1,0 @@
-use Rattle.executor.proofs.Collecting.{IsCollecting}
-use Rattle.executor.proofs.answering.collect.Given as goal
-
-abbrev pub invariant-loop-frame : goal.invariant-loop-frame
-invariant-loop-frame g l = IsCollecting l.initial.frame-iterator l.frame-iterator l.rows

@@ -1,0 +1,3 @@
+//! The calls that answer a query.
+pub(crate) mod plain;
+pub(crate) mod run;
