@@ -1,0 +1,15 @@
+//! What the tests of several crates share: sources and readers that give few bytes a call and fail
+//! at some call, and day files that are made of one form for each frame.
+#![tactic(auto)]
+
+mod days;
+mod forms;
+mod readers;
+mod trickle;
+
+pub use days::{
+    MSFT, NAMED, NAMED_TEXT, SHORT_ADD, UNNAMED, UNNAMED_TEXT, WITH_A_SHORT_ADD, file_of,
+};
+pub use forms::{Day, Form, Placed};
+pub use readers::{Broken, Interrupted};
+pub use trickle::Trickle;
