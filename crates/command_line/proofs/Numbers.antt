@@ -1,5 +1,6 @@
 -- Numbers that clap took as values, as its getters read them.
-use Rattle.std.proofs.Common.{◌≡◌, ◌∙◌, ◌<◌, ◌≤◌, ◌^◌, ℕ, Bool, true, false, cond, [], ◌∷◌, Option, Some, None, Result, Ok, Err, refl, sym, ap, subst, arith, is_some}
+use Rattle.std.proofs.Common.{◌≡◌, ◌∙◌, ◌<◌, ◌≤◌, ◌^◌, ℕ, Bool, true, false, cond, [], ◌∷◌, Option, Some, None, Result, Ok, Err, refl, sym, ap, subst, arith}
+use Rattle.std.proofs.Common.{is_some}
 use Rattle.std.specs.Prelude.{option_map, pos, unwrap_or}
 use Rattle.std.specs.Str.Parse.{ExplainsUnsignedError, HasUnsignedDigitsIfOk, IsNumeral, ParsesUnsigned, starts_with_minus, without_leading_plus}
 use Rattle.std.proofs.lemmas.Int.{ints}
@@ -58,7 +59,8 @@ pub integer_found : (k least most : ℕ) (id : Text) (f : Found) (r : Option ℕ
     → ((t : Text) → one_text f id ≡ Some t → ReadsOne (λ bs x. ParsesUnsigned k 10 bs x × ExplainsUnsignedError 10 bs x × HasUnsignedDigitsIfOk bs x) t r)
     → most < 2 ^ k → (n : ℕ) × (r ≡ Some n) × (least ≤ n) × (n ≤ most) × (option_map number_of (one_of id (rows_of f)) ≡ Some n)
 integer_found k least most id f r has reads fits =
-    number_found _ (λ bs x. ParsesUnsigned k 10 bs x × ExplainsUnsignedError 10 bs x × HasUnsignedDigitsIfOk bs x) k least most id f r has reads (λ u x g. g.0) fits
+    number_found _ (λ bs x. ParsesUnsigned k 10 bs x × ExplainsUnsignedError 10 bs x × HasUnsignedDigitsIfOk bs x) k least most id f r has reads
+    (λ u x g. g.0) fits
 
 -- and the number that it unwraps to
 pub integer_unwrapped : (k least most : ℕ) (id : Text) (f : Found) (r : Option ℕ) (v : ℕ) → HasNumberIn least most id (rows_of f)

@@ -1,5 +1,6 @@
 -- A parse of the program's command line that succeeds has found all that a job has.
-use Rattle.std.proofs.Common.{◌≡◌, ◌∙◌, ◌<◌, ◌≤◌, ◌&&◌, ℕ, zero, suc, Bool, true, false, not, List, [], ◌∷◌, Option, Some, None, refl, sym, ap, subst, inl, inr, arith, length, is_some, map, codes, true≢false}
+use Rattle.std.proofs.Common.{◌≡◌, ◌∙◌, ◌<◌, ◌≤◌, ◌&&◌, ℕ, zero, suc, Bool, true, false, not, List, [], ◌∷◌, Option, Some, None, refl, sym, ap, subst, inl}
+use Rattle.std.proofs.Common.{inr, arith, length, is_some, map, codes, true≢false}
 use Rattle.std.specs.Prelude.{pos}
 use Rattle.std.specs.List.{list_all, slice_index_or}
 use Rattle.std.specs.Str.{bytes_eq}
@@ -139,7 +140,8 @@ module _ (c : Command) (line : app_of c ≡ the_app) where
       record {
         unique = λ j e low same.
             let in_rules : j < 4 = rw (← four) low in
-            let there : (slice_index_or (args_of c) j e).id.now ≡ (slice_index_or the_rules j (rule_of e)).id = ap (λ (r : Rule). r.id) (rule_at j e in_rules) in
+            let there : (slice_index_or (args_of c) j e).id.now ≡ (slice_index_or the_rules j (rule_of e)).id = ap (λ (r : Rule). r.id)
+            (rule_at j e in_rules) in
             let here : id ≡ (slice_index_or the_rules k (rule_of d)).id = ap (λ (r : Rule). r.id) (rule_at k d lt) in
             only_place j k (rule_of e) (rule_of d) in_rules lt
             (subst (λ (x : Text). bytes_eq x (slice_index_or the_rules k (rule_of d)).id ≡ true) there

@@ -1,4 +1,5 @@
 -- The job that the words of a command line ask for, by what clap finds in them.
+-- To be believed.
 use Rattle.std.specs.Prelude.{◌≡◌, ◌≢◌, ◌≤◌, ℕ, List, true, Some, codes, is_some, option_map}
 use Rattle.std.specs.Prelude.{string_bytes}
 use Rattle.std.specs.Str.Parse.{IsNumeral, digits_value, without_leading_plus}
@@ -6,6 +7,7 @@ use Rattle.clap.specs.Words.{IsAmong, Kinds, Row, Text, first_of, one_of}
 use Rattle.clap.specs.declared.error.kind.ErrorKind.{ErrorKind}
 use Rattle.clap.specs.declared.error.kind.ErrorKind.TheVariants.{DisplayHelp}
 use Rattle.executor.specs.declared.settings.Settings.{Settings}
+use Rattle.lists.specs.declared.limits.TheConstants.{LARGEST_MORSEL, LONGEST_FILE, MOST_WORKERS}
 use Rattle.command_line.specs.declared.arguments.Job.{Job}
 use Rattle.command_line.specs.declared.arguments.WordsFault.{WordsFault}
 use Rattle.command_line.specs.declared.arguments.WordsFault.TheVariants as fault
@@ -14,11 +16,11 @@ use Rattle.command_line.specs.declared.arguments.WordsFault.TheVariants as fault
 abbrev pub number_of : Text → ℕ
 number_of text = digits_value 10 (without_leading_plus text)
 
--- the settings have the numbers that clap found, and the limit of a day file, 64 GiB
+-- the settings have the numbers that clap found, and the limit of a day file
 pub record HasSettingsOf (rows : List Row) (settings : Settings) : Type 0 where
   pub workers : option_map number_of (one_of (codes "workers") rows) ≡ Some settings.crew.workers
   pub morsel : option_map number_of (one_of (codes "morsel") rows) ≡ Some settings.morsel
-  pub limit : settings.limit ≡ 68719476736
+  pub limit : settings.limit ≡ LONGEST_FILE
 
 -- the job has the path, the query and the numbers that clap found
 pub record IsJobOf (rows : List Row) (job : Job) : Type 0 where
@@ -47,5 +49,5 @@ HasNumberIn least most id rows =
 pub record IsWhole (rows : List Row) : Type 0 where
   pub file : is_some (first_of (codes "FILE") rows) ≡ true
   pub query : is_some (first_of (codes "QUERY") rows) ≡ true
-  pub workers : HasNumberIn 1 64 (codes "workers") rows
-  pub morsel : HasNumberIn 1 1073741824 (codes "morsel") rows
+  pub workers : HasNumberIn 1 MOST_WORKERS (codes "workers") rows
+  pub morsel : HasNumberIn 1 LARGEST_MORSEL (codes "morsel") rows

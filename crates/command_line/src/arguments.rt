@@ -10,7 +10,8 @@ ghost use Rattle.command_line.specs.Jobs.{HasSettingsOf, IsFaultOf, IsJobOf, IsW
 
 use clap::error::ErrorKind;
 use clap::{Arg, ArgAction, ArgMatches, Command, Error, value_parser};
-use executor::{Crew, LONGEST_FILE, Settings};
+use executor::{Crew, Settings};
+use lists::limits::LONGEST_FILE;
 use std::alloc::{AllocError, Global};
 use std::io;
 
@@ -60,8 +61,8 @@ impl From<AllocError> for WordsFault {
     }
 }
 
-/// What is told where the words themselves can't be read: that memory ran out, or else that one of
-/// them isn't UTF-8.
+/// What is reported where the words themselves can't be read: that memory ran out, or else that one
+/// of them isn't UTF-8.
 pub fn reading_fault(alloc: Global, reading: io::ErrorKind) -> WordsFault
     ensures memory { reading ≡ RanOut → result ≡ WordsFault.Memory }
     ensures wrong { IsFaultOf (InvalidValue ∷ []) result }

@@ -3,8 +3,11 @@
 
 mod arguments;
 mod performing;
+mod reports;
 
 pub use arguments::{Job, WordsFault, command, reading_fault};
-pub use executor::{Counted, CountedSink, Crew, DayFault, LONGEST_FILE, QueryFault, RunFault, Settings};
-pub use executor::{Sink, Source};
+pub use executor::{
+    Counted, CountedSink, Crew, DayFault, LONGEST_FILE, QueryFault, RunFault, Settings, Sink,
+    Source,
+};
 pub use performing::{explain, perform, perform_opened, tell};

@@ -1,23 +1,17 @@
-ghost use Rattle.std.specs.Prelude.{◌≡◌, ◌≢◌, false, MatchOption};
-ghost use Rattle.command_line.specs.Outcomes.{Did, Explained, Told, status_of};
+ghost use Rattle.std.specs.Prelude.{◌≡◌, false, MatchOption};
+ghost use Rattle.command_line.specs.FaultLines.{line_of, status_of};
+ghost use Rattle.command_line.specs.Outcomes.{Delivered, Did, Explained};
 
 use crate::arguments::{Job, WordsFault};
-use arrayvec::ArrayString;
+use crate::reports::{line_of, status_of};
 use executor::{RunFault, Sink, Source, WriteFailed, deliver, run};
 use std::alloc::Allocator;
-use std::fmt::Write;
-
-/// The most bytes of a fault's text.
-const LONGEST_TEXT: usize = 120;
-
-/// The most bytes of its line.
-const LONGEST_LINE: usize = 128;
 
 /// The status of wrong words on the command line.
 const WRONG_WORDS: u8 = 2;
 
 /// Does a job: reads the day file from the source, and writes the answer to `out`, or one line that
-/// tells why there is none to `errors`. Gives the program's status. A line that can't be written
+/// says why there is none to `errors`. Gives the program's status. A line that can't be written
 /// doesn't change it.
 pub fn perform<R, A: Allocator + Copy, S: Source, K: Sink, L: Sink>(
     rt: &R,
@@ -31,9 +25,9 @@ pub fn perform<R, A: Allocator + Copy, S: Source, K: Sink, L: Sink>(
     requires out { K.has_failed out.old ≡ false }
     requires errors { L.has_failed errors.old ≡ false }
     ensures did { Did S.Gave S.HasEnded S.has_failed K.Took K.HasFlushed K.has_failed
-        job.now source.old source.new out.old out.new result }
+        L.Took L.HasFlushed L.has_failed
+        job.now source.old source.new out.old out.new errors.old errors.new result }
     ensures quiet { result ≡ 0 → errors.new ≡ errors.old }
-    ensures told { result ≢ 0 → Told L.Took L.HasFlushed L.has_failed errors.old errors.new }
 {
     let answer = run(rt, alloc, source, job.query.as_str(), job.settings, out);
     match answer {
@@ -42,8 +36,8 @@ pub fn perform<R, A: Allocator + Copy, S: Source, K: Sink, L: Sink>(
     }
 }
 
-/// Does a job on the day file that was opened. One that can't be opened is told before the query is
-/// looked at.
+/// Does a job on the day file that was opened. One that can't be opened is reported before the query
+/// is looked at.
 pub fn perform_opened<R, A: Allocator + Copy, S: Source + Drop, K: Sink, L: Sink>(
     rt: &R,
     alloc: A,
@@ -56,11 +50,13 @@ pub fn perform_opened<R, A: Allocator + Copy, S: Source + Drop, K: Sink, L: Sink
     requires out { K.has_failed out.old ≡ false }
     requires errors { L.has_failed errors.old ≡ false }
     ensures did { MatchOption opened
-        ((result ≡ 4) × (out.new ≡ out.old))
+        ((result ≡ status_of RunFault.ReadFailed)
+        × Delivered L.Took L.HasFlushed L.has_failed errors.old errors.new (line_of RunFault.ReadFailed)
+        × (out.new ≡ out.old))
         (λ source. (after : S) × Did S.Gave S.HasEnded S.has_failed K.Took K.HasFlushed K.has_failed
-        job.now source after out.old out.new result) }
+        L.Took L.HasFlushed L.has_failed
+        job.now source after out.old out.new errors.old errors.new result) }
     ensures quiet { result ≡ 0 → errors.new ≡ errors.old }
-    ensures told { result ≢ 0 → Told L.Took L.HasFlushed L.has_failed errors.old errors.new }
 {
     match opened {
         Some(mut source) => perform(rt, alloc, job, &mut source, out, errors),
@@ -68,8 +64,8 @@ pub fn perform_opened<R, A: Allocator + Copy, S: Source + Drop, K: Sink, L: Sink
     }
 }
 
-/// Tells why the words ask for no job: help on `out`, or what is wrong on `errors`. Gives the
-/// program's status. Help that can't be written is a failed write, which a line on `errors` tells; a
+/// Reports why the words ask for no job: help on `out`, or what is wrong on `errors`. Gives the
+/// program's status. Help that can't be written is a failed write, whose line goes to `errors`; a
 /// text that `errors` can't take doesn't change the status.
 pub fn explain<K: Sink, L: Sink>(fault: &WordsFault, out: &mut K, errors: &mut L) -> u8
     requires out { K.has_failed out.old ≡ false }
@@ -90,31 +86,13 @@ pub fn explain<K: Sink, L: Sink>(fault: &WordsFault, out: &mut K, errors: &mut L
     }
 }
 
-/// Writes a fault's line, and gives its status.
+/// Writes a fault's line, and gives its status. A line that can't be written doesn't change it.
 pub fn tell<L: Sink>(fault: &RunFault, errors: &mut L) -> u8
     requires { L.has_failed errors.old ≡ false }
     ensures status { result ≡ status_of fault.now }
-    ensures told { Told L.Took L.HasFlushed L.has_failed errors.old errors.new }
+    ensures line { Delivered L.Took L.HasFlushed L.has_failed errors.old errors.new (line_of fault.now) }
 {
-    let mut text = ArrayString::<LONGEST_TEXT>::new();
-    let _ = write!(text, "{fault}");
-    let mut line = ArrayString::<LONGEST_LINE>::new();
-    line.push_str("fault: ");
-    line.push_str(text.as_str());
-    line.push('\n');
-    let _ = deliver(errors, line.as_str().as_bytes());
-    status(fault)
-}
-
-/// The status of a fault.
-fn status(fault: &RunFault) -> u8
-    ensures { result ≡ status_of fault.now }
-{
-    match fault {
-        RunFault::Query(_) => 2,
-        RunFault::ReadFailed => 4,
-        RunFault::TooLong { .. } | RunFault::Day(_) => 1,
-        RunFault::WriteFailed { .. } => 5,
-        RunFault::OutOfMemory => 3,
-    }
+    let line = line_of(fault);
+    let _ = deliver(errors, line.as_slice());
+    status_of(fault)
 }

@@ -4,7 +4,6 @@
 ghost use Rattle.std.specs.Prelude.{◌≡◌, false};
 
 pub use command_line::{Job, WordsFault, command, perform};
-
 use command_line::{Counted, CountedSink, Sink, explain, perform_opened, reading_fault};
 use std::env;
 use std::fs::File;
