@@ -3,21 +3,14 @@
 
 ghost use Rattle.std.specs.Prelude.{◌≡◌, false};
 
-mod words;
-mod work;
-
-use executor::{Counted, CountedSink, Sink};
+pub use command_line::{Job, WordsFault, command, perform};
+use command_line::{Counted, CountedSink, Sink, explain, perform_opened, reading_fault};
 use std::env;
 use std::fs::File;
 use std::process::ExitCode;
-use words::{Job, WordsFault, command, reading_fault};
-use work::{explain, perform, perform_opened};
 
 /// The word for standard input in a file's place.
 const STANDARD_INPUT: &str = "-";
-
-#[cfg(test)]
-mod tests;
 
 fn main(rt: HostRuntime) -> ExitCode {
     let mut out = CountedSink::of(rt.stdout());

@@ -1,0 +1,6 @@
+mod Examples
+mod Found
+mod LineParts
+mod Numbers
+mod Texts
+mod Whole

@@ -1,0 +1,16 @@
+use Rattle.std.proofs.Common.{ap, ap₂, codes, ◌≡◌, ◌∙◌}
+use Rattle.std.proofs.lemmas.Result.{IfOk-weaker}
+use Rattle.clap.specs.Words.{app_of, new_app, with_rule}
+use Rattle.clap.specs.Simple.{app_of_fields}
+use Rattle.command_line.proofs.arguments.clap_command.Goals as goal
+
+pub returns : goal.returns
+returns c =
+    let start_is : app_of c.after_help.result ≡ new_app (codes "itch_bars") =
+    ap app_of_fields c.after_help.ensures ∙ (ap app_of_fields c.about.ensures ∙ c.new.ensures.app) in
+    IfOk-weaker c.arg-4.result _ _ (λ command h. h.shape c.morsel_option.ensures.local
+    ∙ ap₂ with_rule (c.in_ok-arg-3.ensures.shape c.workers_option.ensures.local
+    ∙ ap₂ with_rule (c.in_ok-arg-2.ensures.shape c.query_argument.ensures.local
+    ∙ ap₂ with_rule (c.in_ok-arg.ensures.shape c.file_argument.ensures.local
+    ∙ ap₂ with_rule start_is c.file_argument.ensures.rule) c.query_argument.ensures.rule) c.workers_option.ensures.rule)
+    c.morsel_option.ensures.rule) c.arg-4.ensures

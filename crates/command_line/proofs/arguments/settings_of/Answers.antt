@@ -1,0 +1,35 @@
+use Rattle.std.proofs.Common.{refl, arith, codes}
+use Rattle.clap.specs.Words.{found_of}
+use Rattle.command_line.proofs.Numbers.{integer_found, integer_unwrapped, some_is}
+use Rattle.command_line.proofs.arguments.settings_of.Goals as goal
+
+pub unwrap-workers-requires : goal.unwrap-workers-requires
+unwrap-workers-requires c =
+    let got = integer_found 32 1 64 (codes "workers") (found_of c.args.matches.now) c.get_one.result c.requires.workers c.get_one.ensures.value (omega arith) in
+    some_is _ _ got.1
+
+pub unwrap-morsel-requires : goal.unwrap-morsel-requires
+unwrap-morsel-requires c =
+    let got = integer_found 64 1 1073741824 (codes "morsel") (found_of c.args.matches.now) c.get_one-2.result c.requires.morsel c.get_one-2.ensures.value
+    (omega arith) in
+    some_is _ _ got.1
+
+pub invariant_of-crew : goal.invariant_of-crew
+invariant_of-crew c =
+    let got = integer_unwrapped 32 1 64 (codes "workers") (found_of c.args.matches.now) c.get_one.result _ c.requires.workers c.get_one.ensures.value
+    (omega arith) c.unwrap-workers.ensures in
+    record { workers_in_range = (omega (arith, got.0), got.1); one_gatherer = refl }
+
+pub invariant_of-result : goal.invariant_of-result
+invariant_of-result c =
+    let got = integer_unwrapped 64 1 1073741824 (codes "morsel") (found_of c.args.matches.now) c.get_one-2.result _ c.requires.morsel
+    c.get_one-2.ensures.value (omega arith) c.unwrap-morsel.ensures in
+    record { morsel_in_range = (omega (arith, got.0), got.1); limit_in_range = omega arith }
+
+pub returns : goal.returns
+returns c =
+    let workers = integer_unwrapped 32 1 64 (codes "workers") (found_of c.args.matches.now) c.get_one.result _ c.requires.workers c.get_one.ensures.value
+    (omega arith) c.unwrap-workers.ensures in
+    let morsel = integer_unwrapped 64 1 1073741824 (codes "morsel") (found_of c.args.matches.now) c.get_one-2.result _ c.requires.morsel
+    c.get_one-2.ensures.value (omega arith) c.unwrap-morsel.ensures in
+    record { workers = workers.2; morsel = morsel.2; limit = refl }

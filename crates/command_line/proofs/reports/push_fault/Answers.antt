@@ -1,0 +1,13 @@
+use Rattle.std.proofs.Common.{codes}
+use Rattle.std.specs.Fmt.{decimal}
+use Rattle.command_line.proofs.LineParts.{one_number}
+use Rattle.command_line.proofs.reports.push_fault.Goals as goal
+
+pub returns-in-TooLong-clause-items : goal.returns-in-TooLong-clause-items
+returns-in-TooLong-clause-items c = rw c.in-TooLong.is (one_number c.args.line.now.items
+    (codes "file is longer than ") (decimal c.in-TooLong.limit) (codes " bytes") _ c.push_number.ensures.items)
+
+pub returns-in-WriteFailed-clause-items : goal.returns-in-WriteFailed-clause-items
+returns-in-WriteFailed-clause-items c = rw c.in-WriteFailed.is (one_number c.args.line.now.items
+    (codes "writing failed after ") (decimal c.in-WriteFailed.written) (codes " bytes") _
+    c.push_number-in-WriteFailed.ensures.items)

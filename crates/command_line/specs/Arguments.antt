@@ -1,0 +1,40 @@
+-- The program's command line, as what clap reads of it.
+-- To be believed.
+use Rattle.std.specs.Prelude.{[], ◌∷◌, Some, codes, pos, true}
+use Rattle.lists.specs.declared.limits.TheConstants.{LARGEST_MORSEL, MOST_WORKERS}
+use Rattle.clap.specs.Words.{App, Rule, new_app, new_rule, with_rule}
+use Rattle.clap.specs.declared.builder.action.ArgAction.TheVariants.{Set}
+use Rattle.clap.specs.declared.builder.value_parser.ValueParser.TheVariants.{Signed, Unsigned}
+
+-- the day file's path, which has to be there
+abbrev pub file_rule : Rule
+file_rule = record (new_rule (codes "FILE")) { required = true; action = Some Set }
+
+-- the query's text, which has to be there
+abbrev pub query_rule : Rule
+query_rule = record (new_rule (codes "QUERY")) { required = true; action = Some Set }
+
+-- `--workers N`, from 1 to the most workers, and 4 where it is left out
+abbrev pub workers_rule : Rule
+workers_rule = record (new_rule (codes "workers")) {
+  long = Some (codes "workers");
+  value_names = 1;
+  action = Some Set;
+  parser = Some (Signed (pos 1) (pos MOST_WORKERS));
+  defaults = codes "4" ∷ [];
+}
+
+-- `--morsel BYTES`, from 1 to the largest morsel, and 16,777,216 where it is left out
+abbrev pub morsel_rule : Rule
+morsel_rule = record (new_rule (codes "morsel")) {
+  long = Some (codes "morsel");
+  value_names = 1;
+  action = Some Set;
+  parser = Some (Unsigned 1 LARGEST_MORSEL);
+  defaults = codes "16777216" ∷ [];
+}
+
+-- the program's command line
+abbrev pub the_app : App
+the_app = with_rule (with_rule (with_rule (with_rule (new_app (codes "itch_bars"))
+    file_rule) query_rule) workers_rule) morsel_rule

@@ -1,0 +1,4 @@
+pub mod Arguments
+pub mod FaultLines
+pub mod Jobs
+pub mod Outcomes

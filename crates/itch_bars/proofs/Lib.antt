@@ -1,5 +1,0 @@
-mod Examples
-mod Found
-mod Numbers
-mod Texts
-mod Whole

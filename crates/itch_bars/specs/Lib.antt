@@ -1,3 +1,0 @@
-pub mod CommandLine
-pub mod Jobs
-pub mod Statuses

@@ -1,0 +1,157 @@
+//! The words of the command line.
+use super::Outcome;
+use command_line::{CountedSink, Job, WordsFault, command, explain, reading_fault};
+use std::alloc::{AllocError, Global};
+use std::io::ErrorKind;
+use std::test::Fail;
+
+/// What help says.
+const HELP: &str = "\
+Answers a query over a day file of Nasdaq TotalView-ITCH 5.0
+
+Usage: itch_bars [OPTIONS] <FILE> <QUERY>
+
+Arguments:
+  <FILE>   A day file, uncompressed; - is standard input
+  <QUERY>  What to answer, as below
+
+Options:
+      --workers <N>     Threads that work on the query, 1 to 64; no answer depends on them [default: 4]
+      --morsel <BYTES>  Least size of a piece of the file, 1 to 1073741824; no answer depends on it [default: 16777216]
+  -h, --help            Print help
+
+Queries:
+  sales        time and sales: a line for each sale of the day, by its place in the file
+  bars 5 m     a line for each security and interval of 5 minutes; s, m or h, 1 s to 24 h
+Behind either, `where` and some of these, joined by `and`:
+  symbol in MSFT,AAPL
+  time from 09:30:00 until 16:00:00
+  kind in E,C,P,Q    executions, executions with a price, trades, crosses
+As in: itch_bars day.itch \"bars 5 m where symbol in MSFT and kind in E,P\"
+
+The answer goes to standard output, and a fault to standard error as one line.
+Statuses: 0 answered, 1 the file has a fault, 2 wrong words or query, 3 out of memory,
+4 the file can't be read, 5 the output can't be written
+";
+
+/// What the words of a command line ask for: a job, or what comes of a fault of theirs.
+fn asked(alloc: Global, words: &[&str]) -> Result<Result<Job, Outcome>, Fail> {
+    let mut given = Vec::new(alloc);
+    for word in words {
+        given.push(String::from_str(alloc, word)?)?;
+    }
+    let fault = match command(alloc, given.as_slice()) {
+        Ok(job) => return Ok(Ok(job)),
+        Err(WordsFault::Memory) => return Err(Fail::from(AllocError)),
+        Err(fault) => fault,
+    };
+    let mut out = Vec::new(alloc);
+    let mut errors = Vec::new(alloc);
+    let status = explain(
+        &fault,
+        &mut CountedSink::of(&mut out),
+        &mut CountedSink::of(&mut errors),
+    );
+    Ok(Err(Outcome {
+        status,
+        out,
+        errors,
+    }))
+}
+
+#[test]
+fn words_ask_for_a_job(rt: HostRuntime) -> Result<(), Fail> {
+    let defaults: &[&str] = &["itch_bars", "day", "sales"];
+    let given: &[&str] = &["itch_bars", "day", "sales", "--workers", "64", "--morsel=1"];
+    for (words, workers, morsel) in [(defaults, 4, 16_777_216), (given, 64, 1)] {
+        let Ok(job) = asked(rt.alloc(), words)? else {
+            return Err(Fail::from("no job"));
+        };
+        assert!(rt; job.file.as_str() == "day" && job.query.as_str() == "sales");
+        assert!(rt; job.settings.crew.workers == workers);
+        assert!(rt; job.settings.morsel == morsel);
+    }
+    Ok(())
+}
+
+#[test]
+fn wrong_words_are_reported(rt: HostRuntime) -> Result<(), Fail> {
+    let cases: [(&[&str], &str); 9] = [
+        (
+            &["itch_bars"],
+            "the following required arguments were not provided:",
+        ),
+        (
+            &["itch_bars", "-"],
+            "the following required arguments were not provided:",
+        ),
+        (
+            &["itch_bars", "-", "sales", "--workers", "0"],
+            "invalid value '0' for '--workers <N>': 0 is not in 1..=64",
+        ),
+        (
+            &["itch_bars", "-", "sales", "--workers=65"],
+            "invalid value '65' for '--workers <N>': 65 is not in 1..=64",
+        ),
+        (
+            &["itch_bars", "-", "sales", "--morsel", "0"],
+            "invalid value '0' for '--morsel <BYTES>': 0 is not in 1..=1073741824",
+        ),
+        (
+            &["itch_bars", "-", "sales", "--morsel=1073741825"],
+            "invalid value '1073741825' for '--morsel <BYTES>': 1073741825 is not in 1..=1073741824",
+        ),
+        (
+            &["itch_bars", "-", "sales", "--gatherers=1"],
+            "unexpected argument '--gatherers' found",
+        ),
+        (
+            &["itch_bars", "-", "sales", "bars 1 m"],
+            "unexpected argument 'bars 1 m' found",
+        ),
+        (
+            &[
+                "itch_bars",
+                "-",
+                "sales",
+                "--workers",
+                "1",
+                "--workers",
+                "2",
+            ],
+            "the argument '--workers <N>' cannot be used multiple times",
+        ),
+    ];
+    for (words, wrong) in cases {
+        let Err(outcome) = asked(rt.alloc(), words)? else {
+            return Err(Fail::from("a job"));
+        };
+        let start = format!(in rt.alloc(); "error: {wrong}\n")?;
+        assert!(rt; outcome.status == 2 && outcome.out.is_empty(), "{wrong}");
+        assert!(rt; outcome.errors.starts_with(start.as_bytes()), "{wrong}");
+    }
+    Ok(())
+}
+
+#[test]
+fn words_that_cannot_be_read_are_reported(rt: HostRuntime) -> Result<(), Fail> {
+    let alloc = rt.alloc();
+    let wanting = reading_fault(alloc, ErrorKind::OutOfMemory);
+    assert!(rt; matches!(wanting, WordsFault::Memory));
+    let WordsFault::Wrong { text } = reading_fault(alloc, ErrorKind::InvalidData) else {
+        return Err(Fail::from("no wrong word"));
+    };
+    assert!(rt; text.starts_with("error: a word is not valid UTF-8\n\nUsage: itch_bars"));
+    Ok(())
+}
+
+#[test]
+fn help_is_given_whole(rt: HostRuntime) -> Result<(), Fail> {
+    for words in [["itch_bars", "--help"], ["itch_bars", "-h"]] {
+        let Err(outcome) = asked(rt.alloc(), &words)? else {
+            return Err(Fail::from("a job"));
+        };
+        assert!(rt; outcome.is(0, HELP, ""));
+    }
+    Ok(())
+}

@@ -1,0 +1,234 @@
+//! What goes to which of the program's two outputs, and what comes of devices that fail.
+ghost use Rattle.std.specs.Prelude.{◌≡◌, false};
+
+use super::job;
+use command_line::{
+    Counted, CountedSink, LONGEST_FILE, RunFault, WordsFault, explain, perform, perform_opened,
+    tell,
+};
+use linked_list_allocator::LocalHeap;
+use std::io::{self, Write};
+use std::test::Fail;
+use tests_support::{Broken, Day, NAMED};
+
+/// A writer that takes two bytes a call, no more than it has room for, and notes its flush.
+#[derive(Drop)]
+struct Narrow {
+    taken: Vec<u8>,
+    room: usize,
+    is_flushed: bool,
+}
+
+impl Narrow {
+    /// A writer of that room that has taken nothing yet.
+    fn of(taken: Vec<u8>, room: usize) -> Narrow {
+        Narrow {
+            taken,
+            room,
+            is_flushed: false,
+        }
+    }
+}
+
+impl Write for Narrow {
+    fn write(&mut self, bytes: &[u8]) -> io::Result<usize> {
+        let room = self.room.saturating_sub(self.taken.len());
+        let count = bytes.len().min(2).min(room);
+        match self.taken.extend_from_slice(&bytes[..count]) {
+            Ok(()) => Ok(count),
+            Err(_) => Err(io::Error::from(io::ErrorKind::OutOfMemory)),
+        }
+    }
+
+    fn flush(&mut self) -> io::Result<()> {
+        self.is_flushed = true;
+        Ok(())
+    }
+}
+
+/// A writer of which each call is interrupted.
+#[derive(Drop)]
+struct Interrupted;
+
+impl Write for Interrupted {
+    fn write(&mut self, _buf: &[u8]) -> io::Result<usize> {
+        Err(io::Error::from(io::ErrorKind::Interrupted))
+    }
+
+    fn flush(&mut self) -> io::Result<()> {
+        Err(io::Error::from(io::ErrorKind::Interrupted))
+    }
+}
+
+#[test]
+fn a_line_goes_out_by_two_bytes_and_is_flushed(rt: HostRuntime) -> Result<(), Fail> {
+    let mut narrow = Narrow::of(Vec::new(rt.alloc()), 100);
+    let status = tell(&RunFault::ReadFailed, &mut CountedSink::of(&mut narrow));
+    assert!(rt; status == 4 && narrow.is_flushed);
+    assert!(rt; narrow.taken.as_slice() == "fault: reading failed\n".as_bytes());
+    Ok(())
+}
+
+#[test]
+fn faults_of_words_go_to_their_output(rt: HostRuntime) -> Result<(), Fail> {
+    let alloc = rt.alloc();
+    let help = WordsFault::Help {
+        text: String::from_str(alloc, "how")?,
+    };
+    let wrong = WordsFault::Wrong {
+        text: String::from_str(alloc, "what")?,
+    };
+    for (fault, status, text, line) in [
+        (help, 0, "how", ""),
+        (wrong, 2, "", "what"),
+        (WordsFault::Memory, 3, "", "fault: out of memory\n"),
+    ] {
+        let mut out = Vec::new(alloc);
+        let mut errors = Vec::new(alloc);
+        let given = explain(
+            &fault,
+            &mut CountedSink::of(&mut out),
+            &mut CountedSink::of(&mut errors),
+        );
+        assert!(rt; given == status);
+        assert!(rt; out.as_slice() == text.as_bytes());
+        assert!(rt; errors.as_slice() == line.as_bytes());
+    }
+    Ok(())
+}
+
+#[test]
+fn a_full_output_is_a_failed_write(rt: HostRuntime) -> Result<(), Fail> {
+    let alloc = rt.alloc();
+    let help = WordsFault::Help {
+        text: String::from_str(alloc, "tips")?,
+    };
+    let day = Day::of(alloc, &NAMED)?.bytes;
+    let job = job(alloc, "sales", LONGEST_FILE)?;
+    for is_help in [true, false] {
+        let mut errors = Vec::new(alloc);
+        let mut full = Narrow::of(Vec::new(alloc), 2);
+        let mut out = CountedSink::of(&mut full);
+        let mut lines = CountedSink::of(&mut errors);
+        let status = if is_help {
+            explain(&help, &mut out, &mut lines)
+        } else {
+            let mut source = Counted::of(day.as_slice());
+            perform(&rt, alloc, &job, &mut source, &mut out, &mut lines)
+        };
+        assert!(rt; status == 5);
+        assert!(rt; full.taken.as_slice() == "ti".as_bytes());
+        assert!(rt; errors.as_slice() == "fault: writing failed after 2 bytes\n".as_bytes());
+    }
+    Ok(())
+}
+
+#[test]
+fn devices_and_memory_that_refuse(rt: HostRuntime) -> Result<(), Fail> {
+    let alloc = rt.alloc();
+    let day = Day::of(alloc, &NAMED)?.bytes;
+    let bytes = day.as_slice();
+    let all = job(alloc, "sales", LONGEST_FILE)?;
+    let short = job(alloc, "sales", 111)?;
+    let heap = LocalHeap::new(alloc, 64)?;
+    let mut text = Vec::new(alloc);
+    let mut lines = Vec::new(alloc);
+    let mut out = CountedSink::of(&mut text);
+    let mut errors = CountedSink::of(&mut lines);
+    let unread = perform(
+        &(),
+        alloc,
+        &all,
+        &mut Counted::of(Broken),
+        &mut out,
+        &mut errors,
+    );
+    assert!(rt; unread == 4 && text.is_empty());
+    assert!(rt; lines.as_slice() == "fault: reading failed\n".as_bytes());
+
+    let mut lines = Vec::new(alloc);
+    let mut out = CountedSink::of(&mut text);
+    let mut errors = CountedSink::of(&mut lines);
+    let too_long = perform(
+        &(),
+        alloc,
+        &short,
+        &mut Counted::of(bytes),
+        &mut out,
+        &mut errors,
+    );
+    assert!(rt; too_long == 1 && text.is_empty());
+    assert!(rt; lines.as_slice() == "fault: file is longer than 111 bytes\n".as_bytes());
+
+    let mut lines = Vec::new(alloc);
+    let mut out = CountedSink::of(&mut text);
+    let mut errors = CountedSink::of(&mut lines);
+    let wanting = perform(
+        &(),
+        &heap,
+        &all,
+        &mut Counted::of(bytes),
+        &mut out,
+        &mut errors,
+    );
+    assert!(rt; wanting == 3 && text.is_empty());
+    assert!(rt; lines.as_slice() == "fault: out of memory\n".as_bytes());
+
+    let mut lines = Vec::new(alloc);
+    let mut out = CountedSink::of(Interrupted);
+    let mut errors = CountedSink::of(&mut lines);
+    let unwritten = perform(
+        &(),
+        alloc,
+        &all,
+        &mut Counted::of(bytes),
+        &mut out,
+        &mut errors,
+    );
+    assert!(rt; unwritten == 5);
+    assert!(rt; lines.as_slice() == "fault: writing failed after 0 bytes\n".as_bytes());
+
+    // A line that can't be written changes no status.
+    let mut out = CountedSink::of(Interrupted);
+    let mut errors = CountedSink::of(Interrupted);
+    let unheard = perform(
+        &(),
+        alloc,
+        &all,
+        &mut Counted::of(bytes),
+        &mut out,
+        &mut errors,
+    );
+    assert!(rt; unheard == 5);
+    Ok(())
+}
+
+#[test]
+fn a_file_that_is_not_open_is_reported_before_the_query(rt: HostRuntime) -> Result<(), Fail> {
+    let alloc = rt.alloc();
+    let day = Day::of(alloc, &NAMED)?.bytes;
+    // The query is wrong, and is not looked at without a file.
+    let job = job(alloc, "bars", LONGEST_FILE)?;
+    for (opened, status, line) in [
+        (None, 4, "fault: reading failed\n"),
+        (
+            Some(Counted::of(day.as_slice())),
+            2,
+            "fault: query ends too early\n",
+        ),
+    ] {
+        let mut out = Vec::new(alloc);
+        let mut errors = Vec::new(alloc);
+        let given = perform_opened(
+            &(),
+            alloc,
+            &job,
+            opened,
+            &mut CountedSink::of(&mut out),
+            &mut CountedSink::of(&mut errors),
+        );
+        assert!(rt; given == status && out.is_empty());
+        assert!(rt; errors.as_slice() == line.as_bytes());
+    }
+    Ok(())
+}

@@ -1,0 +1,92 @@
+//! What comes of a job.
+use super::{job, performed};
+use command_line::{Counted, CountedSink, perform};
+use linked_list_allocator::LocalHeap;
+use std::test::Fail;
+use tests_support::{Day, NAMED, NAMED_TEXT, WITH_A_SHORT_ADD};
+
+/// The first line of every listing.
+const HEADER: &str = "time,symbol,kind,price,shares,number\n";
+
+/// The bar of the one execution of `NAMED`.
+const BAR: &str = "symbol,start,first,high,low,last,volume,trades,average\n\
+    MSFT,09:30:00,410.5000,410.5000,410.5000,410.5000,40,1,410.5000+0/40\n";
+
+#[test]
+fn a_job_answers_or_reports_a_fault(rt: HostRuntime) -> Result<(), Fail> {
+    let alloc = rt.alloc();
+    let named = Day::of(alloc, &NAMED)?.bytes;
+    let short_add = Day::of(alloc, &WITH_A_SHORT_ADD)?.bytes;
+    let day = named.as_slice();
+    if day.len() != 112 {
+        return Err(Fail::from("the day has another length"));
+    }
+    let cases = [
+        (day, "sales", 0, NAMED_TEXT, ""),
+        (day, "bars 1 m", 0, BAR, ""),
+        (day, "sales where symbol in AAPL", 0, HEADER, ""),
+        (&day[..41], "sales", 0, HEADER, ""),
+        (
+            short_add.as_slice(),
+            "sales",
+            1,
+            "",
+            "fault: place 84: message A has length 35, not 36\n",
+        ),
+        (
+            &day[..80],
+            "sales",
+            1,
+            "",
+            "fault: place 79: message runs past the end\n",
+        ),
+        (
+            &day[79..],
+            "sales",
+            1,
+            "",
+            "fault: place 0: order reference 1 is not known\n",
+        ),
+        (day, "bars", 2, "", "fault: query ends too early\n"),
+        (day, "bars 0 s", 2, "", "fault: query byte 5: bad number\n"),
+        (day, "Sales", 2, "", "fault: query byte 0: unknown word\n"),
+        (day, "  ", 2, "", "fault: query ends too early\n"),
+    ];
+    for (day, query, status, text, line) in cases {
+        let outcome = performed(alloc, day, query)?;
+        assert!(rt; outcome.is(status, text, line), "{query}: {line}");
+    }
+    Ok(())
+}
+
+#[test]
+fn each_allocation_of_a_job_can_be_refused(rt: HostRuntime) -> Result<(), Fail> {
+    let alloc = rt.alloc();
+    let day = Day::of(alloc, &NAMED)?.bytes;
+    let job = job(alloc, "bars 1 m", 112)?;
+    let mut refused = 0u32;
+    for step in 0..400u32 {
+        let heap = LocalHeap::new(alloc, step as usize * 16)?;
+        let mut text = Vec::new(alloc);
+        let mut line = Vec::new(alloc);
+        let status = perform(
+            &(),
+            &heap,
+            &job,
+            &mut Counted::of(day.as_slice()),
+            &mut CountedSink::of(&mut text),
+            &mut CountedSink::of(&mut line),
+        );
+        let wanted = if status == 0 {
+            (BAR, "")
+        } else {
+            refused = step;
+            ("", "fault: out of memory\n")
+        };
+        assert!(rt; status == 0 || status == 3, "at {step}");
+        assert!(rt; text.as_slice() == wanted.0.as_bytes(), "at {step}");
+        assert!(rt; line.as_slice() == wanted.1.as_bytes(), "at {step}");
+    }
+    assert!(rt; refused > 8 && refused < 399);
+    Ok(())
+}
