@@ -65,6 +65,7 @@ fn an_interruption_is_a_failure_and_is_not_tried_again(rt: HostRuntime) -> Resul
             assert!(rt; !source.failed());
             assert!(rt; source.take(&mut [0; 4])? == 1);
         }
+        assert!(rt; !source.failed());
         assert!(rt; source.take(&mut [0; 4]) == Err(DeviceFailed), "at {interrupted}");
         assert!(rt; source.failed());
         assert!(rt; reader.calls == interrupted + 1, "at {interrupted}");
