@@ -21,7 +21,7 @@ match_some o P Q x e q = subst (λ o. MatchOption o P Q) (sym e) q
 -- the text of the sales that a query asks for is the text that it asks for
 pub text_asked : (messages : List Placed) (query : Meaning) (listing : List Sale) (names : ℕ → List ℕ) (text : List ℕ) → listing ≡ selected_sales query messages
     → ((locate : ℕ) → names locate ≡ name_of (directory_rows messages) locate) → IsTextOfSales query.what names listing text
-        → IsTextOfMessages query messages text
+    → IsTextOfMessages query messages text
 text_asked messages query listing names text same named is =
     subst (λ sales. IsTextOfSales query.what (name_of (directory_rows messages)) sales text) same
     (subst (λ (ns : ℕ → List ℕ). IsTextOfSales query.what ns listing text) (λ i. λ locate. named locate i) is)

@@ -28,8 +28,15 @@ trade_size place (Add m) n h = omega arith
 trade_size place (Executed m) n h = let e : 31 ≡ n = h refl in omega arith
 trade_size place (ExecutedAt m) n h =
     let e : 36 ≡ n = h refl in
-    let own : Sale = record { place = place; time = m.header.time; locate = m.header.locate; kind = C; price = m.price; shares = m.shares;
-        trade_no = m.trade_no } in
+    let own : Sale = record {
+      place = place;
+      time = m.header.time;
+      locate = m.header.locate;
+      kind = C;
+      price = m.price;
+      shares = m.shares;
+      trade_no = m.trade_no;
+    } in
     let few : length (option_to_list (cond (m.printable == 89) (Some own) None)) ≤ 1 = one_or_none (m.printable == 89) own in
     omega (arith, few)
 trade_size place (Replace m) n h = omega arith
@@ -58,9 +65,9 @@ room (frame ∷ frames) =
     let more = room frames in
     let here = trade_size frame.place (message_of frame.body) (length frame.body) (λ h. size_of-message_of frame.body h) in
     let first = ap length (given_first execution_at (λ place. refl) frame frames)
-        ∙ length-append (option_to_list (execution_at frame.place (message_of frame.body))) (executions (messages_of frames)) in
+    ∙ length-append (option_to_list (execution_at frame.place (message_of frame.body))) (executions (messages_of frames)) in
     let second = ap length (given_first own_priced_at (λ place. refl) frame frames)
-        ∙ length-append (option_to_list (own_priced_at frame.place (message_of frame.body))) (own_priced_sales (messages_of frames)) in
+    ∙ length-append (option_to_list (own_priced_at frame.place (message_of frame.body))) (own_priced_sales (messages_of frames)) in
     omega (arith, more, here, first, second, length-spelling frame frames)
 
 -- so a file has few of them

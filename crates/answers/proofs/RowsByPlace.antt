@@ -58,8 +58,14 @@ order_keeps_place place Skipped row e = absurd (cc)
 
 execution_keeps_place : (place : ℕ) (message : Message) (row : Execution) → execution_at place message ≡ Some row → row.place ≡ place
 execution_keeps_place place (Executed executed) row e =
-    let made : Execution = record { place = place; time = executed.header.time; locate = executed.header.locate; order_no = executed.order_no;
-        shares = executed.shares; trade_no = executed.trade_no } in
+    let made : Execution = record {
+      place = place;
+      time = executed.header.time;
+      locate = executed.header.locate;
+      order_no = executed.order_no;
+      shares = executed.shares;
+      trade_no = executed.trade_no;
+    } in
     let same : made ≡ row = cc in sym (ap (λ (r : Execution). r.place) same)
 execution_keeps_place place (Add add) row e = absurd (cc)
 execution_keeps_place place (Replace replace) row e = absurd (cc)
@@ -86,17 +92,17 @@ directory_keeps_place place Skipped row e = absurd (cc)
 pub orders_distinct : (messages : List Placed) → AreByPlace messages → IsDistinct nat_eq (map (λ row. row.place) (order_rows messages))
 orders_distinct messages up = distinct_places (λ (row : OrderRow). row.place) (order_rows messages)
     (sorted-filter_map (λ (m : Placed). m.place) (λ (row : OrderRow). row.place) (λ m. order_row_at m.place m.message)
-        (λ m row e. order_keeps_place m.place m.message row e) messages up)
+    (λ m row e. order_keeps_place m.place m.message row e) messages up)
 
 pub executions_distinct : (messages : List Placed) → AreByPlace messages → IsDistinct nat_eq (map (λ row. row.place) (executions messages))
 executions_distinct messages up = distinct_places (λ (row : Execution). row.place) (executions messages)
     (sorted-filter_map (λ (m : Placed). m.place) (λ (row : Execution). row.place) (λ m. execution_at m.place m.message)
-        (λ m row e. execution_keeps_place m.place m.message row e) messages up)
+    (λ m row e. execution_keeps_place m.place m.message row e) messages up)
 
 pub directory_distinct : (messages : List Placed) → AreByPlace messages → IsDistinct nat_eq (map (λ row. row.place) (directory_rows messages))
 directory_distinct messages up = distinct_places (λ (row : DirectoryRow). row.place) (directory_rows messages)
     (sorted-filter_map (λ (m : Placed). m.place) (λ (row : DirectoryRow). row.place) (λ m. directory_row_at m.place m.message)
-        (λ m row e. directory_keeps_place m.place m.message row e) messages up)
+    (λ m row e. directory_keeps_place m.place m.message row e) messages up)
 
 flips : (x y : ℕ) → nat_eq x y ≡ nat_eq y x
 flips x y = grind (arith, nat_tests)
@@ -104,7 +110,7 @@ flips x y = grind (arith, nat_tests)
 -- what is kept of the sales has no place twice
 pub kept_distinct : (selection : Sale → Bool) (messages : List Placed) → AreByPlace messages
     → IsDistinct nat_eq (map (λ sale. sale.place)
-        (kept (break_numbers messages) selection (priced (order_rows messages) (executions messages) ++ own_priced_sales messages)))
+    (kept (break_numbers messages) selection (priced (order_rows messages) (executions messages) ++ own_priced_sales messages)))
 kept_distinct selection messages up =
     IsDistinct-IsPermutation nat_eq flips _ _
     (IsPermutation-map (λ (s : Sale). s.place) _ _ (IsPermutation-sym _ _ (kept_are_sales selection messages)))
@@ -114,7 +120,7 @@ kept_distinct selection messages up =
 pub messages_by_place : (frames : List PlacedBody) → IsStrictlySortedBy (λ a b. nat_cmp a.place b.place) frames → AreByPlace (messages_of frames)
 messages_by_place frames up =
     sorted-filter_map (λ (f : PlacedBody). f.place) (λ (m : Placed). m.place) (λ f. placed_at f.place (message_of f.body))
-        (λ f m e. message_keeps_place f.place (message_of f.body) m e) frames up
+    (λ f m e. message_keeps_place f.place (message_of f.body) m e) frames up
   where
     kept_place : (place : ℕ) (message : Message) (m : Placed) → Some (record { place = place; message = message }) ≡ Some m → m.place ≡ place
     kept_place place message m e = let made : Placed = record { place = place; message = message } in let same : made ≡ m = cc in

@@ -88,7 +88,7 @@ later_stay place (x ∷ xs) all = go (has_wrong_length x.body) (later_stay place
   where
     go : (b : Bool) → AllByRecursion (λ (y : PlacedBody). ltb y.place place ≡ false) (filter (λ (f : PlacedBody). has_wrong_length f.body) xs)
         → AllByRecursion (λ (y : PlacedBody). ltb y.place place ≡ false)
-            (cond b (x ∷ filter (λ (f : PlacedBody). has_wrong_length f.body) xs) (filter (λ (f : PlacedBody). has_wrong_length f.body) xs))
+        (cond b (x ∷ filter (λ (f : PlacedBody). has_wrong_length f.body) xs) (filter (λ (f : PlacedBody). has_wrong_length f.body) xs))
     go true more = (not_before place x.place all.0, more)
     go false more = more
 

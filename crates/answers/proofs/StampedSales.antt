@@ -46,7 +46,7 @@ pub fits_all : (rows : List OrderRow) (all : List Execution) (own : List Sale) �
 fits_all rows all own first second =
     All-append (λ (s : Sale). IsStamped s.time s.locate) (priced rows all) own
     (All-from_recursion (λ (s : Sale). IsStamped s.time s.locate) (priced rows all)
-        (fits_priced rows all (recursion_from_All (λ (e : Execution). IsStamped e.time e.locate) all first))) second
+    (fits_priced rows all (recursion_from_All (λ (e : Execution). IsStamped e.time e.locate) all first))) second
 
 -- so of what is kept of them, in whatever order
 pub fits_listing : (breaks : List ℕ) (selection : Sale → Bool) (every listing : List Sale)

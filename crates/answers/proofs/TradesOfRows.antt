@@ -31,7 +31,7 @@ use Rattle.answers.specs.DayRows.{AreByPlace, IsStamped}
 
 one_trade : (rows : List OrderRow) (place : ℕ) (message : Message)
     → option_to_list (trade_at rows place message)
-        ≡ filter_map (sale_of rows) (option_to_list (execution_at place message)) ++ option_to_list (own_priced_at place message)
+    ≡ filter_map (sale_of rows) (option_to_list (execution_at place message)) ++ option_to_list (own_priced_at place message)
 one_trade rows place (Add add) = refl
 one_trade rows place (Executed executed) = go (trade_at rows place (Executed executed))
   where
@@ -115,7 +115,7 @@ sales_by_place selection messages up =
 -- what is kept of the priced executions and the sales with a price of their own is, in some order, the sales
 pub kept_are_sales : (selection : Sale → Bool) (messages : List Placed)
     → IsPermutation (kept (break_numbers messages) selection (priced (order_rows messages) (executions messages) ++ own_priced_sales messages))
-        (kept (break_numbers messages) selection (trades messages))
+    (kept (break_numbers messages) selection (trades messages))
 kept_are_sales selection messages =
     IsPermutation-filter (is_kept (break_numbers messages) selection) _ _ (IsPermutation-sym _ _ (trades_are_both (order_rows messages) messages))
 
@@ -125,5 +125,5 @@ pub listing_is : (selection : Sale → Bool) (messages : List Placed) (listing :
     → listing ≡ kept (break_numbers messages) selection (trades messages)
 listing_is selection messages listing up rising h =
     same_from_permutation place_cmp (on_total (λ (s : Sale). s.place) nat_cmp_total) listing (kept (break_numbers messages) selection (trades messages))
-        rising (sales_by_place selection messages up)
+    rising (sales_by_place selection messages up)
     (IsPermutation-trans _ _ _ (IsPermutation-sym _ _ h) (kept_are_sales selection messages))

@@ -47,7 +47,10 @@ fn a_source_that_fails_at_some_call(rt: HostRuntime) -> Result<(), Fail> {
         } else {
             Ok(3)
         };
-        assert!(rt; read == want && source.failed() == (calls < 4), "at {calls}");
+        assert!(rt;
+            read == want && source.failed() == (calls < 4),
+            "at {calls}"
+        );
     }
     Ok(())
 }
@@ -66,7 +69,10 @@ fn an_interruption_is_a_failure_and_is_not_tried_again(rt: HostRuntime) -> Resul
             assert!(rt; source.take(&mut [0; 4])? == 1);
         }
         assert!(rt; !source.failed());
-        assert!(rt; source.take(&mut [0; 4]) == Err(DeviceFailed), "at {interrupted}");
+        assert!(rt;
+            source.take(&mut [0; 4]) == Err(DeviceFailed),
+            "at {interrupted}"
+        );
         assert!(rt; source.failed());
         assert!(rt; reader.calls == interrupted + 1, "at {interrupted}");
     }
@@ -84,7 +90,10 @@ fn a_day_is_not_read_over_an_interruption(rt: HostRuntime) -> Result<(), Fail> {
         } else {
             Ok(3)
         };
-        assert!(rt; read.map(|day| day.bytes().len()) == want, "at {interrupted}");
+        assert!(rt;
+            read.map(|day| day.bytes().len()) == want,
+            "at {interrupted}"
+        );
         assert!(rt; reader.calls == interrupted.min(3) + 1, "at {interrupted}");
     }
     Ok(())

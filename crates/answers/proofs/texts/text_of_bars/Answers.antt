@@ -7,8 +7,19 @@ use Rattle.answers.proofs.texts.text_of_bars.Goals as goal
 
 pub loop-bar-preserved : goal.loop-bar-preserved
 loop-bar-preserved g c =
-    let nothing : Bar = record { locate = 0; start = 0; first_place = 0; first = 0; high = 0; low = 0; last_place = 0; last = 0; volume = 0;
-        notional = 0; trades = 0 } in
+    let nothing : Bar = record {
+      locate = 0;
+      start = 0;
+      first_place = 0;
+      first = 0;
+      high = 0;
+      low = 0;
+      last_place = 0;
+      last = 0;
+      volume = 0;
+      notional = 0;
+      trades = 0;
+    } in
     c.in_ok-write_bar.ensures.ok
     ∙ ap₂ (λ l name. l ++ bar_line (get_or c.args.table.now c.loop-bar.bar-index nothing) name) c.loop-bar.invariant c.name.ensures
     ∙ bars_more (λ locate. name_text locate (last_row c.args.names.now locate)) c.args.table.now c.loop-bar.bar-index nothing c.loop-bar-test.true
