@@ -209,26 +209,21 @@ fn a_file_that_is_not_open_is_reported_before_the_query(rt: HostRuntime) -> Resu
     let day = Day::of(alloc, &NAMED)?.bytes;
     // The query is wrong, and is not looked at without a file.
     let job = job(alloc, "bars", LONGEST_FILE)?;
-    for (opened, status, line) in [
-        (None, 4, "fault: reading failed\n"),
-        (
-            Some(Counted::of(day.as_slice())),
-            2,
-            "fault: query ends too early\n",
-        ),
-    ] {
-        let mut out = Vec::new(alloc);
-        let mut errors = Vec::new(alloc);
-        let given = perform_opened(
-            &(),
-            alloc,
-            &job,
-            opened,
-            &mut CountedSink::of(&mut out),
-            &mut CountedSink::of(&mut errors),
-        );
-        assert!(rt; given == status && out.is_empty());
-        assert!(rt; errors.as_slice() == line.as_bytes());
-    }
+    let mut text = Vec::new(alloc);
+    let mut lines = Vec::new(alloc);
+    let mut out = CountedSink::of(&mut text);
+    let mut errors = CountedSink::of(&mut lines);
+    let absent: Option<Counted<&[u8]>> = None;
+    let status = perform_opened(&(), alloc, &job, absent, &mut out, &mut errors);
+    assert!(rt; status == 4 && text.is_empty());
+    assert!(rt; lines.as_slice() == "fault: reading failed\n".as_bytes());
+
+    let mut lines = Vec::new(alloc);
+    let mut out = CountedSink::of(&mut text);
+    let mut errors = CountedSink::of(&mut lines);
+    let opened = Some(Counted::of(day.as_slice()));
+    let status = perform_opened(&(), alloc, &job, opened, &mut out, &mut errors);
+    assert!(rt; status == 2 && text.is_empty());
+    assert!(rt; lines.as_slice() == "fault: query ends too early\n".as_bytes());
     Ok(())
 }

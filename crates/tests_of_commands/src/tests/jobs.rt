@@ -17,43 +17,65 @@ fn a_job_answers_or_reports_a_fault(rt: HostRuntime) -> Result<(), Fail> {
     let alloc = rt.alloc();
     let named = Day::of(alloc, &NAMED)?.bytes;
     let short_add = Day::of(alloc, &WITH_A_SHORT_ADD)?.bytes;
-    let day = named.as_slice();
-    if day.len() != 112 {
-        return Err(Fail::from("the day has another length"));
-    }
+    let (day, short) = (named.as_slice(), short_add.as_slice());
     let cases = [
-        (day, "sales", 0, NAMED_TEXT, ""),
-        (day, "bars 1 m", 0, BAR, ""),
-        (day, "sales where symbol in AAPL", 0, HEADER, ""),
-        (&day[..41], "sales", 0, HEADER, ""),
+        (day, 0, 112, "sales", 0, NAMED_TEXT, ""),
+        (day, 0, 112, "bars 1 m", 0, BAR, ""),
+        (day, 0, 112, "sales where symbol in AAPL", 0, HEADER, ""),
+        (day, 0, 41, "sales", 0, HEADER, ""),
         (
-            short_add.as_slice(),
+            short,
+            0,
+            121,
             "sales",
             1,
             "",
             "fault: place 84: message A has length 35, not 36\n",
         ),
         (
-            &day[..80],
+            day,
+            0,
+            80,
             "sales",
             1,
             "",
             "fault: place 79: message runs past the end\n",
         ),
         (
-            &day[79..],
+            day,
+            79,
+            112,
             "sales",
             1,
             "",
             "fault: place 0: order reference 1 is not known\n",
         ),
-        (day, "bars", 2, "", "fault: query ends too early\n"),
-        (day, "bars 0 s", 2, "", "fault: query byte 5: bad number\n"),
-        (day, "Sales", 2, "", "fault: query byte 0: unknown word\n"),
-        (day, "  ", 2, "", "fault: query ends too early\n"),
+        (day, 0, 112, "bars", 2, "", "fault: query ends too early\n"),
+        (
+            day,
+            0,
+            112,
+            "bars 0 s",
+            2,
+            "",
+            "fault: query byte 5: bad number\n",
+        ),
+        (
+            day,
+            0,
+            112,
+            "Sales",
+            2,
+            "",
+            "fault: query byte 0: unknown word\n",
+        ),
+        (day, 0, 112, "  ", 2, "", "fault: query ends too early\n"),
     ];
-    for (day, query, status, text, line) in cases {
-        let outcome = performed(alloc, day, query)?;
+    for (file, start, end, query, status, text, line) in cases {
+        let Some(bytes) = file.get(start..end) else {
+            return Err(Fail::from("a day of another length"));
+        };
+        let outcome = performed(alloc, bytes, query)?;
         assert!(rt; outcome.is(status, text, line), "{query}: {line}");
     }
     Ok(())
