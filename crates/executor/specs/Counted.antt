@@ -1,4 +1,5 @@
 -- What a counted sink holds.
+-- To be believed.
 use Rattle.std.specs.Prelude.{Bool}
 use Rattle.executor.specs.declared.sink.CountedSink.{CountedSink}
 

@@ -1,4 +1,5 @@
 -- What a run reads of its source, answers, and hands to its sink.
+-- To be believed.
 use Rattle.std.specs.Prelude.{◌≡◌, ℕ, ◌+◌, ◌≤◌, ◌⊎◌, Bool, true, false, List, length, take, Some, Result, Ok, Err}
 use Rattle.answers.specs.Answers.{IsAnswer}
 use Rattle.query.specs.Faults.{first_query_fault}
