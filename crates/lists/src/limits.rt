@@ -26,24 +26,24 @@ pub const SECONDS_OF_DAY: u32 = 86_400;
 const _: () = prove!(SECONDS_OF_DAY == 24 * 60 * 60);
 
 /// The most tasks of a pipeline.
-pub const MOST_TASKS: u32 = 4_096;
+pub const MOST_TASKS: u32 = 65_536;
 
-const _: () = prove!(MOST_TASKS == 1 << 12);
+const _: () = prove!(MOST_TASKS == 1 << 16);
 
 /// The most morsels that a day file is cut into.
-pub const MOST_MORSELS: u32 = 4_096;
+pub const MOST_MORSELS: u32 = 65_536;
 
-const _: () = prove!(MOST_MORSELS == 1 << 12);
+const _: () = prove!(MOST_MORSELS == 1 << 16);
 
 /// The greatest target of a morsel, in bytes.
 pub const LARGEST_MORSEL: u64 = 1_073_741_824;
 
 const _: () = prove!(LARGEST_MORSEL == 1 << 30);
 
-/// The partitions of a day's order references.
-pub const PARTITIONS: u64 = 64;
+/// The most partitions of a day's order references.
+pub const MOST_PARTITIONS: u32 = 256;
 
-const _: () = prove!(PARTITIONS == 1 << 6);
+const _: () = prove!(MOST_PARTITIONS == 1 << 8);
 
 /// The most seats of a dispatcher.
 pub const MOST_SEATS: u32 = 256;
