@@ -1,4 +1,5 @@
 pub mod CutsAt
+pub mod Fed
 pub mod FirstRuns
 pub mod Following
 pub mod Heads

@@ -5,6 +5,7 @@
 #![tactic(auto)]
 
 mod counted;
+mod cutter;
 mod cutting;
 mod day;
 mod frame;
@@ -17,6 +18,7 @@ mod source;
 mod truncated;
 
 pub use counted::Counted;
+pub use cutter::Cutter;
 pub use cutting::{CutFault, cut, cut_at};
 pub use day::{DayFile, frames};
 pub use frame::{Frame, Frames, append_frame};

@@ -66,6 +66,13 @@ impl Cut {
         self.morsels.len() as u32
     }
 
+    /// How many bytes all morsels have.
+    pub fn length(&self) -> u64
+        ensures { result ≡ length (concat self.now) }
+    {
+        self.length
+    }
+
     /// The morsel of this number.
     pub fn morsel(&self, number: u32) -> &Arc<Morsel, Global>
         requires { number < length self.now }

@@ -52,6 +52,7 @@ pub(crate) fn count_runs(bytes: &[u8], target: u64) -> Result<u64, Truncated>
     requires target { 0 < target }
     ensures count { IfOk result (λ n. (runs : List (List ℕ))
         × Follow target runs bytes.now × (length runs ≡ n)) }
+    ensures few { IfOk result (λ n. n ≤ length bytes.now) }
     ensures truncated { IfErr result (λ fault. IsTruncatedAt bytes.now fault.place) }
 {
     let mut start = 0;
