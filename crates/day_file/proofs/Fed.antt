@@ -10,7 +10,7 @@ use Rattle.std.proofs.lemmas.List.Elements.{All-append, All-cons, All-nil, All-t
 use Rattle.day_file.specs.Frames.{IsTruncatedAt, IsWhole}
 use Rattle.day_file.specs.Cuts.{IsCutBy, IsRun, IsFirstRun, HasNoShorter}
 use Rattle.day_file.specs.Cutting.{IsCutting}
-use Rattle.day_file.specs.Feeding.{CutterView, HasFed, IsFullRun}
+use Rattle.day_file.specs.Feeding.{CutterView, HasFed, IsFullRun, fed_length}
 use Rattle.day_file.specs.Follow.{Follow, rest_run}
 use Rattle.day_file.proofs.CutsAt.{rest_one}
 use Rattle.day_file.proofs.Following.{IsCutBy-from_follow}
@@ -150,8 +150,13 @@ Taken-kept target past end start cut grown items run f h few is pushed =
       fed = λ fed has. subst (λ l. HasFed (record { target = target; cut = grown; past = past; rest = l }) fed) left
           (subst (λ l. HasFed (record { target = target; cut = l; past = past; rest = drop end rest }) fed) (sym same)
           (HasFed-kept target past end cut rest fed has few (full_run target end rest f h)));
-      bytes = omega (arith, ap (λ l. length (concat l)) same, ap length (concat-one cut (take end rest)), length-append (concat cut) (take end rest),
-          length-take-le end rest f.within);
+      bytes = omega (
+        arith,
+        ap (λ l. length (concat l)) same,
+        ap length (concat-one cut (take end rest)),
+        length-append (concat cut) (take end rest),
+        length-take-le end rest f.within,
+      );
       target = refl;
       rest = sym left;
     }
@@ -217,6 +222,10 @@ full_are_whole target (run ∷ runs) h =
 pub fed_before : (cutter : CutterView) (fed : List ℕ) → (h : HasFed cutter fed)
     → length (concat (cutter.cut ++ h.beyond)) ≡ length (concat cutter.cut) + cutter.past
 fed_before cutter fed h = omega (arith, ap length (concat-append cutter.cut h.beyond), length-append (concat cutter.cut) (concat h.beyond), h.past)
+
+pub fed_length_is : (cutter : CutterView) (fed : List ℕ) → HasFed cutter fed → fed_length cutter ≡ length fed
+fed_length_is cutter fed h =
+    omega (arith, fed_before cutter fed h, ap length h.joined, length-append (concat (cutter.cut ++ h.beyond)) cutter.rest)
 
 -- where the rest is truncated, what was fed is
 pub fed_truncated : (cutter : CutterView) (fed : List ℕ) (place : ℕ) → HasFed cutter fed → IsTruncatedAt cutter.rest place

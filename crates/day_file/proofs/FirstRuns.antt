@@ -183,4 +183,3 @@ run_of_rest target end bytes below e some w =
 pub ended_at : (target end place : ℕ) (bytes : List ℕ) (all left : List PlacedBody) → EndsAt bytes all place → Passed target end all left → left ≡ [] → end ≡ place
 ended_at target end place bytes all left ends p none =
     p.ends ∙ ap (λ l. length (spelling l)) (sym (append-nil p.passed) ∙ ap (λ l. p.passed ++ l) (sym none) ∙ p.split) ∙ ends.length_is
-

@@ -1,9 +1,9 @@
 -- Whole frames that follow whole frames.
-use Rattle.std.proofs.Common.{◌≡◌, ℕ, ◌+◌, List, [], ◌∷◌, ◌++◌, length, take, drop, refl, sym, ap, ap₂, ◌∙◌, subst, arith}
+use Rattle.std.proofs.Common.{ℕ, ◌+◌, List, [], ◌++◌, length, take, drop, refl, sym, ap, ap₂, ◌∙◌, subst, arith}
 use Rattle.std.proofs.Math.Seq.{take-add}
 use Rattle.std.proofs.lemmas.List.{length-drop, drop-drop}
-use Rattle.std.proofs.lemmas.List.Elements.{All-append, All-cons, All-nil}
-use Rattle.day_file.specs.Frames.{PlacedBody, frame_of, spelling, StandAt, IsShort, StandsFor, StandsFrom, IsTruncatedAt, IsStuck, IsWhole}
+use Rattle.std.proofs.lemmas.List.Elements.{All-append, All-nil}
+use Rattle.day_file.specs.Frames.{IsShort, IsTruncatedAt, IsStuck, IsWhole}
 use Rattle.day_file.proofs.Moved.{AreShort-moved, StandAt-moved, moved, spelling-moved}
 use Rattle.day_file.proofs.Laws.{spelling-append, StandAt-append}
 

@@ -1,6 +1,6 @@
 -- What was fed to a `Cutter`.
 -- To be believed.
-use Rattle.std.specs.Prelude.{◌≡◌, ℕ, ◌<◌, ◌≤◌, List, ◌++◌, length, All}
+use Rattle.std.specs.Prelude.{◌≡◌, ℕ, ◌+◌, ◌<◌, ◌≤◌, List, ◌++◌, length, All}
 use Rattle.std.specs.List.{concat}
 use Rattle.lists.specs.declared.limits.TheConstants.{MOST_MORSELS}
 use Rattle.day_file.specs.Cuts.{IsRun, HasNoShorter}
@@ -12,6 +12,10 @@ pub record CutterView : Type 0 where
   pub cut : List (List ℕ)
   pub past : ℕ
   pub rest : List ℕ
+
+-- how many bytes were fed
+abbrev pub fed_length : CutterView → ℕ
+fed_length cutter = (length (concat cutter.cut) + cutter.past) + length cutter.rest
 
 -- the shortest run with as many bytes as the target
 pub record IsFullRun (target : ℕ) (bytes : List ℕ) : Type 0 where

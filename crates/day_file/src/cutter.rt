@@ -2,7 +2,7 @@ ghost use Rattle.std.specs.Prelude.{◌≡◌, ◌≤◌, ◌<◌, ◌+◌, ◌+
 ghost use Rattle.std.specs.List.{concat};
 ghost use Rattle.day_file.specs.Cuts.{IsCutBy, IsFirstRun};
 ghost use Rattle.day_file.specs.CutFaults.{IsCutFault};
-ghost use Rattle.day_file.specs.Feeding.{HasFed};
+ghost use Rattle.day_file.specs.Feeding.{HasFed, fed_length};
 ghost use Rattle.day_file.specs.Frames.{IsTruncatedAt, IsWhole};
 
 use crate::runs::{count_runs, head_of};
@@ -65,9 +65,18 @@ impl Cutter {
         }
     }
 
+    /// How many bytes were fed.
+    pub fn length(&self) -> u64
+        ensures same { result ≡ fed_length self.now }
+        ensures fed { (fed : List ℕ) → HasFed self.now fed → result ≡ length fed }
+        ensures within { result ≤ LONGEST_FILE }
+    {
+        self.cut.length() + self.past + (self.rest.len() - self.start) as u64
+    }
+
     /// Takes the next bytes of the file. After a refusal it stands for the same bytes as before.
     pub fn feed(&mut self, piece: &[u8]) -> Result<(), OutOfMemory>
-        requires { (length (concat self.old.cut) + self.old.past) + length self.old.rest + length piece.now ≤ LONGEST_FILE }
+        requires { fed_length self.old + length piece.now ≤ LONGEST_FILE }
         ensures fed { OnOk result ((fed : List ℕ) → HasFed self.old fed → HasFed self.new (fed ++ piece.now)) }
         ensures same { OnErr result ((fed : List ℕ) → HasFed self.old fed → HasFed self.new fed) }
         ensures target { self.new.target ≡ self.old.target }
@@ -114,8 +123,7 @@ impl Cutter {
     fn cut_off(&mut self) -> Result<(), OutOfMemory>
         ensures fed { (fed : List ℕ) → HasFed self.old fed → HasFed self.new fed }
         ensures target { self.new.target ≡ self.old.target }
-        ensures bytes { (length (concat self.new.cut) + self.new.past) + length self.new.rest
-            ≡ (length (concat self.old.cut) + self.old.past) + length self.old.rest }
+        ensures length { fed_length self.new ≡ fed_length self.old }
         ensures rest { OnOk result ((IsWhole self.new.rest × (length self.new.rest < self.new.target))
             ⊎ ((place : ℕ) × IsTruncatedAt self.new.rest place)) }
     {

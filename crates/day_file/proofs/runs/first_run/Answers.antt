@@ -1,6 +1,6 @@
 use Rattle.std.proofs.Common.{refl, ◌∙◌, sym, arith}
 use Rattle.day_file.specs.Placed.{placed_body}
-use Rattle.day_file.proofs.FirstRuns.{AreFramesOf, Passed-more, ended_at, ends_within, frames_of_bytes, run_here, run_of_rest}
+use Rattle.day_file.proofs.FirstRuns.{Passed-more, ended_at, ends_within, frames_of_bytes, run_here, run_of_rest}
 use Rattle.day_file.proofs.runs.first_run.Goals as goal
 
 pub overflow_add-end-in-Some : goal.overflow_add-end-in-Some

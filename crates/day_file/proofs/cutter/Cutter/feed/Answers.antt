@@ -1,6 +1,5 @@
-use Rattle.std.proofs.Common.{◌≡◌, ◌+◌, ◌++◌, ◌≤◌, List, if◌then◌else◌, is_ok, length, drop, sym, ap, ◌∙◌, subst, arith}
-use Rattle.std.specs.List.{concat}
-use Rattle.day_file.specs.Feeding.{CutterView, HasFed}
+use Rattle.std.proofs.Common.{◌≡◌, ◌++◌, if◌then◌else◌, is_ok, drop, sym, ap, ◌∙◌, subst, arith}
+use Rattle.day_file.specs.Feeding.{CutterView, HasFed, fed_length}
 use Rattle.day_file.proofs.Fed.{Cutting-grown, HasFed-more, on_ok}
 use Rattle.day_file.proofs.cutter.Cutter.feed.Goals as goal
 
@@ -10,9 +9,11 @@ invariant_of-self c =
     let rest = drop s.start s.rest.items in
     let done = c.extend_from_slice.result in
     let grown = c.extend_from_slice.ensures.items ∙ ap (λ l. if is_ok done then l ++ c.args.piece.now else l) c.remove_front.ensures in
-    let sum = ap (λ (v : CutterView). (length (concat v.cut) + v.past) + length v.rest) c.self.view_is in
-    (Cutting-grown (is_ok done) s.whole s.target s.past s.cut rest c.args.piece.now c.extend_from_slice.new.self.items c.self.invariant.0 grown
-    (omega (arith, sum, c.requires, c.in_ok-cut_off.ensures.bytes)), omega arith)
+    let sum = ap fed_length c.self.view_is in (
+      Cutting-grown (is_ok done) s.whole s.target s.past s.cut rest c.args.piece.now c.extend_from_slice.new.self.items c.self.invariant.0 grown
+          (omega (arith, sum, c.requires, c.in_ok-cut_off.ensures.length)),
+      omega arith,
+    )
 
 pub returns-clause-fed : goal.returns-clause-fed
 returns-clause-fed c = on_ok c.extend_from_slice.result _ (λ ok fed has.
