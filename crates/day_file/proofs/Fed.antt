@@ -8,10 +8,10 @@ use Rattle.std.proofs.lemmas.List.{length-append, length-drop, length-take-le, t
 use Rattle.std.proofs.lemmas.List.Folds.{concat-append}
 use Rattle.std.proofs.lemmas.List.Elements.{All-append, All-cons, All-nil, All-tail}
 use Rattle.day_file.specs.Frames.{IsTruncatedAt, IsWhole}
-use Rattle.day_file.specs.Cuts.{IsCutBy, IsRun, IsFirstRun, HasNoShorter}
+use Rattle.day_file.specs.Cuts.{IsCutBy, IsRun, HasNoShorter}
 use Rattle.day_file.specs.Cutting.{IsCutting}
 use Rattle.day_file.specs.Feeding.{CutterView, HasFed, IsFullRun, fed_length}
-use Rattle.day_file.specs.Follow.{Follow, rest_run}
+use Rattle.day_file.specs.Follow.{Follow, IsFirstRun, rest_run}
 use Rattle.day_file.proofs.CutsAt.{rest_one}
 use Rattle.day_file.proofs.Following.{IsCutBy-from_follow}
 use Rattle.day_file.proofs.Joined.{IsWhole-append, IsWhole-nil, truncated_later}

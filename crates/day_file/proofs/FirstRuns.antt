@@ -4,7 +4,8 @@ use Rattle.std.proofs.Math.Seq.{take-append_seam, take-length, drop-append_seam}
 use Rattle.std.proofs.lemmas.List.{length-append, length-take-le, take-append-drop, take-take}
 use Rattle.std.proofs.lemmas.List.Elements.{All-take, All-drop}
 use Rattle.day_file.specs.Frames.{FramesLeft, PlacedBody, frame_of, spelling, StandAt, IsShort, StandsFor, IsTruncatedAt, IsWhole}
-use Rattle.day_file.specs.Cuts.{IsRun, IsFirstRun}
+use Rattle.day_file.specs.Cuts.{IsRun}
+use Rattle.day_file.specs.Follow.{IsFirstRun}
 use Rattle.day_file.proofs.Laws.{spelling-append, StandAt-split}
 use Rattle.day_file.proofs.Readings.{AreShort, head_apart, head_short, tail_short, length-frame_of, length-spelling}
 

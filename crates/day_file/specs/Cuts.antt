@@ -46,24 +46,12 @@ pub record IsCutAt (ends : List ℕ) (runs : List (List ℕ)) (bytes : List ℕ)
 abbrev pub IsPlace : List ℕ → ℕ → Type 0
 IsPlace bytes place = (place < length bytes) × IsWhole (take place bytes)
 
--- each of the ends is greater than the one before it, the first one than `last`, and is the place of a frame
-abbrev pub AreEnds : List ℕ → ℕ → List ℕ → Type 0
-AreEnds bytes last [] = Unit {0}
-AreEnds bytes last (end ∷ ends) = (last < end) × IsPlace bytes end × AreEnds bytes end ends
-
--- the first of the ends of which that does not hold
+-- the first of the ends that isn't greater than the one before it, the first one than `last`, or isn't the place of a frame
 abbrev pub IsFirstBad : List ℕ → ℕ → List ℕ → ℕ → Type 0
 IsFirstBad bytes last [] bad = ⊥
 IsFirstBad bytes last (end ∷ ends) bad =
     ((end ≡ bad) × ¬ ((last < end) × IsPlace bytes end))
     ⊎ ((last < end) × IsPlace bytes end × IsFirstBad bytes end ends bad)
-
--- the first run of such a cut has this many bytes
-pub record IsFirstRun (target : ℕ) (n : ℕ) (bytes : List ℕ) : Type 0 where
-  pub within : n ≤ length bytes
-  pub run : IsRun (take n bytes)
-  pub shortest : HasNoShorter target (take n bytes)
-  pub full : n < length bytes → target ≤ n
 
 -- what contracts see of a morsel: its number in its cut, the number of bytes before it, its bytes
 pub record MorselView : Type 0 where

@@ -1,6 +1,7 @@
 ghost use Rattle.std.specs.Prelude.{◌≡◌, ◌≤◌, ◌<◌, ◌+◌, ◌++◌, ◌⊎◌, [], ℕ, List, length, drop, IfErr, IfOk, IfSome, IsNone, OnErr, OnOk, vec_len};
 ghost use Rattle.std.specs.List.{concat};
-ghost use Rattle.day_file.specs.Cuts.{IsCutBy, IsFirstRun};
+ghost use Rattle.day_file.specs.Cuts.{IsCutBy};
+ghost use Rattle.day_file.specs.Follow.{IsFirstRun};
 ghost use Rattle.day_file.specs.CutFaults.{IsCutFault};
 ghost use Rattle.day_file.specs.Feeding.{HasFed, fed_length};
 ghost use Rattle.day_file.specs.Frames.{IsTruncatedAt, IsWhole};

@@ -1,7 +1,7 @@
 ghost use Rattle.std.specs.Prelude.{◌≡◌, ◌≤◌, ◌<◌, ◌↔◌, ◌∷◌, [], ℕ, List, length, take, IfOk, IfErr, IfSome, IsNone, IsTrue};
 ghost use Rattle.day_file.specs.Frames.{IsWhole};
-ghost use Rattle.day_file.specs.Cuts.{AreEnds, IsCutAt, IsCutBy, IsFirstBad};
-ghost use Rattle.day_file.specs.Follow.{Follow, runs_at};
+ghost use Rattle.day_file.specs.Cuts.{IsCutAt, IsCutBy, IsFirstBad};
+ghost use Rattle.day_file.specs.Follow.{AreEnds, Follow, runs_at};
 ghost use Rattle.day_file.specs.CutFaults.{IsCutAtFault, IsCutFault};
 
 use crate::runs::{count_runs, run_at};

@@ -1,7 +1,6 @@
 ghost use Rattle.std.specs.Prelude.{◌≡◌, ◌≤◌, ◌<◌, ◌⊎◌, ℕ, List, length, take, drop, IfOk, IfErr, IsTrue, false};
 ghost use Rattle.day_file.specs.Frames.{IsTruncatedAt, IsWhole};
-ghost use Rattle.day_file.specs.Cuts.{IsFirstRun};
-ghost use Rattle.day_file.specs.Follow.{Follow};
+ghost use Rattle.day_file.specs.Follow.{Follow, IsFirstRun};
 
 use crate::frame::LENGTH_BYTES;
 use crate::{Frames, Truncated};

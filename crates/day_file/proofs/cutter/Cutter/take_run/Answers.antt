@@ -1,7 +1,7 @@
 use Rattle.std.proofs.Common.{◌≡◌, ℕ, ◌+◌, ◌-◌, ◌≤◌, length, take, drop, vec_len, sym, ap, ◌∙◌, subst, arith}
 use Rattle.std.specs.List.{concat}
 use Rattle.std.proofs.lemmas.List.{length-drop}
-use Rattle.day_file.specs.Cuts.{IsFirstRun}
+use Rattle.day_file.specs.Follow.{IsFirstRun}
 use Rattle.day_file.specs.Feeding.{CutterView, HasFed}
 use Rattle.day_file.specs.declared.cutter.Cutter.TheInside.{Inside}
 use Rattle.day_file.proofs.Fed.{Taken, Taken-cutting, Taken-kept, Taken-past}
