@@ -1,5 +1,6 @@
 -- What was fed to a cutter, as it goes on.
-use Rattle.std.proofs.Common.{◌≡◌, ℕ, zero, suc, ◌+◌, ◌<◌, ◌≤◌, List, [], ◌∷◌, ◌++◌, length, take, drop, All, refl, sym, ap, ◌∙◌, subst, append_assoc, append-nil}
+use Rattle.std.proofs.Common.{◌≡◌, ℕ, zero, suc, ◌+◌, ◌<◌, ◌≤◌, List, [], ◌∷◌, ◌++◌, length, take, drop, All, refl, sym, ap, ◌∙◌, subst, append_assoc}
+use Rattle.std.proofs.Common.{append-nil}
 use Rattle.std.proofs.Common.{◌⊎◌, ⊎_elim, Bool, true, false, if◌then◌else◌, Result, Ok, Err, OnOk, is_ok, ◌==◌, arith}
 use Rattle.std.proofs.Math.Seq.{take-append_seam, take-length, drop-append_seam, drop-length}
 use Rattle.std.specs.List.{concat}
@@ -210,7 +211,8 @@ rest_follow target (b ∷ rest) w below =
 pub fed_follows : (cutter : CutterView) (fed : List ℕ) (runs : List (List ℕ)) → (h : HasFed cutter fed) → Follow cutter.target runs cutter.rest
     → Follow cutter.target ((cutter.cut ++ h.beyond) ++ runs) fed
 fed_follows cutter fed runs h f =
-    subst (Follow cutter.target ((cutter.cut ++ h.beyond) ++ runs)) (sym h.joined) (full_follow cutter.target (cutter.cut ++ h.beyond) runs cutter.rest h.full f)
+    subst (Follow cutter.target ((cutter.cut ++ h.beyond) ++ runs)) (sym h.joined)
+    (full_follow cutter.target (cutter.cut ++ h.beyond) runs cutter.rest h.full f)
 
 full_are_whole : (target : ℕ) (runs : List (List ℕ)) → All (IsFullRun target) runs → IsWhole (concat runs)
 full_are_whole target [] h = IsWhole-nil
@@ -295,7 +297,8 @@ last_runs cutter fed h whole below few =
     let one = follow_once target few.runs ((cutter.cut ++ h.beyond) ++ last) fed few.follow follow in
     let n : (length cutter.cut + length h.beyond) + length last ≤ 65536 =
     omega (arith, few.few, ap length one, length-append (cutter.cut ++ h.beyond) last, length-append cutter.cut h.beyond) in
-    let none : cutter.past ≡ 0 = no_past cutter.past (length h.beyond) (length cutter.cut) h.most (λ p. some_beyond h.beyond (omega (arith, p, h.past))) (omega (arith, n)) in
+    let none : cutter.past ≡ 0 =
+    no_past cutter.past (length h.beyond) (length cutter.cut) h.most (λ p. some_beyond h.beyond (omega (arith, p, h.past))) (omega (arith, n)) in
     let empty = none_beyond cutter fed h none in
     let same : cutter.cut ++ h.beyond ≡ cutter.cut = ap (λ l. cutter.cut ++ l) empty ∙ append-nil cutter.cut in
     record {
@@ -331,7 +334,8 @@ end_of cutter fed h rest few =
     ⊎_elim
     (λ (r : IsWhole cutter.rest × (length cutter.rest < cutter.target)). let end : IsEnd cutter fed =
     record { whole = r.0; last = last_runs cutter fed h r.0 r.1 few } in end)
-    (λ (t : (place : ℕ) × IsTruncatedAt cutter.rest place). let end : IsEnd cutter fed = absurd (not_both fed w.0 _ w.1 (fed_truncated cutter fed t.0 h t.1)) in end)
+    (λ (t : (place : ℕ) × IsTruncatedAt cutter.rest place). let end : IsEnd cutter fed =
+    absurd (not_both fed w.0 _ w.1 (fed_truncated cutter fed t.0 h t.1)) in end)
     rest
 
 -- the last run, if there is one

@@ -1,5 +1,6 @@
 -- The runs that bytes begin with: where the frames at their head end.
-use Rattle.std.proofs.Common.{◌≡◌, ℕ, ◌+◌, ◌<◌, ◌≤◌, List, Option, None, Some, MatchOption, [], ◌∷◌, ◌++◌, length, take, drop, refl, sym, ap, ◌∙◌, subst, append_assoc, append-nil, arith}
+use Rattle.std.proofs.Common.{◌≡◌, ℕ, ◌+◌, ◌<◌, ◌≤◌, List, Option, None, Some, MatchOption, [], ◌∷◌, ◌++◌, length, take, drop, refl, sym, ap, ◌∙◌}
+use Rattle.std.proofs.Common.{subst, append_assoc, append-nil, arith}
 use Rattle.std.proofs.Math.Seq.{take-append_seam, take-length, drop-append_seam}
 use Rattle.std.proofs.lemmas.List.{length-append, length-take-le, take-append-drop, take-take}
 use Rattle.std.proofs.lemmas.List.Elements.{All-take, All-drop}
@@ -19,7 +20,8 @@ pub record EndsAt (bytes : List ℕ) (frames : List PlacedBody) (place : ℕ) : 
   pub whole : place ≡ length bytes → IsWhole bytes
   pub truncated : place < length bytes → IsTruncatedAt bytes place
 
-length_of_front : (bytes : List ℕ) (frames : List PlacedBody) (place : ℕ) → place ≤ length bytes → StandsFor frames (take place bytes) → length (spelling frames) ≡ place
+length_of_front : (bytes : List ℕ) (frames : List PlacedBody) (place : ℕ) → place ≤ length bytes → StandsFor frames (take place bytes)
+    → length (spelling frames) ≡ place
 length_of_front bytes frames place h s = ap length (sym s.whole) ∙ length-take-le place bytes h
 
 -- the frames of bytes, and what they know of how those end
@@ -72,7 +74,8 @@ frames_of_bytes bytes left whole truncated told = go left.truncated refl told
 -- ---- no frame ends inside another one
 
 -- whole frames that end before the end of a frame end before its start
-pub front_before : (xs ys : List PlacedBody) (body d r : List ℕ) → AreShort xs → AreShort ys → IsShort body → spelling ys ++ d ≡ spelling xs ++ (frame_of body ++ r)
+pub front_before : (xs ys : List PlacedBody) (body d r : List ℕ) → AreShort xs → AreShort ys → IsShort body
+    → spelling ys ++ d ≡ spelling xs ++ (frame_of body ++ r)
     → length (spelling ys) < length (spelling xs) + length (frame_of body) → length (spelling ys) ≤ length (spelling xs)
 front_before xs [] body d r hx hy hb e n = omega arith
 front_before [] (y ∷ ys) body d r hx hy hb e n =
@@ -98,11 +101,13 @@ module _ (bytes : List ℕ) (all front later : List PlacedBody) (place : ℕ) wh
 
   pub front_short : EndsAt bytes all place → front ++ later ≡ all → AreShort front
   front_short ends split =
-      subst AreShort (ap (take (length front)) (sym split) ∙ take-append_seam front later) (All-take (λ frame. IsShort frame.body) (length front) all ends.stands.short)
+      subst AreShort (ap (take (length front)) (sym split) ∙ take-append_seam front later)
+      (All-take (λ frame. IsShort frame.body) (length front) all ends.stands.short)
 
   pub later_short : EndsAt bytes all place → front ++ later ≡ all → AreShort later
   later_short ends split =
-      subst AreShort (ap (drop (length front)) (sym split) ∙ drop-append_seam front later) (All-drop (λ frame. IsShort frame.body) (length front) all ends.stands.short)
+      subst AreShort (ap (drop (length front)) (sym split) ∙ drop-append_seam front later)
+      (All-drop (λ frame. IsShort frame.body) (length front) all ends.stands.short)
 
   pub front_stands : EndsAt bytes all place → front ++ later ≡ all → StandsFor front (take (length (spelling front)) bytes)
   front_stands ends split = record {
@@ -125,10 +130,12 @@ Passed-none target all left h e = record { passed = []; split = e; ends = refl; 
 length-one_more : (xs : List PlacedBody) (x : PlacedBody) → length (spelling (xs ++ x ∷ [])) ≡ length (spelling xs) + (2 + length x.body)
 length-one_more xs x = ap length (spelling-append xs (x ∷ [])) ∙ omega (arith, length-append (spelling xs) (spelling (x ∷ [])), length-spelling x [])
 
-joined_one_more : (xs : List PlacedBody) (x : PlacedBody) (later left all : List PlacedBody) → left ≡ x ∷ later → xs ++ left ≡ all → (xs ++ x ∷ []) ++ later ≡ all
+joined_one_more : (xs : List PlacedBody) (x : PlacedBody) (later left all : List PlacedBody) → left ≡ x ∷ later → xs ++ left ≡ all
+    → (xs ++ x ∷ []) ++ later ≡ all
 joined_one_more xs x later left all step split = append_assoc xs (x ∷ []) later ∙ ap (λ l. xs ++ l) (sym step) ∙ split
 
-pub Passed-more : (target end next : ℕ) (all left later : List PlacedBody) (x : PlacedBody) → Passed target end all left → left ≡ x ∷ later → next ≡ end + (2 + length x.body) → next < target → Passed target next all later
+pub Passed-more : (target end next : ℕ) (all left later : List PlacedBody) (x : PlacedBody) → Passed target end all left → left ≡ x ∷ later
+    → next ≡ end + (2 + length x.body) → next < target → Passed target next all later
 Passed-more target end next all left later x p step n h = record {
   passed = p.passed ++ x ∷ [];
   split = joined_one_more p.passed x later left all step p.split;
@@ -137,14 +144,23 @@ Passed-more target end next all left later x p step n h = record {
 }
 
 -- the next frame ends within the bytes
-pub ends_within : (target end place : ℕ) (bytes : List ℕ) (all left later : List PlacedBody) (x : PlacedBody) → EndsAt bytes all place → Passed target end all left → left ≡ x ∷ later → end + (2 + length x.body) ≤ length bytes
+pub ends_within : (target end place : ℕ) (bytes : List ℕ) (all left later : List PlacedBody) (x : PlacedBody) → EndsAt bytes all place
+    → Passed target end all left → left ≡ x ∷ later → end + (2 + length x.body) ≤ length bytes
 ends_within target end place bytes all left later x ends p step =
     let front = p.passed ++ x ∷ [] in
     let split : front ++ later ≡ all = joined_one_more p.passed x later left all step p.split in
-    omega (arith, p.ends, length-one_more p.passed x, ap length (front_split bytes all front later place ends split), length-append (spelling front) (spelling later ++ drop place bytes))
+    omega (
+      arith,
+      p.ends,
+      length-one_more p.passed x,
+      ap length (front_split bytes all front later place ends split),
+      length-append (spelling front)
+          (spelling later ++ drop place bytes),
+    )
 
 -- the run that ends with this frame
-pub run_here : (target end next place : ℕ) (bytes : List ℕ) (all left later : List PlacedBody) (x : PlacedBody) → EndsAt bytes all place → Passed target end all left
+pub run_here : (target end next place : ℕ) (bytes : List ℕ) (all left later : List PlacedBody) (x : PlacedBody) → EndsAt bytes all place
+    → Passed target end all left
     → left ≡ x ∷ later → next ≡ end + (2 + length x.body) → target ≤ next → IsFirstRun target next bytes
 run_here target end next place bytes all left later x ends p step n h =
     let front = p.passed ++ x ∷ [] in
@@ -163,8 +179,11 @@ run_here target end next place bytes all left later x ends p step n h =
           let same : take m (take next bytes) ≡ take m bytes = take-take m next bytes (omega (arith, less, taken)) in
           let stands = subst (StandsFor w.0) same w.1 in
           let size : length (spelling w.0) ≡ m = ap length (sym stands.whole) ∙ length-take-le m bytes (omega (arith, less, taken, within)) in
-          let before = front_before p.passed w.0 x.body (drop m bytes) (spelling later ++ drop place bytes) (front_short bytes all p.passed left place ends p.split) stands.short (head_short x later last)
-          (ap (λ l. l ++ drop m bytes) (sym stands.whole) ∙ take-append-drop m bytes ∙ apart) (omega (arith, size, less, taken, n, p.ends, length-frame_of x.body)) in
+          let before =
+          front_before p.passed w.0 x.body (drop m bytes) (spelling later ++ drop place bytes) (front_short bytes all p.passed left place ends p.split)
+          stands.short (head_short x later last)
+          (ap (λ l. l ++ drop m bytes) (sym stands.whole) ∙ take-append-drop m bytes ∙ apart)
+          (omega (arith, size, less, taken, n, p.ends, length-frame_of x.body)) in
           omega (arith, before, size, p.ends, p.below);
       full = λ _. h;
     }
@@ -181,6 +200,7 @@ run_of_rest target end bytes below e some w =
     }
 
 -- where no frame is left, the frames have ended
-pub ended_at : (target end place : ℕ) (bytes : List ℕ) (all left : List PlacedBody) → EndsAt bytes all place → Passed target end all left → left ≡ [] → end ≡ place
+pub ended_at : (target end place : ℕ) (bytes : List ℕ) (all left : List PlacedBody) → EndsAt bytes all place → Passed target end all left → left ≡ []
+    → end ≡ place
 ended_at target end place bytes all left ends p none =
     p.ends ∙ ap (λ l. length (spelling l)) (sym (append-nil p.passed) ∙ ap (λ l. p.passed ++ l) (sym none) ∙ p.split) ∙ ends.length_is

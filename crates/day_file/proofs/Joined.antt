@@ -23,7 +23,8 @@ pub IsWhole-nil : IsWhole []
 IsWhole-nil = ([], record { places = tt; short = All-nil _; whole = refl })
 
 -- what is truncated after whole frames is truncated
-pub truncated_later : (bytes : List ℕ) (start place : ℕ) → IsWhole (take start bytes) → IsTruncatedAt (drop start bytes) place → IsTruncatedAt bytes (start + place)
+pub truncated_later : (bytes : List ℕ) (start place : ℕ) → IsWhole (take start bytes) → IsTruncatedAt (drop start bytes) place
+    → IsTruncatedAt bytes (start + place)
 truncated_later bytes start place w t = record {
   front = subst IsWhole (sym (take-add start place bytes)) (IsWhole-append (take start bytes) (take place (drop start bytes)) w t.front);
   within = omega (arith, t.within, length-drop start bytes);

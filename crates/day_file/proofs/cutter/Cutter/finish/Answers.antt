@@ -75,7 +75,9 @@ append-requires-clause-run c =
     let target = c.in_ok-cut_off.ensures.target ∙ sym (ap (λ (v : CutterView). v.target) c.self.view_is) in
     let end = end_of c.cut_off.new.self inv.fed after c.in_ok-cut_off.ensures.rest (subst (λ n. IsFew n inv.fed) (sym target) few) in
     let left = c.remove_front.ensures ∙ ap (λ (v : CutterView). v.rest) c.self-2.view_is in
-    subst IsRun (sym left) (last_run c.cut_off.new.self.rest end.whole (omega (arith, ap length left, not_empty _ _ c.is_empty.ensures c.if-not-is_empty.true, c.remove_front.new.bytes.ok.0)))
+    subst IsRun (sym left)
+    (last_run c.cut_off.new.self.rest end.whole
+    (omega (arith, ap length left, not_empty _ _ c.is_empty.ensures c.if-not-is_empty.true, c.remove_front.new.bytes.ok.0)))
 
 pub append-requires-clause-room : goal.append-requires-clause-room
 append-requires-clause-room c =
@@ -91,7 +93,9 @@ append-requires-clause-room c =
     let target = c.in_ok-cut_off.ensures.target ∙ sym (ap (λ (v : CutterView). v.target) c.self.view_is) in
     let end = end_of c.cut_off.new.self inv.fed after c.in_ok-cut_off.ensures.rest (subst (λ n. IsFew n inv.fed) (sym target) few) in
     let left = c.remove_front.ensures ∙ ap (λ (v : CutterView). v.rest) c.self-2.view_is in
-    let room = last_room c.cut_off.new.self inv.fed end (omega (arith, ap length left, not_empty _ _ c.is_empty.ensures c.if-not-is_empty.true, c.remove_front.new.bytes.ok.0)) in
+    let room =
+    last_room c.cut_off.new.self inv.fed end
+    (omega (arith, ap length left, not_empty _ _ c.is_empty.ensures c.if-not-is_empty.true, c.remove_front.new.bytes.ok.0)) in
     omega (arith, room, ap (λ (v : CutterView). length v.cut) c.self-2.view_is)
 
 pub returns-in_err-append-clause-fault : goal.returns-in_err-append-clause-fault
