@@ -1,12 +1,13 @@
 -- What follows for the frames of a file, and of runs of frames joined.
-use Rattle.std.proofs.Common.{◌≡◌, ℕ, ◌+◌, ◌<◌, ◌≤◌, List, [], ◌∷◌, ◌++◌, length, drop, All, Less, nat_cmp, sym, ap, subst, arith}
+use Rattle.std.proofs.Common.{◌≡◌, ℕ, ◌+◌, ◌<◌, ◌≤◌, List, [], ◌∷◌, ◌++◌, length, drop, All, Less, nat_cmp, refl, sym, ap, subst, arith}
+use Rattle.std.proofs.Common.{Option, None, Some, MatchOption}
 use Rattle.std.specs.Cmp.{nat_cmp_is}
 use Rattle.std.specs.List.{AllByRecursion}
 use Rattle.std.specs.List.Sorted.{IsStrictlySortedBy}
 use Rattle.std.proofs.lemmas.Grind.{flat_map-append}
 use Rattle.std.proofs.lemmas.List.{length-append, length-drop}
 use Rattle.std.proofs.lemmas.List.Elements.{All-cons, All-nil}
-use Rattle.day_file.specs.Frames.{PlacedBody, frame_of, spelling, StandAt, StandsFor, IsTruncatedAt}
+use Rattle.day_file.specs.Frames.{PlacedBody, frame_of, spelling, StandAt, StandsFor, IsTruncatedAt, IsWhole}
 use Rattle.day_file.proofs.Readings.{same_reading, IsReading-whole, IsReading-truncated, length-frame_of}
 
 -- ---- frames joined
@@ -78,3 +79,9 @@ truncated_once bytes one other p q =
     let e = (same_reading 0 bytes p.front.0 q.front.0 (drop one bytes) (drop other bytes) (IsReading-truncated 0 bytes one p.front.0 p p.front.1)
     (IsReading-truncated 0 bytes other q.front.0 q q.front.1)).1 in
     omega (arith, ap length e, length-drop one bytes, length-drop other bytes, p.within, q.within)
+
+-- bytes that are whole frames have no place where they are truncated
+pub whole_has_no_end : (bytes : List ℕ) (start : ℕ) (o : Option ℕ) → IsWhole bytes
+    → MatchOption o (IsWhole bytes) (λ end. (count : ℕ) × (end ≡ start + count) × IsTruncatedAt bytes count) → o ≡ None
+whole_has_no_end bytes start None w told = refl
+whole_has_no_end bytes start (Some end) w told = absurd (not_both bytes w.0 told.0 w.1 told.2)

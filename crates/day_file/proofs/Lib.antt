@@ -1,5 +1,14 @@
+pub mod CutsAt
+pub mod Fed
+pub mod FirstRuns
+pub mod Following
+pub mod Heads
+pub mod Joined
+pub mod Kept
 pub mod Laws
+pub mod MakingAt
 pub mod Moved
+pub mod OneCut
 pub mod Pieces
 pub mod Readings
 pub mod Walks

@@ -5,19 +5,28 @@
 #![tactic(auto)]
 
 mod counted;
+mod cutter;
+mod cutting;
 mod day;
 mod frame;
 mod law;
+mod morsel;
+mod morsels;
 mod reading;
+mod runs;
 mod source;
 mod truncated;
 
 pub use counted::Counted;
+pub use cutter::Cutter;
+pub use cutting::{CutFault, cut, cut_at};
 pub use day::{DayFile, frames};
 pub use frame::{Frame, Frames, append_frame};
-pub use law::one_reading;
+pub use law::{one_cut, one_reading};
 pub use lists::OutOfMemory;
-pub use lists::limits::LONGEST_FILE;
+pub use lists::limits::{LONGEST_FILE, MOST_MORSELS};
+pub use morsel::Morsel;
+pub use morsels::Cut;
 pub use reading::{ReadFault, read_day};
 pub use source::{DeviceFailed, Source};
 pub use truncated::{Truncated, check};

@@ -4,6 +4,8 @@
 #[cfg(test)]
 mod bodies;
 #[cfg(test)]
+mod cuts;
+#[cfg(test)]
 mod day_files;
 #[cfg(test)]
 mod devices;

@@ -1,0 +1,107 @@
+-- What a `Cut` keeps of its morsels, as it grows.
+use Rattle.std.proofs.Common.{◌≡◌, ℕ, zero, suc, ◌+◌, ◌<◌, ◌≤◌, List, [], ◌∷◌, ◌++◌, length, take, map, All, get_or, slice_get, Some, refl, sym, ap}
+use Rattle.std.proofs.Common.{◌∙◌, subst, append-nil, arith}
+use Rattle.std.specs.List.{concat}
+use Rattle.std.proofs.lemmas.List.{length-append, length-map, map-append}
+use Rattle.std.proofs.lemmas.List.Folds.{concat-append}
+use Rattle.std.proofs.lemmas.Option.{slice_get_read}
+use Rattle.std.proofs.Math.ListN.{get_or-map}
+use Rattle.std.proofs.lemmas.List.Elements.{All-append, All-cons, All-nil}
+use Rattle.lists.specs.declared.limits.TheConstants.{LONGEST_FILE, MOST_MORSELS}
+use Rattle.day_file.specs.Cuts.{IsRun, MorselView, start_of}
+use Rattle.day_file.specs.Kept.{runs_of, numbered, AreMorsels}
+
+pub AreMorsels-none : AreMorsels [] 0
+AreMorsels-none = record { numbers = refl; runs = All-nil _; few = omega arith; length_is = refl; within = omega arith }
+
+pub runs_of-append : (xs : List MorselView) (x : MorselView) → runs_of (xs ++ x ∷ []) ≡ runs_of xs ++ x.bytes ∷ []
+runs_of-append xs x = map-append (λ morsel. morsel.bytes) xs (x ∷ [])
+
+numbered-last : (number start : ℕ) (runs : List (List ℕ)) (run : List ℕ) →
+    numbered number start (runs ++ run ∷ []) ≡ numbered number start runs ++ record
+    { number = number + length runs; start = start + length (concat runs); bytes = run } ∷ []
+numbered-last number start [] run =
+    let a : number ≡ number + length {A = List ℕ} [] = omega arith in
+    let b : start ≡ start + length (concat []) = omega arith in
+    λ i. record { number = a i; start = b i; bytes = run } ∷ []
+numbered-last number start (first ∷ runs) run =
+    let a : (number + 1) + length runs ≡ number + length (first ∷ runs) = omega arith in
+    let b : (start + length first) + length (concat runs) ≡ start + length (concat (first ∷ runs)) = omega (arith, length-append first (concat runs)) in
+    ap (λ l. record { number = number; start = start; bytes = first } ∷ l)
+    (numbered-last (number + 1) (start + length first) runs run
+    ∙ (λ i. numbered (number + 1) (start + length first) runs ++ record { number = a i; start = b i; bytes = run } ∷ []))
+
+-- one morsel more
+pub AreMorsels-more : (morsels : List MorselView) (total : ℕ) (run : List ℕ) → AreMorsels morsels total → IsRun run → length morsels < MOST_MORSELS
+    → total + length run ≤ LONGEST_FILE
+    → AreMorsels (morsels ++ record { number = length morsels; start = total; bytes = run } ∷ []) (total + length run)
+AreMorsels-more morsels total run m r few h =
+    let last : MorselView = record { number = length morsels; start = total; bytes = run } in
+    let runs = runs_of morsels in
+    let grown : runs_of (morsels ++ last ∷ []) ≡ runs ++ run ∷ [] = runs_of-append morsels last in
+    let n : length runs ≡ length morsels = length-map morsels (λ morsel. morsel.bytes) in
+    let a : 0 + length runs ≡ length morsels = omega (arith, n) in
+    let b : 0 + length (concat runs) ≡ total = omega (arith, m.length_is) in
+    record {
+      numbers = ap (λ l. l ++ last ∷ []) m.numbers
+          ∙ sym (ap (numbered 0 0) grown ∙ numbered-last 0 0 runs run ∙ (λ i. numbered 0 0 runs ++ record { number = a i; start = b i; bytes = run } ∷ []));
+      runs = subst (All IsRun) (sym grown) (All-append IsRun runs (run ∷ []) m.runs (All-cons IsRun run [] r (All-nil _)));
+      few = omega (arith, few, length-append morsels (last ∷ []));
+      length_is = let joined : concat (runs ++ run ∷ []) ≡ concat runs ++ run = concat-append runs (run ∷ []) ∙ ap (λ l. concat runs ++ l) (append-nil run) in
+          omega (arith, m.length_is, ap (λ l. length (concat l)) grown, ap length joined, length-append (concat runs) run);
+      within = h;
+    }
+
+-- the morsel of a number
+pub record IsMorselOf (runs : List (List ℕ)) (number first start : ℕ) (m : MorselView) : Type 0 where
+  pub number_is : m.number ≡ first + number
+  pub start_is : m.start ≡ start + start_of runs number
+  pub bytes_is : slice_get runs number ≡ Some m.bytes
+
+pub numbered_at : (runs : List (List ℕ)) (k first start : ℕ) (m : MorselView) → slice_get (numbered first start runs) k ≡ Some m
+    → IsMorselOf runs k first start m
+numbered_at [] k first start m e = absurd (cc)
+numbered_at (run ∷ runs) zero first start m e =
+    let same : record { number = first; start = start; bytes = run } ≡ m = cc in
+    record {
+      number_is = sym (ap (λ (v : MorselView). v.number) same) ∙ omega arith;
+      start_is = sym (ap (λ (v : MorselView). v.start) same) ∙ omega arith;
+      bytes_is = ap (λ (v : MorselView). Some v.bytes) same;
+    }
+numbered_at (run ∷ runs) (suc k) first start m e =
+    let later = numbered_at runs k (first + 1) (start + length run) m e in
+    record {
+      number_is = omega (arith, later.number_is);
+      start_is = omega (arith, later.start_is, length-append run (concat (take k runs)));
+      bytes_is = later.bytes_is;
+    }
+
+module _ {X : Type 0} where
+  -- the morsel that is read at a number
+  pub morsel_at : (value : X → MorselView) (items : List X) (x : X) (k total : ℕ) → AreMorsels (map value items) total
+      → k < length (runs_of (map value items)) → x ≡ get_or items k x
+      → IsMorselOf (runs_of (map value items)) k 0 0 (value x)
+  morsel_at value items x k total m h e =
+      let all = map value items in
+      let here : value x ≡ get_or all k (value x) = ap value e ∙ sym (get_or-map value items k x) in
+      let read : slice_get all k ≡ Some (value x) =
+      slice_get_read all (length all) k (value x) refl (omega (arith, length-map all (λ morsel. morsel.bytes), h)) here in
+      numbered_at (runs_of all) k 0 0 (value x) (ap (λ l. slice_get l k) (sym m.numbers) ∙ read)
+
+  -- one more was pushed
+  pub AreMorsels-pushed : (value : X → MorselView) (items grown : List X) (x : X) (number total size : ℕ) (run : List ℕ) (runs : List (List ℕ))
+      → AreMorsels (map value items) total → runs_of (map value items) ≡ runs
+      → grown ≡ items ++ x ∷ [] → value x ≡ record { number = number; start = total; bytes = run } → number ≡ length items → size ≡ length run → IsRun run
+      → length runs < MOST_MORSELS → length (concat runs) + size ≤ LONGEST_FILE → AreMorsels (map value grown) (total + size)
+  AreMorsels-pushed value items grown x number total size run runs m view pushed made n s r few within =
+      let all = map value items in
+      let long : length all ≡ length items = length-map items value in
+      let same : length (runs_of all) ≡ length all = length-map all (λ morsel. morsel.bytes) in
+      let more =
+      AreMorsels-more all total run m r (omega (arith, same, ap length view, few)) (omega (arith, m.length_is, ap (λ l. length (concat l)) view, within, s)) in
+      let k : length all ≡ number = omega (arith, long, n) in
+      let last : all ++ record { number = length all; start = total; bytes = run } ∷ [] ≡ map value grown =
+      (λ i. all ++ record { number = k i; start = total; bytes = run } ∷ []) ∙ ap (λ v. all ++ v ∷ []) (sym made) ∙ sym (map-append value items (x ∷ []))
+      ∙ ap (map value) (sym pushed) in
+      subst (λ l. AreMorsels l (total + size)) last
+      (subst (λ k. AreMorsels (all ++ record { number = length all; start = total; bytes = run } ∷ []) (total + k)) (sym s) more)

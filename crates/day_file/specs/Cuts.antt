@@ -1,0 +1,60 @@
+-- A file cut into runs of whole frames.
+-- To be believed.
+use Rattle.std.specs.Prelude.{◌≡◌, ℕ, ◌+◌, ◌-◌, ◌<◌, ◌≤◌, ◌⊎◌, List, [], ◌∷◌, length, take, All}
+use Rattle.std.specs.List.{concat}
+use Rattle.day_file.specs.Frames.{IsWhole}
+
+-- one or more whole frames
+pub record IsRun (bytes : List ℕ) : Type 0 where
+  pub some : 0 < length bytes
+  pub whole : IsWhole bytes
+
+-- runs whose bytes, in order, are these bytes
+pub record IsCutOf (runs : List (List ℕ)) (bytes : List ℕ) : Type 0 where
+  pub each : All IsRun runs
+  pub joined : bytes ≡ concat runs
+
+-- the number of bytes before the run of this number
+abbrev pub start_of : List (List ℕ) → ℕ → ℕ
+start_of runs number = length (concat (take number runs))
+
+-- each shorter front of the run that is whole frames has fewer bytes than the target
+abbrev pub HasNoShorter : ℕ → List ℕ → Type 0
+HasNoShorter target run = (n : ℕ) → n < length run → IsWhole (take n run) → n < target
+
+-- all but the last
+abbrev pub but_last : List (List ℕ) → List (List ℕ)
+but_last runs = take (length runs - 1) runs
+
+-- a cut, each run of which is the shortest that has as many bytes as the target, or the rest
+pub record IsCutBy (target : ℕ) (runs : List (List ℕ)) (bytes : List ℕ) : Type 0 where
+  pub cut : IsCutOf runs bytes
+  pub shortest : All (HasNoShorter target) runs
+  pub full : All (λ run. target ≤ length run) (but_last runs)
+
+-- where each run ends, the first of which starts here
+abbrev pub ends_of : ℕ → List (List ℕ) → List ℕ
+ends_of start [] = []
+ends_of start (run ∷ runs) = (start + length run) ∷ ends_of (start + length run) runs
+
+-- a cut, all runs of which but the last end at these places
+pub record IsCutAt (ends : List ℕ) (runs : List (List ℕ)) (bytes : List ℕ) : Type 0 where
+  pub cut : IsCutOf runs bytes
+  pub at : ends_of 0 (but_last runs) ≡ ends
+
+-- of bytes that are whole frames, a frame stands at this place
+abbrev pub IsPlace : List ℕ → ℕ → Type 0
+IsPlace bytes place = (place < length bytes) × IsWhole (take place bytes)
+
+-- the first of the ends that isn't greater than the one before it, the first one than `last`, or isn't the place of a frame
+abbrev pub IsFirstBad : List ℕ → ℕ → List ℕ → ℕ → Type 0
+IsFirstBad bytes last [] bad = ⊥
+IsFirstBad bytes last (end ∷ ends) bad =
+    ((end ≡ bad) × ¬ ((last < end) × IsPlace bytes end))
+    ⊎ ((last < end) × IsPlace bytes end × IsFirstBad bytes end ends bad)
+
+-- what contracts see of a morsel: its number in its cut, the number of bytes before it, its bytes
+pub record MorselView : Type 0 where
+  pub number : ℕ
+  pub start : ℕ
+  pub bytes : List ℕ

@@ -1,0 +1,186 @@
+ghost use Rattle.std.specs.Prelude.{◌≡◌, ◌≤◌, ◌<◌, ◌+◌, ◌++◌, ◌⊎◌, [], ℕ, List, length, drop, IfErr, IfOk, IfSome, IsNone, OnErr, OnOk, vec_len};
+ghost use Rattle.std.specs.List.{concat};
+ghost use Rattle.day_file.specs.Cuts.{IsCutBy};
+ghost use Rattle.day_file.specs.Follow.{IsFirstRun};
+ghost use Rattle.day_file.specs.CutFaults.{IsCutFault};
+ghost use Rattle.day_file.specs.Feeding.{HasFed, fed_length};
+ghost use Rattle.day_file.specs.Frames.{IsTruncatedAt, IsWhole};
+
+use crate::runs::{count_runs, head_of};
+use crate::{Cut, CutFault, OutOfMemory};
+use lists::limits::{LONGEST_FILE, MOST_MORSELS};
+use std::alloc::Global;
+use std::marker::Model;
+
+/// Cuts a day file into morsels while it comes, in any pieces. It keeps no bytes of morsels that are
+/// too many for a cut.
+#[derive(Drop)]
+pub struct Cutter {
+    alloc: Global,
+    target: u64,
+    cut: Cut,
+    past: u64,
+    rest: Vec<u8>,
+    start: usize,
+    whole: usize,
+}
+
+impl Model for Cutter {
+    ghost use Rattle.std.specs.Prelude.{◌≤◌, drop, vec_len};
+    ghost use Rattle.day_file.specs.Cutting.{IsCutting};
+    ghost use Rattle.day_file.specs.Feeding.{CutterView};
+
+    ghost Value = { CutterView };
+
+    ghost view = { λ c. record {
+      target = c.target;
+      cut = c.cut;
+      past = c.past;
+      rest = drop c.start c.rest.items;
+    } };
+
+    ghost invariant = { λ c. IsCutting (record {
+      target = c.target;
+      cut = c.cut;
+      past = c.past;
+      rest = drop c.start c.rest.items;
+    }) c.whole × (c.start ≤ vec_len c.rest) };
+}
+
+impl Cutter {
+    /// A cutter to which nothing was fed. Each of its morsels will be the shortest run of frames that
+    /// has at least `target` bytes, or the rest.
+    pub fn new(alloc: Global, target: u64) -> Self
+        requires { 0 < target }
+        ensures fed { HasFed result [] }
+        ensures target { result.target ≡ target }
+    {
+        Cutter {
+            alloc,
+            target,
+            cut: Cut::empty(alloc),
+            past: 0,
+            rest: Vec::new(alloc),
+            start: 0,
+            whole: 0,
+        }
+    }
+
+    /// How many bytes were fed.
+    pub fn length(&self) -> u64
+        ensures same { result ≡ fed_length self.now }
+        ensures fed { (fed : List ℕ) → HasFed self.now fed → result ≡ length fed }
+        ensures within { result ≤ LONGEST_FILE }
+    {
+        self.cut.length() + self.past + (self.rest.len() - self.start) as u64
+    }
+
+    /// Takes the next bytes of the file. After a refusal it stands for the same bytes as before.
+    pub fn feed(&mut self, piece: &[u8]) -> Result<(), OutOfMemory>
+        requires { fed_length self.old + length piece.now ≤ LONGEST_FILE }
+        ensures fed { OnOk result ((fed : List ℕ) → HasFed self.old fed → HasFed self.new (fed ++ piece.now)) }
+        ensures same { OnErr result ((fed : List ℕ) → HasFed self.old fed → HasFed self.new fed) }
+        ensures target { self.new.target ≡ self.old.target }
+    {
+        self.cut_off()?;
+        remove_front(&mut self.rest, self.start);
+        self.start = 0;
+        self.rest.extend_from_slice(piece)
+    }
+
+    /// The cut of all bytes that were fed, or why there is none: the same as `cut` gives of them.
+    pub fn finish(mut self) -> Result<Cut, CutFault>
+        ensures cut { IfOk result (λ cut. (fed : List ℕ) → HasFed self fed → IsCutBy self.target cut fed) }
+        ensures fault { IfErr result (λ fault. (fed : List ℕ) → HasFed self fed → IsCutFault self.target fed fault) }
+    {
+        let ended = self.cut.length() + self.past;
+        let more = match count_runs(&self.rest[self.start..], self.target) {
+            Ok(more) => more,
+            Err(fault) => {
+                return Err(CutFault::Truncated {
+                    place: ended + fault.place,
+                });
+            }
+        };
+        if self.past > 0 || u64::from(self.cut.count()) + more > MOST_MORSELS.into() {
+            return Err(CutFault::TooManyMorsels);
+        }
+        self.cut_off()?;
+        let Cutter {
+            alloc,
+            mut cut,
+            mut rest,
+            start,
+            ..
+        } = self;
+        remove_front(&mut rest, start);
+        if !rest.is_empty() {
+            cut.append(alloc, rest)?;
+        }
+        Ok(cut)
+    }
+
+    // Takes all full runs off the rest.
+    fn cut_off(&mut self) -> Result<(), OutOfMemory>
+        ensures fed { (fed : List ℕ) → HasFed self.old fed → HasFed self.new fed }
+        ensures target { self.new.target ≡ self.old.target }
+        ensures length { fed_length self.new ≡ fed_length self.old }
+        ensures rest { OnOk result ((IsWhole self.new.rest × (length self.new.rest < self.new.target))
+            ⊎ ((place : ℕ) × IsTruncatedAt self.new.rest place)) }
+    {
+        while let Some(end) = self.next_run() {
+            self.take_run(end)?;
+        }
+        Ok(())
+    }
+
+    // Where the full run at the head of the rest ends, if one stands there.
+    fn next_run(&mut self) -> Option<usize>
+        ensures same { self.new ≡ self.old }
+        ensures run { IfSome result (λ end. IsFirstRun self.old.target end self.old.rest) }
+        ensures full { IfSome result (λ end. self.old.target ≤ end) }
+        ensures positive { IfSome result (λ end. 0 < end) }
+        ensures none { IsNone result → (IsWhole self.old.rest × (length self.old.rest < self.old.target))
+            ⊎ ((place : ℕ) × IsTruncatedAt self.old.rest place) }
+    {
+        let head = head_of(&self.rest[self.start..], self.whole, self.target);
+        if head.is_run {
+            return Some(head.end);
+        }
+        self.whole = head.end;
+        None
+    }
+
+    // Takes the full run off the head of the rest.
+    fn take_run(&mut self, end: usize) -> Result<(), OutOfMemory>
+        requires run { IsFirstRun self.old.target end self.old.rest }
+        requires full { self.old.target ≤ end }
+        ensures fed { OnOk result ((fed : List ℕ) → HasFed self.old fed → HasFed self.new fed) }
+        ensures rest { OnOk result (self.new.rest ≡ drop end self.old.rest) }
+        ensures target { OnOk result (self.new.target ≡ self.old.target) }
+        ensures bytes { OnOk result (length (concat self.new.cut) + self.new.past
+            ≡ (length (concat self.old.cut) + self.old.past) + end) }
+        ensures same { OnErr result (self.new ≡ self.old) }
+    {
+        let after = self.start + end;
+        if self.cut.count() < MOST_MORSELS {
+            let run = Vec::from_slice(self.alloc, &self.rest[self.start..after])?;
+            self.cut.append(self.alloc, run)?;
+        } else {
+            self.past += end as u64;
+        }
+        self.start = after;
+        self.whole = 0;
+        Ok(())
+    }
+}
+
+// Removes the bytes before this place.
+fn remove_front(bytes: &mut Vec<u8>, start: usize)
+    requires { start ≤ vec_len bytes.old }
+    ensures { bytes.new.items ≡ drop start bytes.old.items }
+{
+    let left = bytes.len() - start;
+    bytes.copy_within(start.., 0);
+    bytes.truncate(left);
+}

@@ -1,0 +1,152 @@
+ghost use Rattle.std.specs.Prelude.{◌≡◌, ◌≤◌, ◌<◌, ◌↔◌, ◌∷◌, [], ℕ, List, length, take, IfOk, IfErr, IfSome, IsNone, IsTrue};
+ghost use Rattle.day_file.specs.Frames.{IsWhole};
+ghost use Rattle.day_file.specs.Cuts.{IsCutAt, IsCutBy, IsFirstBad};
+ghost use Rattle.day_file.specs.Follow.{AreEnds, Follow, runs_at};
+ghost use Rattle.day_file.specs.CutFaults.{IsCutAtFault, IsCutFault};
+
+use crate::runs::{count_runs, run_at};
+use crate::{Cut, DayFile, OutOfMemory, Truncated, check};
+use lists::limits::{LONGEST_FILE, MOST_MORSELS};
+use std::alloc::{Allocator, Global};
+
+/// Why a day file has no cut.
+#[derive(Clone, Copy, Debug, PartialEq, Eq)]
+pub enum CutFault {
+    /// The file is truncated at this place.
+    Truncated { place: u64 },
+    /// This end isn't greater than the one before it, or no frame stands there.
+    NotABoundary { end: u64 },
+    /// There would be more than `MOST_MORSELS` morsels.
+    TooManyMorsels,
+    /// There was no memory for the morsels.
+    OutOfMemory,
+}
+
+impl From<OutOfMemory> for CutFault {
+    ghost use Rattle.day_file.specs.declared.cutting.CutFault.{CutFault};
+
+    ghost from_gives = { λ _ fault. fault ≡ CutFault.OutOfMemory };
+
+    fn from(_refused: OutOfMemory) -> CutFault {
+        CutFault::OutOfMemory
+    }
+}
+
+impl From<Truncated> for CutFault {
+    ghost use Rattle.day_file.specs.declared.cutting.CutFault.{CutFault};
+
+    ghost from_gives = { λ truncated fault. fault ≡ CutFault.Truncated truncated.place };
+
+    fn from(truncated: Truncated) -> CutFault {
+        CutFault::Truncated {
+            place: truncated.place,
+        }
+    }
+}
+
+/// Cuts the file into morsels, each the shortest run of frames that has at least `target` bytes, or
+/// the rest. All faults of the file are told before memory is taken.
+pub fn cut<A: Allocator>(alloc: Global, file: &DayFile<A>, target: u64) -> Result<Cut, CutFault>
+    requires { 0 < target }
+    ensures cut { IfOk result (λ cut. IsCutBy target cut file.now) }
+    ensures fault { IfErr result (λ fault. IsCutFault target file.now fault) }
+{
+    let bytes = file.bytes();
+    if count_runs(bytes, target)? > MOST_MORSELS.into() {
+        return Err(CutFault::TooManyMorsels);
+    }
+    make_cut(alloc, bytes, target)
+}
+
+// The cut of these bytes, of which there is one with few morsels.
+fn make_cut(alloc: Global, bytes: &[u8], target: u64) -> Result<Cut, CutFault>
+    requires limit { length bytes.now ≤ LONGEST_FILE }
+    requires target { 0 < target }
+    requires few { (runs : List (List ℕ)) × Follow target runs bytes.now × (length runs ≤ MOST_MORSELS) }
+    ensures cut { IfOk result (λ cut. IsCutBy target cut bytes.now) }
+    ensures fault { IfErr result (IsCutFault target bytes.now) }
+{
+    let mut cut = Cut::empty(alloc);
+    let mut start = 0;
+    while start < bytes.len() {
+        let length = run_at(bytes, start, target)?;
+        cut.append(
+            alloc,
+            Vec::from_slice(alloc, &bytes[start..start + length])?,
+        )?;
+        start += length;
+    }
+    Ok(cut)
+}
+
+/// Cuts the file at these places: the ends of all morsels but the last. All other faults are told
+/// before memory is taken, a truncated file before a bad end, and that before too many morsels.
+pub fn cut_at<A: Allocator>(alloc: Global, file: &DayFile<A>, ends: &[u64]) -> Result<Cut, CutFault>
+    ensures cut { IfOk result (λ cut. IsCutAt ends.now cut file.now) }
+    ensures fault { IfErr result (λ fault. IsCutAtFault ends.now file.now fault) }
+{
+    check(file)?;
+    let bytes = file.bytes();
+    if let Some(end) = first_bad(bytes, ends) {
+        return Err(CutFault::NotABoundary { end });
+    }
+    if ends.len() >= MOST_MORSELS as usize {
+        return Err(CutFault::TooManyMorsels);
+    }
+    Ok(make_at(alloc, bytes, ends)?)
+}
+
+// The first of these ends that isn't greater than the one before it, or where no frame stands.
+fn first_bad(bytes: &[u8], ends: &[u64]) -> Option<u64>
+    requires limit { length bytes.now ≤ LONGEST_FILE }
+    requires whole { IsWhole bytes.now }
+    ensures good { IsNone result → AreEnds bytes.now 0 ends.now }
+    ensures bad { IfSome result (λ end. IsFirstBad bytes.now 0 ends.now end) }
+{
+    let mut start = 0;
+    for end in ends {
+        if !is_end(bytes, start, *end) {
+            return Some(*end);
+        }
+        start = *end;
+    }
+    None
+}
+
+// Whether this end is greater than `start`, where a frame stands or the bytes begin, and a frame
+// stands there.
+fn is_end(bytes: &[u8], start: u64, end: u64) -> bool
+    requires limit { length bytes.now ≤ LONGEST_FILE }
+    requires whole { IsWhole bytes.now }
+    requires front { IsWhole (take start bytes.now) }
+    ensures { IsTrue result ↔ AreEnds bytes.now start (end ∷ []) }
+{
+    if end <= start || end >= bytes.len() as u64 {
+        return false;
+    }
+    match run_at(bytes, start as usize, end - start) {
+        Ok(length) => length as u64 == end - start,
+        Err(_) => false,
+    }
+}
+
+// The cut of these bytes at these places.
+fn make_at(alloc: Global, bytes: &[u8], ends: &[u64]) -> Result<Cut, OutOfMemory>
+    requires limit { length bytes.now ≤ LONGEST_FILE }
+    requires whole { IsWhole bytes.now }
+    requires ends { AreEnds bytes.now 0 ends.now }
+    requires few { length ends.now < MOST_MORSELS }
+    ensures { IfOk result (λ cut. cut ≡ runs_at 0 bytes.now ends.now) }
+{
+    let mut cut = Cut::empty(alloc);
+    let mut start = 0;
+    for end in ends {
+        let end = *end as usize;
+        cut.append(alloc, Vec::from_slice(alloc, &bytes[start..end])?)?;
+        start = end;
+    }
+    if start < bytes.len() {
+        cut.append(alloc, Vec::from_slice(alloc, &bytes[start..])?)?;
+    }
+    Ok(cut)
+}

@@ -1,0 +1,74 @@
+ghost use Rattle.std.specs.Prelude.{◌≡◌, ◌≤◌, ◌+◌, None, length, vec_len};
+ghost use Rattle.day_file.specs.Frames.{StandsFrom};
+ghost use Rattle.day_file.specs.Cuts.{IsRun, MorselView};
+
+use crate::Frames;
+use lists::limits::LONGEST_FILE;
+use std::marker::Model;
+
+/// One of the parts that a day file is cut into: one or more whole frames. Contracts see its number
+/// in the cut, the number of bytes before it in the file, and its bytes.
+#[derive(Drop)]
+pub struct Morsel {
+    number: u32,
+    start: u64,
+    bytes: Vec<u8>,
+}
+
+impl Model for Morsel {
+    ghost use Rattle.std.specs.Prelude.{◌≤◌, ◌+◌, vec_len};
+    ghost use Rattle.lists.specs.declared.limits.TheConstants.{LONGEST_FILE};
+    ghost use Rattle.day_file.specs.Cuts.{IsRun, MorselView};
+
+    ghost Value = { MorselView };
+
+    ghost view = { λ m. record { number = m.number; start = m.start; bytes = m.bytes.items } };
+
+    ghost invariant = { λ m. IsRun m.bytes.items × (m.start + vec_len m.bytes ≤ LONGEST_FILE) };
+}
+
+impl Morsel {
+    /// The morsel of these frames, without a copy.
+    pub fn of(number: u32, start: u64, bytes: Vec<u8>) -> Self
+        requires run { IsRun bytes.items }
+        requires within { start + vec_len bytes ≤ LONGEST_FILE }
+        ensures { result ≡ record { number = number; start = start; bytes = bytes.items } }
+    {
+        Morsel {
+            number,
+            start,
+            bytes,
+        }
+    }
+
+    /// Its number in its cut.
+    pub fn number(&self) -> u32
+        ensures { result ≡ self.now.number }
+    {
+        self.number
+    }
+
+    /// The number of bytes before it in the file.
+    pub fn start(&self) -> u64
+        ensures { result ≡ self.now.start }
+    {
+        self.start
+    }
+
+    /// Its bytes.
+    pub fn bytes(&self) -> &[u8]
+        ensures same { result.now ≡ self.now.bytes }
+        ensures run { IsRun result.now }
+        ensures within { self.now.start + length result.now ≤ LONGEST_FILE }
+    {
+        &self.bytes
+    }
+
+    /// Its frames in order, with their places in the file, without a copy of a body.
+    pub fn frames(&self) -> Frames<'_>
+        ensures stand { StandsFrom self.now.start result.frames self.now.bytes }
+        ensures whole { result.truncated ≡ None }
+    {
+        Frames::of(self.start, &self.bytes)
+    }
+}

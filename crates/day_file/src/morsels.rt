@@ -1,0 +1,85 @@
+ghost use Rattle.std.specs.Prelude.{◌≡◌, ◌≤◌, ◌<◌, ◌+◌, ◌++◌, ◌∷◌, [], ℕ, List, length, OnOk, OnErr, IfOk, slice_get, Some, vec_len, All};
+ghost use Rattle.std.specs.List.{concat};
+ghost use Rattle.std.specs.Arc.{arc_value};
+ghost use Rattle.day_file.specs.Cuts.{IsRun, start_of};
+
+use crate::{Morsel, OutOfMemory};
+use lists::limits::{LONGEST_FILE, MOST_MORSELS};
+use std::alloc::Global;
+use std::marker::Model;
+use std::sync::Arc;
+
+/// A day file in morsels, numbered from 0, of which there are at most `MOST_MORSELS`. Contracts see
+/// the list of their bytes, each one or more whole frames.
+#[derive(Drop)]
+pub struct Cut {
+    morsels: Vec<Arc<Morsel, Global>>,
+    length: u64,
+}
+
+impl Model for Cut {
+    ghost use Rattle.std.specs.Prelude.{ℕ, List, map};
+    ghost use Rattle.std.specs.Arc.{arc_value};
+
+    ghost Value = { List (List ℕ) };
+
+    ghost use Rattle.day_file.specs.Kept.{AreMorsels, runs_of};
+
+    ghost view = { λ cut. runs_of (map arc_value cut.morsels.items) };
+
+    ghost invariant = { λ cut. AreMorsels (map arc_value cut.morsels.items) cut.length };
+}
+
+impl Cut {
+    // The cut of no bytes.
+    pub(crate) fn empty(alloc: Global) -> Self
+        ensures { result ≡ [] }
+    {
+        Cut {
+            morsels: Vec::new(alloc),
+            length: 0,
+        }
+    }
+
+    // Adds these frames as the last morsel, without a copy.
+    pub(crate) fn append(&mut self, alloc: Global, run: Vec<u8>) -> Result<(), OutOfMemory>
+        requires run { IsRun run.items }
+        requires room { length self.old < MOST_MORSELS }
+        requires within { length (concat self.old) + vec_len run ≤ LONGEST_FILE }
+        ensures ok { OnOk result (self.new ≡ self.old ++ run.items ∷ []) }
+        ensures err { OnErr result (self.new ≡ self.old) }
+    {
+        let length = run.len() as u64;
+        let morsel = Morsel::of(self.morsels.len() as u32, self.length, run);
+        self.morsels.push(Arc::new(alloc, morsel)?)?;
+        self.length += length;
+        Ok(())
+    }
+
+    /// How many morsels there are.
+    pub fn count(&self) -> u32
+        ensures count { result ≡ length self.now }
+        ensures few { result ≤ MOST_MORSELS }
+        ensures runs { All IsRun self.now }
+        ensures within { length (concat self.now) ≤ LONGEST_FILE }
+    {
+        self.morsels.len() as u32
+    }
+
+    /// How many bytes all morsels have.
+    pub fn length(&self) -> u64
+        ensures { result ≡ length (concat self.now) }
+    {
+        self.length
+    }
+
+    /// The morsel of this number.
+    pub fn morsel(&self, number: u32) -> &Arc<Morsel, Global>
+        requires { number < length self.now }
+        ensures number { (arc_value result.now).number ≡ number }
+        ensures start { (arc_value result.now).start ≡ start_of self.now number }
+        ensures bytes { slice_get self.now number ≡ Some (arc_value result.now).bytes }
+    {
+        &self.morsels[number as usize]
+    }
+}

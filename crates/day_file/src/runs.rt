@@ -1,0 +1,101 @@
+ghost use Rattle.std.specs.Prelude.{◌≡◌, ◌≤◌, ◌<◌, ◌⊎◌, ℕ, List, length, take, drop, IfOk, IfErr, IsTrue, false};
+ghost use Rattle.day_file.specs.Frames.{IsTruncatedAt, IsWhole};
+ghost use Rattle.day_file.specs.Follow.{Follow, IsFirstRun};
+
+use crate::frame::LENGTH_BYTES;
+use crate::{Frames, Truncated};
+use lists::limits::LONGEST_FILE;
+
+/// The length of the shortest run of frames at the head of these bytes that has at least `target`
+/// bytes, or of all of them.
+pub(crate) fn first_run(bytes: &[u8], target: u64) -> Result<usize, Truncated>
+    requires limit { length bytes.now ≤ LONGEST_FILE }
+    requires some { 0 < length bytes.now }
+    requires target { 0 < target }
+    ensures run { IfOk result (λ n. IsFirstRun target n bytes.now) }
+    ensures truncated { IfErr result (λ fault. IsTruncatedAt bytes.now fault.place) }
+    ensures below { IfErr result (λ fault. fault.place < target) }
+{
+    let mut left = Frames::of(0, bytes);
+    let mut end = 0;
+    while let Some(frame) = left.next() {
+        end += LENGTH_BYTES + frame.body.len();
+        if end as u64 >= target {
+            return Ok(end);
+        }
+    }
+    left.finish()?;
+    Ok(end)
+}
+
+// The same of the bytes from this place on, before which whole frames stand.
+pub(crate) fn run_at(bytes: &[u8], start: usize, target: u64) -> Result<usize, Truncated>
+    requires limit { length bytes.now ≤ LONGEST_FILE }
+    requires some { start < length bytes.now }
+    requires target { 0 < target }
+    requires whole { IsWhole (take start bytes.now) }
+    ensures run { IfOk result (λ n. IsFirstRun target n (drop start bytes.now)) }
+    ensures truncated { IfErr result (λ fault. IsTruncatedAt bytes.now fault.place) }
+{
+    match first_run(&bytes[start..], target) {
+        Ok(length) => Ok(length),
+        Err(fault) => Err(Truncated {
+            place: start as u64 + fault.place,
+        }),
+    }
+}
+
+/// How many runs `cut` makes of these bytes.
+pub(crate) fn count_runs(bytes: &[u8], target: u64) -> Result<u64, Truncated>
+    requires limit { length bytes.now ≤ LONGEST_FILE }
+    requires target { 0 < target }
+    ensures count { IfOk result (λ n. (runs : List (List ℕ))
+        × Follow target runs bytes.now × (length runs ≡ n)) }
+    ensures few { IfOk result (λ n. n ≤ length bytes.now) }
+    ensures truncated { IfErr result (λ fault. IsTruncatedAt bytes.now fault.place) }
+{
+    let mut start = 0;
+    let mut count = 0;
+    while start < bytes.len() {
+        start += run_at(bytes, start, target)?;
+        count += 1;
+    }
+    Ok(count)
+}
+
+/// Whether a whole run stands at the head of some bytes, and where it ends, or otherwise how many
+/// bytes of whole frames stand there.
+#[derive(Clone, Copy, Debug, PartialEq, Eq)]
+pub(crate) struct Head {
+    pub(crate) is_run: bool,
+    pub(crate) end: usize,
+}
+
+/// What stands at the head of these bytes, of which so many are known to be whole frames: only what
+/// comes after those is looked at.
+pub(crate) fn head_of(bytes: &[u8], whole: usize, target: u64) -> Head
+    requires limit { length bytes.now ≤ LONGEST_FILE }
+    requires below { whole < target }
+    requires within { whole ≤ length bytes.now }
+    requires front { IsWhole (take whole bytes.now) }
+    ensures run { IsTrue result.is_run → IsFirstRun target result.end bytes.now × (target ≤ result.end) }
+    ensures open { result.is_run ≡ false → IsWhole (take result.end bytes.now) × (result.end < target)
+        × ((result.end ≡ length bytes.now) ⊎ IsTruncatedAt bytes.now result.end) }
+{
+    if whole == bytes.len() {
+        return Head {
+            is_run: false,
+            end: whole,
+        };
+    }
+    match first_run(&bytes[whole..], target - whole as u64) {
+        Ok(length) => Head {
+            is_run: (whole + length) as u64 >= target,
+            end: whole + length,
+        },
+        Err(fault) => Head {
+            is_run: false,
+            end: whole + fault.place as usize,
+        },
+    }
+}
