@@ -1,4 +1,4 @@
-use Rattle.std.proofs.Common.{rules, ◌≡◌, ◌∙◌, ◌++◌, ◌∷◌, [], ◌*◌, Contains, List, ℕ, sym, subst, arith}
+use Rattle.std.proofs.Common.{rules, ◌≡◌, ◌∙◌, ◌++◌, ◌∷◌, [], ◌*◌, Contains, List, ℕ, refl, sym, subst, arith}
 use Rattle.std.proofs.lemmas.List.Elements.{Contains-push}
 use Rattle.dispatcher.proofs.Rising.{above_le}
 use Rattle.dispatcher.specs.Seats.{tasks_of, claims, marked_tasks, seen_tasks}
@@ -35,19 +35,17 @@ overflow_add-refused g c =
 pub loop-claim-preserved-else-serve : goal.loop-claim-preserved-else-serve
 loop-claim-preserved-else-serve g c =
     let before = c.loop-claim.invariant in
-    let claimed : claims c.is_marked.new.seat ≡ claims c.loop-claim.seat ++ c.in-Task.claim ∷ []
-    = c.is_marked.ensures.claims ∙ c.in-Task.ensures.claims in
-    let marked : marked_tasks c.is_marked.new.seat ≡ marked_tasks c.loop-claim.seat = c.is_marked.ensures.marked ∙ c.in-Task.ensures.marked in
-    let saw : seen_tasks c.is_marked.new.seat ≡ seen_tasks c.loop-claim.seat = search rules in
+    let rose = above_more (claims c.loop-claim.seat) (claims c.loop-claim.seat ++ c.in-Task.claim ∷ []) c.in-Task.claim _ c.in-Task.ensures.rises refl
+        before.counted in
     record {
       same = search rules;
-      more = gives_more _ _ _ _ before.more claimed c.in-Task.ensures.answer.0;
-      refused = turn_left _ _ _ _ _ _ before.refused claimed saw;
-      counted = above_more _ _ _ _ c.in-Task.ensures.rises claimed before.counted;
+      more = gives_more _ _ c.in-Task.claim _ before.more (search rules) c.in-Task.ensures.answer.0;
+      refused = turn_left _ _ _ _ _ c.in-Task.claim before.refused (search rules) (search rules);
+      counted = search rules;
       sent = λ t. let took = before.sent t in record {
         pieces = took.pieces;
         taken = c.if-serve.ensures t ∙ took.taken;
-        in_order = took.in_order ∙ sym marked;
+        in_order = took.in_order ∙ (search rules);
         own = took.own;
       };
       seen = λ none. absurd (omega arith);
