@@ -36,7 +36,7 @@ pub loop-claim-preserved-else-serve : goal.loop-claim-preserved-else-serve
 loop-claim-preserved-else-serve g c =
     let before = c.loop-claim.invariant in
     let rose = above_more (claims c.loop-claim.seat) (claims c.loop-claim.seat ++ c.in-Task.claim ∷ []) c.in-Task.claim _ c.in-Task.ensures.rises refl
-        before.counted in
+    before.counted in
     record {
       same = search rules;
       more = gives_more _ _ c.in-Task.claim _ before.more (search rules) c.in-Task.ensures.answer.0;
@@ -84,8 +84,7 @@ returns-clause-refused g c = no_more _ _ _ _ _ _ c.loop-claim.invariant.refused 
 pub mark-requires-clause-given : goal.mark-requires-clause-given
 mark-requires-clause-given g c =
     let claimed : claims c.is_marked.new.seat ≡ claims c.loop-claim.seat ++ c.in-Task.claim ∷ []
-    = c.is_marked.ensures.claims ∙ c.in-Task.ensures.claims in
-    (
+    = c.is_marked.ensures.claims ∙ c.in-Task.ensures.claims in (
       c.in-Task.claim,
       subst (λ (w : List ℕ). Contains w c.in-Task.claim) (sym claimed) (Contains-push (claims c.loop-claim.seat) c.in-Task.claim),
       (c.in-Task.ensures.answer.0, sym c.in-Task.ensures.answer.1),
