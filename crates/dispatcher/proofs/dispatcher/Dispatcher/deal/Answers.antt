@@ -1,4 +1,4 @@
-use Rattle.std.proofs.Common.{◌≡◌, List, [], ◌∷◌, ◌++◌, All, length, map, ap, sym, subst, ◌∙◌, arith, length-append}
+use Rattle.std.proofs.Common.{◌≡◌, List, [], ◌∷◌, ◌++◌, All, length, map, ap, sym, subst, ◌∙◌, arith, rules, length-append}
 use Rattle.std.proofs.lemmas.List.{map_push}
 use Rattle.std.proofs.lemmas.List.Elements.{All-push}
 use Rattle.dispatcher.specs.declared.seat.Seat.{Seat}
@@ -18,3 +18,6 @@ loop-index-preserved g c = let list : List Seat = c.loop-index.list.items in let
       own = subst (All (IsSeatOf c.args.self.now)) (sym pushed) (All-push (IsSeatOf c.args.self.now) list seat inv.own known.own);
       unused = subst (All IsUnused) (sym pushed) (All-push IsUnused list seat inv.unused known.unused);
     }
+
+pub loop-index-init : goal.loop-index-init
+loop-index-init g c = search rules

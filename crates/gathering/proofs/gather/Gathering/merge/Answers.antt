@@ -1,4 +1,4 @@
-use Rattle.std.proofs.Common.{◌∙◌, ap, is_some}
+use Rattle.std.proofs.Common.{◌∙◌, ap, is_some, rules}
 use Rattle.std.specs.Arc.{arc_value}
 use Rattle.gathering.proofs.FilledPlaces.{filled-union}
 use Rattle.gathering.proofs.KeptPieces.{IsKept-merge, is_some-either}
@@ -15,3 +15,6 @@ returns-clause-merged g c =
     let united = filled-union c.self.inside.places.items c.other.inside.places.items c.merge_places.new.own.items
     (λ k. ap is_some (c.merge_places.ensures.places k) ∙ is_some-either _ _) in
     rw (← c.self.view_is, ← c.other.view_is) (λ i. record { inputs = arc_value c.self.inside.inputs; covered = united i })
+
+pub returns-clause-other_inputs : goal.returns-clause-other_inputs
+returns-clause-other_inputs g c = search rules

@@ -3,3 +3,6 @@ use Rattle.gathering.proofs.inputs.Inputs.of.Goals as goal
 
 pub invariant_of-result : goal.invariant_of-result
 invariant_of-result g c = search rules
+
+pub returns : goal.returns
+returns g c = search rules

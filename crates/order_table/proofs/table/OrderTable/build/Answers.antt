@@ -1,3 +1,5 @@
+use Rattle.std.proofs.Common.{arith}
+use Rattle.std.proofs.lemmas.Grind.{common_steps}
 use Rattle.order_table.specs.Orders.{OrderRow}
 use Rattle.order_table.proofs.OneMoreRow.{table_more, repeated_stays, repeated_new}
 use Rattle.order_table.proofs.table.OrderTable.build.Goals.{in-Some, in_default}
@@ -25,3 +27,6 @@ loop-row-preserved g c =
             (rw w.repeated-is (repeated_stays rows i d within old repeated c.requires before.table before.repeated later added.later w.in_default.is))
       ];
     }
+
+pub returns-clause-repeated : goal.returns-clause-repeated
+returns-clause-repeated g c = grind (arith, common_steps)
