@@ -146,6 +146,18 @@ abbrev pub is_skipped : Message → Bool
 is_skipped Skipped = true
 is_skipped _ = false
 
+-- a message's time, in nanoseconds since midnight: that of its header; what is skipped has none
+abbrev pub time_of : Message → Option ℕ
+time_of (Add m) = Some m.header.time
+time_of (Executed m) = Some m.header.time
+time_of (ExecutedAt m) = Some m.header.time
+time_of (Replace m) = Some m.header.time
+time_of (Trade m) = Some m.header.time
+time_of (Cross m) = Some m.header.time
+time_of (Broken m) = Some m.header.time
+time_of (Directory m) = Some m.header.time
+time_of Skipped = None
+
 -- a header's three fields as bytes
 abbrev pub header_parts : HeaderFields → List (List ℕ)
 header_parts header =
