@@ -298,49 +298,55 @@ filter_says : (said : Said) (conditions : List (List (List ℕ))) (query : Meani
 filter_says said [] query at h = subst (λ q. Filter said [] q) h all
 filter_says said (condition ∷ conditions) query at h = those (h (at + (length (codes "where") + 1)))
 
-kinds_say : (what : What) (symbols : Option (List (List ℕ))) (span : Option Span) (e c p q : Bool)
+kinds_say : (what : What) (moment : Option ℕ) (symbols : Option (List (List ℕ))) (span : Option Span) (e c p q : Bool)
     → has_some (record { e = e; c = c; p = p; q = q }) ≡ true
-    → Says (record { what = what; symbols = symbols; span = span; kinds = None }) (kind_condition (record { e = e; c = c; p = p; q = q }))
-    (record { what = what; symbols = symbols; span = span; kinds = record { e = e; c = c; p = p; q = q } })
-kinds_say what symbols span true true true true h = refl
-kinds_say what symbols span true true true false h = λ at. kind refl (kinds_spelled true true true false h) done
-kinds_say what symbols span true true false true h = λ at. kind refl (kinds_spelled true true false true h) done
-kinds_say what symbols span true true false false h = λ at. kind refl (kinds_spelled true true false false h) done
-kinds_say what symbols span true false true true h = λ at. kind refl (kinds_spelled true false true true h) done
-kinds_say what symbols span true false true false h = λ at. kind refl (kinds_spelled true false true false h) done
-kinds_say what symbols span true false false true h = λ at. kind refl (kinds_spelled true false false true h) done
-kinds_say what symbols span true false false false h = λ at. kind refl (kinds_spelled true false false false h) done
-kinds_say what symbols span false true true true h = λ at. kind refl (kinds_spelled false true true true h) done
-kinds_say what symbols span false true true false h = λ at. kind refl (kinds_spelled false true true false h) done
-kinds_say what symbols span false true false true h = λ at. kind refl (kinds_spelled false true false true h) done
-kinds_say what symbols span false true false false h = λ at. kind refl (kinds_spelled false true false false h) done
-kinds_say what symbols span false false true true h = λ at. kind refl (kinds_spelled false false true true h) done
-kinds_say what symbols span false false true false h = λ at. kind refl (kinds_spelled false false true false h) done
-kinds_say what symbols span false false false true h = λ at. kind refl (kinds_spelled false false false true h) done
-kinds_say what symbols span false false false false h = absurd (cc)
+    → Says (record { what = what; as_of = moment; symbols = symbols; span = span; kinds = None }) (kind_condition (record { e = e; c = c; p = p; q = q }))
+    (record { what = what; as_of = moment; symbols = symbols; span = span; kinds = record { e = e; c = c; p = p; q = q } })
+kinds_say what moment symbols span true true true true h = refl
+kinds_say what moment symbols span true true true false h = λ at. kind refl (kinds_spelled true true true false h) done
+kinds_say what moment symbols span true true false true h = λ at. kind refl (kinds_spelled true true false true h) done
+kinds_say what moment symbols span true true false false h = λ at. kind refl (kinds_spelled true true false false h) done
+kinds_say what moment symbols span true false true true h = λ at. kind refl (kinds_spelled true false true true h) done
+kinds_say what moment symbols span true false true false h = λ at. kind refl (kinds_spelled true false true false h) done
+kinds_say what moment symbols span true false false true h = λ at. kind refl (kinds_spelled true false false true h) done
+kinds_say what moment symbols span true false false false h = λ at. kind refl (kinds_spelled true false false false h) done
+kinds_say what moment symbols span false true true true h = λ at. kind refl (kinds_spelled false true true true h) done
+kinds_say what moment symbols span false true true false h = λ at. kind refl (kinds_spelled false true true false h) done
+kinds_say what moment symbols span false true false true h = λ at. kind refl (kinds_spelled false true false true h) done
+kinds_say what moment symbols span false true false false h = λ at. kind refl (kinds_spelled false true false false h) done
+kinds_say what moment symbols span false false true true h = λ at. kind refl (kinds_spelled false false true true h) done
+kinds_say what moment symbols span false false true false h = λ at. kind refl (kinds_spelled false false true false h) done
+kinds_say what moment symbols span false false false true h = λ at. kind refl (kinds_spelled false false false true h) done
+kinds_say what moment symbols span false false false false h = absurd (cc)
 
-span_says : (what : What) (symbols : Option (List (List ℕ))) (span : Option Span) (kinds : Kinds)
+span_says : (what : What) (moment : Option ℕ) (symbols : Option (List (List ℕ))) (span : Option Span) (kinds : Kinds)
     → ((some : Span) → span ≡ Some some → is_span some ≡ true) → has_some kinds ≡ true
-    → Says (record { what = what; symbols = symbols; span = None; kinds = None }) (time_condition span ++ kind_condition kinds)
-    (record { what = what; symbols = symbols; span = span; kinds = kinds })
-span_says what symbols None kinds bound some = kinds_say what symbols None kinds.e kinds.c kinds.p kinds.q some
-span_says what symbols (Some span) kinds bound some = λ at.
+    → Says (record { what = what; as_of = moment; symbols = symbols; span = None; kinds = None }) (time_condition span ++ kind_condition kinds)
+    (record { what = what; as_of = moment; symbols = symbols; span = span; kinds = kinds })
+span_says what moment symbols None kinds bound some = kinds_say what moment symbols None kinds.e kinds.c kinds.p kinds.q some
+span_says what moment symbols (Some span) kinds bound some = λ at.
     let rises : nat_lt span.since span.until ≡ true = and_first (nat_lt span.since span.until) _ (bound span refl) in
     let within : span.until ≤ 86400 = leb-true _ _ (and_second (nat_lt span.since span.until) _ (bound span refl)) in
     let before : span.since < span.until = ltb-true _ _ rises in
     time refl (time_value span.since (omega arith)) (time_value span.until within) rises
-    (more_says (record { what = what; symbols = symbols; span = Some span; kinds = None }) (kind_condition kinds)
-    (record { what = what; symbols = symbols; span = Some span; kinds = kinds }) _
-    (kinds_say what symbols (Some span) kinds.e kinds.c kinds.p kinds.q some))
+    (more_says (record { what = what; as_of = moment; symbols = symbols; span = Some span; kinds = None }) (kind_condition kinds)
+    (record { what = what; as_of = moment; symbols = symbols; span = Some span; kinds = kinds }) _
+    (kinds_say what moment symbols (Some span) kinds.e kinds.c kinds.p kinds.q some))
 
-symbols_say : (what : What) (symbols : Option (List (List ℕ))) (span : Option Span) (kinds : Kinds) → IsSound what symbols span → has_some kinds ≡ true
-    → Says (only what) (symbol_condition symbols ++ (time_condition span ++ kind_condition kinds))
-    (record { what = what; symbols = symbols; span = span; kinds = kinds })
-symbols_say what None span kinds sound some = span_says what None span kinds sound.span some
-symbols_say what (Some names) span kinds sound some = λ at.
+-- what is listed, and up to which moment
+abbrev at_moment : What → Option ℕ → Said
+at_moment what moment = record { what = what; as_of = moment; symbols = None; span = None; kinds = None }
+
+symbols_say : (what : What) (moment : Option ℕ) (symbols : Option (List (List ℕ))) (span : Option Span) (kinds : Kinds)
+    → IsSound what moment symbols span → has_some kinds ≡ true
+    → Says (at_moment what moment) (symbol_condition symbols ++ (time_condition span ++ kind_condition kinds))
+    (record { what = what; as_of = moment; symbols = symbols; span = span; kinds = kinds })
+symbols_say what moment None span kinds sound some = span_says what moment None span kinds sound.span some
+symbols_say what moment (Some names) span kinds sound some = λ at.
     symbol refl (symbols_spelled names (sound.symbols names refl))
-    (more_says (record { what = what; symbols = Some names; span = None; kinds = None }) (time_condition span ++ kind_condition kinds)
-    (record { what = what; symbols = Some names; span = span; kinds = kinds }) _ (span_says what (Some names) span kinds sound.span some))
+    (more_says (record { what = what; as_of = moment; symbols = Some names; span = None; kinds = None }) (time_condition span ++ kind_condition kinds)
+    (record { what = what; as_of = moment; symbols = Some names; span = span; kinds = kinds }) _
+    (span_says what moment (Some names) span kinds sound.span some))
 
 -- ---- each canonical word can stand in a text
 
@@ -355,9 +361,10 @@ linked_plain link (condition ∷ conditions) g h =
     list_all-append is_plain condition (linked (codes "and") conditions) ∙ both _ _ this rest in
     both _ _ g whole
 
-conditions_plain : (what : What) (symbols : Option (List (List ℕ))) (span : Option Span) (kinds : Kinds) → IsSound what symbols span → has_some kinds ≡ true
+conditions_plain : (what : What) (moment : Option ℕ) (symbols : Option (List (List ℕ))) (span : Option Span) (kinds : Kinds)
+    → IsSound what moment symbols span → has_some kinds ≡ true
     → list_all (list_all is_plain) (symbol_condition symbols ++ (time_condition span ++ kind_condition kinds)) ≡ true
-conditions_plain what symbols span kinds sound some =
+conditions_plain what moment symbols span kinds sound some =
     let one : list_all (list_all is_plain) (symbol_condition symbols) ≡ true = of_symbols symbols sound.symbols in
     let two : list_all (list_all is_plain) (time_condition span) ≡ true = of_span span in
     let three : list_all (list_all is_plain) (kind_condition kinds) ≡ true = of_kinds ((kinds.e && kinds.c) && (kinds.p && kinds.q)) kinds some in
@@ -379,13 +386,15 @@ conditions_plain what symbols span kinds sound some =
     of_kinds false kinds some = rw (kinds_plain kinds.e kinds.c kinds.p kinds.q some) refl
 
 -- the canonical text of a query is in the grammar, and means the query
-pub canonical_means : (query : Meaning) → CanBeSpelled query → Means (words_of (canonical query)) query
+pub canonical_means : (query : Meaning) → CanBeSpelled query → query.as_of ≡ None → Means (words_of (canonical query)) query
 unfolding canonical unit_of
-canonical_means query spelled =
+canonical_means query spelled none =
     let conditions : List (List (List ℕ)) = conditions_of query in
     let plain : list_all is_plain (linked (codes "where") conditions) ≡ true =
-    linked_plain (codes "where") conditions refl (conditions_plain query.what query.symbols query.span query.kinds spelled.sound spelled.kinds) in
-    of_what query.what query refl spelled plain (symbols_say query.what query.symbols query.span query.kinds spelled.sound spelled.kinds)
+    linked_plain (codes "where") conditions refl (conditions_plain query.what query.as_of query.symbols query.span query.kinds spelled.sound spelled.kinds) in
+    of_what query.what query refl spelled plain
+    (subst (λ m. Says (at_moment query.what m) conditions query) none
+    (symbols_say query.what query.as_of query.symbols query.span query.kinds spelled.sound spelled.kinds))
   where
     of_what : (what : What) (query : Meaning) → query.what ≡ what → CanBeSpelled query
         → list_all is_plain (linked (codes "where") (conditions_of query)) ≡ true → Says (only query.what) (conditions_of query) query

@@ -155,7 +155,8 @@ second_of_two true b h = h
 second_of_two false b h = absurd (cc)
 
 -- times that a query has are no later than the day's end
-pub span_fits : {listed : What} {names : Option (List (List ℕ))} {times : Option Span} → IsSound listed names times → (some : Span) → times ≡ Some some
+pub span_fits : {listed : What} {moment : Option ℕ} {names : Option (List (List ℕ))} {times : Option Span} → IsSound listed moment names times
+    → (some : Span) → times ≡ Some some
     → (some.since ≤ 86400) × (some.until ≤ 86400)
 span_fits sound some e =
     let bound : is_span some ≡ true = sound.span some e in

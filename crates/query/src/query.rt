@@ -23,6 +23,9 @@ pub enum What {
 #[derive(Drop)]
 pub struct Query<A: Allocator = Global> {
     pub what: What,
+    /// In seconds since midnight, up to 86,400. Messages after this moment don't count; each counts
+    /// where there is none.
+    pub as_of: Option<u32>,
     /// The symbols whose sales are listed, or those of each.
     pub symbols: Option<Symbols<A>>,
     /// The part of the day, or the whole day.
@@ -38,6 +41,7 @@ impl<A: Allocator> Model for Query<A> {
 
     ghost view = { λ query. record {
       what = query.what;
+      as_of = query.as_of;
       symbols = query.symbols;
       span = query.span;
       kinds = query.kinds;
@@ -45,6 +49,7 @@ impl<A: Allocator> Model for Query<A> {
 
     ghost invariant = { λ query. CanBeSpelled (record {
       what = query.what;
+      as_of = query.as_of;
       symbols = query.symbols;
       span = query.span;
       kinds = query.kinds;

@@ -36,6 +36,7 @@ const ALL_KINDS: Kinds = Kinds {
 #[derive(Drop)]
 pub(crate) struct Reading<A: Allocator> {
     what: What,
+    as_of: Option<u32>,
     symbols: Option<Symbols<A>>,
     span: Option<Span>,
     kinds: Option<Kinds>,
@@ -48,6 +49,7 @@ impl<A: Allocator> Model for Reading<A> {
 
     ghost view = { λ said. record {
       what = said.what;
+      as_of = said.as_of;
       symbols = said.symbols;
       span = said.span;
       kinds = said.kinds;
@@ -55,6 +57,7 @@ impl<A: Allocator> Model for Reading<A> {
 
     ghost invariant = { λ said. IsSaidSoundly (record {
       what = said.what;
+      as_of = said.as_of;
       symbols = said.symbols;
       span = said.span;
       kinds = said.kinds;
@@ -69,6 +72,7 @@ impl<A: Allocator + Clone> Reading<A> {
     {
         Reading {
             what,
+            as_of: None,
             symbols: None,
             span: None,
             kinds: None,
@@ -82,6 +86,7 @@ impl<A: Allocator + Clone> Reading<A> {
     {
         Query {
             what: self.what,
+            as_of: self.as_of,
             symbols: self.symbols,
             span: self.span,
             kinds: self.kinds.unwrap_or(ALL_KINDS),
