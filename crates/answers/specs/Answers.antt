@@ -1,4 +1,4 @@
--- The answer to a query over a day file: the file's one fault, or the text made of its whole message list.
+-- The answer to a query over a day file: the file's one fault, or the text made of all its messages that count.
 -- To be believed.
 -- The language wants each name before it is used, so what stands last is what the others lead to: `IsAnswer`.
 use Rattle.std.specs.Prelude.{◌≡◌, ℕ, Bool, ◌&&◌, List, Option, Result, Ok, Err, filter_map, MatchOption, ◌⊎◌}

@@ -9,10 +9,10 @@ use Rattle.answers.specs.Messages.{Placed, messages_of, first_wrong, is_counted,
 abbrev pub without_moment : Meaning → Meaning
 without_moment query = record {
   what = query.what;
+  as_of = None;
   symbols = query.symbols;
   span = query.span;
   kinds = query.kinds;
-  as_of = None;
 }
 
 -- no message of a file is past a moment
