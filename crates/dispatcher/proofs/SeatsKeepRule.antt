@@ -8,6 +8,7 @@ use Rattle.std.proofs.lemmas.List.{length-replicate}
 use Rattle.std.proofs.lemmas.List.Sums.{sum_by_push, sum_by-append}
 use Rattle.atomic_table.specs.Table.{State, opening, Splits, Joins}
 use Rattle.atomic_table.proofs.Lists.{at_set, at_snoc, set_else}
+use Rattle.lists.specs.declared.limits.TheConstants.{MOST_TASKS, MOST_SEATS}
 use Rattle.dispatcher.specs.declared.rule.View.{View}
 use Rattle.dispatcher.specs.declared.rule.Size.{Size}
 use Rattle.dispatcher.specs.Rule.{IsConsistent, IsFair, IsMarkWord, occurrences, once_below, late_count, unused_view, everyone, others, first_seat, joined_view}
@@ -20,7 +21,7 @@ St = State (Unit {0}) View
 unused_is_fair : (size : Size) (numbers : List ℕ) → IsFair size (unused_view numbers)
 unused_is_fair size numbers = record { late_claims = omega arith; spent = λ _. (refl, refl, refl) }
 
-pub opens : (size : Size) (words : List ℕ) → size.tasks ≤ 4096 → size.seats ≤ 256 → words ≡ replicate (size.tasks + 1) 0
+pub opens : (size : Size) (words : List ℕ) → size.tasks ≤ MOST_TASKS → size.seats ≤ MOST_SEATS → words ≡ replicate (size.tasks + 1) 0
     → IsConsistent size (opening words [] (everyone size))
 opens size words tasks seats zeros = record {
   wide = ap length zeros ∙ length-replicate (size.tasks + 1) 0;

@@ -32,7 +32,7 @@ impl<A: Allocator> Marks<A> {
         }
     }
 
-    /// How many tasks are marked, at most 4,096.
+    /// How many tasks are marked, at most `MOST_TASKS`.
     pub fn count(&self) -> usize
         ensures { result ≡ count_by (λ flag. flag) self.now }
     {

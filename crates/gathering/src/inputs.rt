@@ -13,7 +13,8 @@ use std::alloc::{Allocator, Global};
 use std::marker::Model;
 use std::sync::Arc;
 
-/// The inputs of all tasks, in order: an admissible list of at most 4,096. Task n works on input n.
+/// The inputs of all tasks, in order: an admissible list of at most `MOST_TASKS`. Task n works on input
+/// n.
 ///
 /// Contracts see the list.
 #[derive(Drop)]

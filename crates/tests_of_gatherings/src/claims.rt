@@ -206,16 +206,16 @@ fn work(dispatcher: &Dispatcher, mut seat: Seat, mut noted: Vec<Claim>) -> (Seat
 
 #[test]
 fn most_tasks_and_seats_are_served(rt: HostRuntime) -> Result<(), Fail> {
-    let (dispatcher, mut seats) = Dispatcher::new(rt.alloc(), 4096, 256)?;
+    let (dispatcher, mut seats) = Dispatcher::new(rt.alloc(), 65_536, 256)?;
     let seat = seats.pop().unwrap();
     let (seat, noted) = work(&dispatcher, seat, Vec::new(rt.alloc()));
     seats.push(seat)?;
     let Ok(tally) = dispatcher.settle(seats) else {
         panic!(rt; "no memory")
     };
-    assert!(rt; noted.len() == 8193 && tally.claims == 8193);
-    assert!(rt; tally.marks.count() == 4096);
-    assert!(rt; tally.marks.holds(4095) && !tally.marks.holds(4096));
+    assert!(rt; noted.len() == 131_073 && tally.claims == 131_073);
+    assert!(rt; tally.marks.count() == 65_536);
+    assert!(rt; tally.marks.holds(65_535) && !tally.marks.holds(65_536));
     Ok(())
 }
 
@@ -331,7 +331,7 @@ fn on_threads<R: Threads + Wait + Sync>(
 #[test]
 fn four_threads_share_the_claims(rt: HostRuntime) -> Result<(), Fail> {
     let alloc = rt.alloc();
-    let (dispatcher, seats) = Dispatcher::new(alloc, 1000, 4)?;
+    let (dispatcher, seats) = Dispatcher::new(alloc, 65_536, 4)?;
     let dispatcher = Arc::new(alloc, dispatcher)?;
     let Some((seats, claims)) = on_threads(&rt, alloc, &dispatcher, seats) else {
         panic!(rt; "no memory, or no thread")
@@ -342,7 +342,7 @@ fn four_threads_share_the_claims(rt: HostRuntime) -> Result<(), Fail> {
     let Ok(tally) = dispatcher.settle(seats) else {
         panic!(rt; "no memory")
     };
-    assert!(rt; tally.claims == 2004 && tally.marks.count() == 1000);
+    assert!(rt; tally.claims == 131_076 && tally.marks.count() == 65_536);
     let mut numbers = Vec::new(alloc);
     let mut tasks = Vec::new(alloc);
     for claim in claims.iter() {
@@ -356,7 +356,7 @@ fn four_threads_share_the_claims(rt: HostRuntime) -> Result<(), Fail> {
     }
     numbers.sort()?;
     tasks.sort()?;
-    assert!(rt; numbers.len() == 2004 && tasks.len() == 2000);
+    assert!(rt; numbers.len() == 131_076 && tasks.len() == 131_072);
     for (at, number) in numbers.iter().enumerate() {
         assert!(rt; at as u64 == *number, "each number is claimed once");
     }

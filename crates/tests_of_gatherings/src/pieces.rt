@@ -147,13 +147,13 @@ fn no_inputs_have_a_total(rt: HostRuntime) -> Result<(), Fail> {
 #[test]
 fn the_most_inputs_have_room(rt: HostRuntime) -> Result<(), Fail> {
     let alloc = rt.alloc();
-    let numbers = vec![in alloc; 3u64; 4096]?;
+    let numbers = vec![in alloc; 3u64; 65_536]?;
     let inputs = shared_inputs_of(alloc, &Watch::shared(alloc)?, &numbers)?;
     let mut gathering = Gathering::new(alloc, Arc::try_clone(&inputs)?)?;
     for task in 0..inputs.count() {
         let piece = Piece::make(alloc, task, Arc::try_clone(inputs.input(task))?)?;
         let _ = gathering.file(piece);
     }
-    assert!(rt; total_of(gathering) == Ok(12_288));
+    assert!(rt; total_of(gathering) == Ok(196_608));
     Ok(())
 }

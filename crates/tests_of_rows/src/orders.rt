@@ -23,7 +23,7 @@ fn the_first_row_prices(rt: HostRuntime) -> Result<(), Fail> {
         order_no: 1,
     };
     assert!(rt; built.repeated == Some(first));
-    assert!(rt; partition(130) == 2);
+    assert!(rt; partition(130, 64) == 2 && partition(130, 7) == 4 && partition(130, 1) == 0);
     Ok(())
 }
 

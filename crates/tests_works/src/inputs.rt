@@ -12,7 +12,7 @@ use std::sync::Arc;
 /// Eight numbers of which no two parts have the same sum. Their sum is 255.
 pub const NUMBERS: [u64; 8] = [1, 2, 4, 8, 16, 32, 64, 128];
 
-/// The inputs with these numbers, at most 4,096.
+/// The inputs with these numbers, at most `MOST_TASKS`.
 pub fn inputs_of(
     alloc: Global,
     watch: &Arc<Watch, Global>,
@@ -32,7 +32,7 @@ pub fn inputs_of(
     Ok(Inputs::of(items))
 }
 
-/// The inputs with these numbers, at most 4,096, to be shared.
+/// The inputs with these numbers, at most `MOST_TASKS`, to be shared.
 pub fn shared_inputs_of(
     alloc: Global,
     watch: &Arc<Watch, Global>,

@@ -13,9 +13,9 @@ use atomic_table::Table;
 use std::alloc::Allocator;
 
 impl<A: Allocator + Clone> Dispatcher<A> {
-    /// A dispatcher of 1 to 4,096 tasks and its 1 to 256 seats, by number. Nothing is claimed or
-    /// marked yet. It is refused if there is no memory for a word for each task and one more, or
-    /// for the list of seats.
+    /// A dispatcher of 1 to `MOST_TASKS` tasks and its 1 to `MOST_SEATS` seats, by number. Nothing
+    /// is claimed or marked yet. It is refused if there is no memory for a word for each task and
+    /// one more, or for the list of seats.
     pub fn new(
         alloc: A,
         tasks: u32,
