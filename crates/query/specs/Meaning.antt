@@ -19,7 +19,7 @@ pub record Meaning : Type 0 where
   pub span : Option Span
   pub kinds : Kinds
 
--- the part of a query that was read; a condition that wasn't given is `None`
+-- the part of a query that was read; a moment or condition that wasn't given is `None`
 pub record Said : Type 0 where
   pub what : What
   -- messages after this second since midnight don't count
@@ -28,7 +28,7 @@ pub record Said : Type 0 where
   pub span : Option Span
   pub kinds : Option Kinds
 
--- no condition was given
+-- neither a moment nor a condition was given
 abbrev pub only : What → Said
 only what = record { what = what; as_of = None; symbols = None; span = None; kinds = None }
 

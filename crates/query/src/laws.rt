@@ -20,8 +20,7 @@ pub fn meaning_or_fault()
         (meaning : Meaning) × Means words meaning }
 {}
 
-/// The canonical text of a query without a moment is in the grammar, with that query as its meaning.
+/// The canonical text of a query is in the grammar, with that query as its meaning.
 pub fn canonical_text()
-    ensures { (query : Meaning) → CanBeSpelled query → query.as_of ≡ None →
-        Means (words_of (canonical query)) query }
+    ensures { (query : Meaning) → CanBeSpelled query → Means (words_of (canonical query)) query }
 {}
