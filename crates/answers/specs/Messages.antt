@@ -2,7 +2,7 @@
 -- To be believed.
 use Rattle.std.specs.Prelude.{ℕ, nat_le, ◌*◌, Bool, true, List, Option, Some, None, filter, filter_map, ◌==◌, if◌then◌else◌}
 use Rattle.std.specs.Option.{option_map_or}
-use Rattle.itch_messages.specs.Body.{message_of, has_wrong_length, time_of}
+use Rattle.itch_messages.specs.Body.{message_of, has_wrong_length, time_of_message}
 use Rattle.itch_messages.specs.declared.message.Message.{Message}
 use Rattle.itch_messages.specs.declared.message.Message.TheVariants.{Add, Executed, ExecutedAt, Replace, Trade, Cross, Broken, Directory, Skipped}
 use Rattle.day_file.specs.Frames.{PlacedBody}
@@ -32,7 +32,7 @@ messages_of frames = filter_map (λ frame. placed_at frame.place (message_of fra
 abbrev pub is_counted : Option ℕ → Message → Bool
 is_counted None message = true
 is_counted (Some moment) message =
-    option_map_or (λ time. nat_le time (moment * NANOSECONDS)) (time_of message) true
+    option_map_or (λ time. nat_le time (moment * NANOSECONDS)) (time_of_message message) true
 
 -- the messages that count, in their order
 abbrev pub counted : Option ℕ → List Placed → List Placed

@@ -1,6 +1,6 @@
 //! When a message was sent.
 ghost use Rattle.std.specs.Prelude.{◌≡◌};
-ghost use Rattle.itch_messages.specs.Body.{time_of};
+ghost use Rattle.itch_messages.specs.Body.{time_of_message};
 
 use crate::message::Message;
 
@@ -9,7 +9,7 @@ impl Message {
     /// TotalView-ITCH 5.0, section 1.
     #[inline(always)]
     pub fn time(&self) -> Option<u64>
-        ensures { result ≡ time_of self.now }
+        ensures { result ≡ time_of_message self.now }
     {
         let header = match self {
             Message::Add(add) => add.header,
