@@ -11,7 +11,8 @@ use Rattle.answers.specs.Messages.{Placed, counted, executions, execution_at, is
 pub counted-append : (as_of : Option ℕ) (one other : List Placed) → counted as_of (one ++ other) ≡ counted as_of one ++ counted as_of other
 counted-append as_of one other = filter-append (λ (m : Placed). is_counted as_of m.message) one other
 
-pub counted-parts : (as_of : Option ℕ) (parts : List (List Placed)) → counted as_of (flat_map (λ part. part) parts) ≡ flat_map (λ part. counted as_of part) parts
+pub counted-parts : (as_of : Option ℕ) (parts : List (List Placed))
+    → counted as_of (flat_map (λ part. part) parts) ≡ flat_map (λ part. counted as_of part) parts
 counted-parts as_of [] = refl
 counted-parts as_of (part ∷ parts) =
     counted-append as_of part (flat_map (λ part. part) parts) ∙ ap (λ l. counted as_of part ++ l) (counted-parts as_of parts)

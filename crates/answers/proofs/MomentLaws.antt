@@ -1,5 +1,5 @@
 -- A moment that no message is past changes no answer, and the messages that count decide it.
-use Rattle.std.proofs.Common.{◌≡◌, ◌↔◌, ℕ, List, Option, Some, None, Result, Err, MatchOption, inl, inr, sym, ◌∙◌, subst}
+use Rattle.std.proofs.Common.{◌≡◌, ◌↔◌, ℕ, List, Option, None, Result, Err, MatchOption, inl, inr, sym, ◌∙◌, subst}
 use Rattle.day_file.specs.Frames.{PlacedBody, StandsFor}
 use Rattle.day_file.proofs.Laws.{frames_are_one, not_both}
 use Rattle.query.specs.Meaning.{Meaning}

@@ -12,7 +12,8 @@ use Rattle.itch_messages.specs.declared.message.Message.{Message}
 use Rattle.itch_messages.specs.declared.message.Message.TheVariants.{Add, Executed, ExecutedAt, Replace, Trade, Cross, Broken, Directory, Skipped}
 use Rattle.day_file.specs.Frames.{PlacedBody}
 use Rattle.lists.specs.Least.{least_by}
-use Rattle.answers.specs.Messages.{Placed, placed_at, messages_of, is_counted, counted, first_wrong, order_row_at, execution_at, own_priced_at, break_of, directory_row_at}
+use Rattle.answers.specs.Messages.{is_counted, counted}
+use Rattle.answers.specs.Messages.{Placed, placed_at, messages_of, first_wrong, order_row_at, execution_at, own_priced_at, break_of, directory_row_at}
 use Rattle.answers.specs.DayRows.{DayRows, counted_rows_at, joined, no_rows, rows_at, rows_of}
 use Rattle.answers.proofs.CountedMessages.{counted-append}
 use Rattle.answers.proofs.JoinedRows.{rows_of-append, same_rows}

@@ -108,11 +108,7 @@ const MOMENTS: [AskedRow; 19] = [
         &[Form::R(7, MSFT), Form::Bytes(b"\x00")],
         Err(DayFault::Truncated { place: 41 }),
     ),
-    (
-        "sales as of 24:00:00",
-        &[Form::Bytes(LATEST_TRADE)],
-        Ok(""),
-    ),
+    ("sales as of 24:00:00", &[Form::Bytes(LATEST_TRADE)], Ok("")),
     ("sales as of 09:30:00", &OF_EACH_KIND, Ok("")),
     ("sales as of 09:29:59", &OF_EACH_KIND, Ok("")),
     ("sales as of 09:30:01", &OF_EACH_KIND, Ok("")),
@@ -148,11 +144,7 @@ fn late_messages_in_each_order_have_the_defined_answer(rt: HostRuntime) -> Resul
         Form::Bytes(b"\x00\x01Z"),
     ];
     for number in 0..729 {
-        let three = [
-            forms[number % 9],
-            forms[number / 9 % 9],
-            forms[number / 81],
-        ];
+        let three = [forms[number % 9], forms[number / 9 % 9], forms[number / 81]];
         let day = Day::of(rt.alloc(), &three)?;
         for (text, moment) in [
             ("sales as of 09:30:02", 34_202_000_000_000),

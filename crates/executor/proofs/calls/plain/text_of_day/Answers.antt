@@ -1,14 +1,13 @@
-use Rattle.std.proofs.Common.{◌≡◌, Err, Ok, ap, ◌∙◌}
+use Rattle.std.proofs.Common.{Err, Ok, ap, ◌∙◌}
 use Rattle.std.proofs.lemmas.Result.{err_from_is_err_and}
 use Rattle.query.specs.Meaning.{Meaning}
 use Rattle.day_file.proofs.Laws.{places_rise}
-use Rattle.answers.specs.Answers.{IsAnswer, IsAnswerToMessages}
-use Rattle.answers.specs.DayRows.{AreByPlace, rows_of}
+use Rattle.answers.specs.Answers.{IsAnswer}
+use Rattle.answers.specs.DayRows.{rows_of}
 use Rattle.answers.specs.Messages.{counted, messages_of}
 use Rattle.answers.proofs.AnswerOfSteps.{messages_answer}
 use Rattle.answers.proofs.CountedMessages.{counted_by_place}
 use Rattle.answers.proofs.RowsByPlace.{messages_by_place}
-use Rattle.executor.specs.Steps.{AreOfDay, AreOfMessages}
 use Rattle.executor.proofs.Steps.{on_day, on_ok}
 use Rattle.executor.proofs.calls.plain.text_of_day.Goals as goal
 
