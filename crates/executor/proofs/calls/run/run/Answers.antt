@@ -61,3 +61,15 @@ returns-in-Err-ReadFailed-clause-ran g c = search rules
 
 pub returns-in-Err-ReadFailed-clause-read_failed : goal.returns-in-Err-ReadFailed-clause-read_failed
 returns-in-Err-ReadFailed-clause-read_failed g c = search rules
+
+pub returns-in-Err-TooLong-clause-ran : goal.returns-in-Err-TooLong-clause-ran
+returns-in-Err-TooLong-clause-ran g c = search rules
+
+pub returns-in-Err-OutOfMemory-read_day-clause-ran : goal.returns-in-Err-OutOfMemory-read_day-clause-ran
+returns-in-Err-OutOfMemory-read_day-clause-ran g c = search rules
+
+pub returns-in-Ok-Printed-clause-write_failed : goal.returns-in-Ok-Printed-clause-write_failed
+returns-in-Ok-Printed-clause-write_failed g c = search rules
+
+pub returns-clause-ran : goal.returns-clause-ran
+returns-clause-ran g c = search rules
