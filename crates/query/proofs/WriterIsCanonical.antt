@@ -6,7 +6,7 @@ use Rattle.std.specs.Fmt.{decimal}
 use Rattle.std.specs.List.{join_with_byte}
 use Rattle.std.proofs.lemmas.Grind.{flat_map-append}
 use Rattle.std.proofs.lemmas.List.{take_more}
-use Rattle.query.specs.Canonical.{clock_text, what_words, moment_words, kind_letters, linked, symbol_condition, time_condition}
+use Rattle.query.specs.Canonical.{clock_text, what_words, kind_letters, linked, symbol_condition, time_condition}
 use Rattle.query.specs.CanonicalPieces.{spaced, next_link, letter_text}
 use Rattle.std.proofs.lemmas.Bool.{ltb-true, leb-true}
 use Rattle.query.specs.Meaning.{IsSound, is_span}

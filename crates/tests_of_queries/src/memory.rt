@@ -31,12 +31,12 @@ fn parse_succeeds_once_there_is_memory(rt: HostRuntime) -> Result<(), Fail> {
 
 #[test]
 fn write_succeeds_once_there_is_memory(rt: HostRuntime) -> Result<(), Fail> {
-    let query = parse(rt.alloc(), "bars 1 m where kind in P")?;
+    let query = parse(rt.alloc(), "bars 1 m as of 09:30:59 where kind in P")?;
     for step in 0..SIZES {
         let heap = LocalHeap::new(rt.alloc(), 16 * step)?;
         let mut out = Vec::new(&heap);
         if write(&mut out, &query).is_ok() {
-            assert!(rt; out.as_slice() == b"bars 60 s where kind in P".as_slice());
+            assert!(rt; out.as_slice() == b"bars 60 s as of 09:30:59 where kind in P".as_slice());
             assert!(rt; step > 0);
             return Ok(());
         }

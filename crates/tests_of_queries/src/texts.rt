@@ -1,7 +1,7 @@
 //! The language by examples: a text, and the canonical text of the query that it spells or the
 //! message of its first fault.
 
-use query::{OutOfMemory, parse, write};
+use query::{OutOfMemory, What, parse, write};
 use std::alloc::Global;
 use std::test::Fail;
 
@@ -50,6 +50,73 @@ const EXAMPLES: [(&str, &str); 20] = [
         "sales where time from 09:30:00 until 09:31:00",
         "sales where time from 09:30:00 until 09:31:00",
     ),
+];
+
+// A moment stands after what is listed, once, and before `where`.
+const MOMENTS: [(&str, &str); 23] = [
+    ("sales as of", "query ends too early"),
+    ("sales as", "query ends too early"),
+    ("bars 1 m as of", "query ends too early"),
+    ("sales as of 09:30:00 where", "query ends too early"),
+    ("sales as 09:30:00", "query byte 9: unknown word"),
+    ("sales of 09:30:00", "query byte 6: unknown word"),
+    ("sales As of 09:30:00", "query byte 6: unknown word"),
+    ("as of 09:30:00", "query byte 0: unknown word"),
+    ("bars 1 as of 09:30:00", "query byte 7: unknown word"),
+    ("sales as of 9:30:00", "query byte 12: bad time"),
+    ("sales as of 24:00:01", "query byte 12: bad time"),
+    ("sales as of 23:59:60", "query byte 12: bad time"),
+    ("sales as of where kind in E", "query byte 12: bad time"),
+    (
+        "sales where kind in E as of 09:30:00",
+        "query byte 22: unknown word",
+    ),
+    ("sales where as of 09:30:00", "query byte 12: unknown word"),
+    (
+        "sales as of 09:30:00 as of 09:30:00",
+        "query byte 21: unknown word",
+    ),
+    (
+        "sales as of 09:30:00 where kind in E as of 09:30:00",
+        "query byte 37: unknown word",
+    ),
+    (
+        "sales as of 09:30:00 and kind in E",
+        "query byte 21: unknown word",
+    ),
+    (
+        "  bars 1 m  as of 24:00:00 where kind in P",
+        "bars 60 s as of 24:00:00 where kind in P",
+    ),
+    ("sales   as  of 00:00:00 ", "sales as of 00:00:00"),
+    ("bars 1 m as of 09:30:59", "bars 60 s as of 09:30:59"),
+    ("sales as of 23:59:59", "sales as of 23:59:59"),
+    (
+        "sales as of 09:30:00 where kind in P and time from 09:29:00 until 09:31:00",
+        "sales as of 09:30:00 where time from 09:29:00 until 09:31:00 and kind in P",
+    ),
+];
+
+// A canonical text, and what it lists up to which moment.
+const READ_BACK: [(&str, What, Option<u32>); 6] = [
+    ("sales", What::Sales, None),
+    ("sales as of 00:00:00", What::Sales, Some(0)),
+    (
+        "bars 60 s as of 09:30:59",
+        What::Bars { width: 60 },
+        Some(34_259),
+    ),
+    (
+        "bars 86400 s as of 24:00:00",
+        What::Bars { width: 86_400 },
+        Some(86_400),
+    ),
+    (
+        "sales as of 10:00:01 where symbol in A,MSFT and time from 00:00:00 until 24:00:00",
+        What::Sales,
+        Some(36_001),
+    ),
+    ("bars 1 s where kind in Q", What::Bars { width: 1 }, None),
 ];
 
 // No byte but 0x20 parts words, and none outside of 0x21 to 0x7e stands in a symbol.
@@ -124,9 +191,29 @@ fn each_text_has_its_answer(rt: HostRuntime) -> Result<(), Fail> {
         let found = answer(rt.alloc(), text)?;
         assert!(rt; found.as_str() == wanted, "{text:?}");
     }
+    for (text, wanted) in MOMENTS {
+        let found = answer(rt.alloc(), text)?;
+        assert!(rt; found.as_str() == wanted, "{text:?}");
+    }
     for (text, wanted) in HOSTILE {
         let found = answer(rt.alloc(), text)?;
         assert!(rt; found.as_str() == wanted, "{text:?}");
+    }
+    Ok(())
+}
+
+#[test]
+fn a_written_query_reads_back_as_itself(rt: HostRuntime) -> Result<(), Fail> {
+    for (text, what, as_of) in READ_BACK {
+        let query = parse(rt.alloc(), text)?;
+        let mut written = Vec::new(rt.alloc());
+        write(&mut written, &query)?;
+        let written = String::from_utf8(written)?;
+        assert!(rt; written.as_str() == text);
+        let back = parse(rt.alloc(), &written)?;
+        assert!(rt; query.what == what && back.what == what);
+        assert!(rt; query.as_of == as_of && back.as_of == as_of);
+        assert!(rt; query.span == back.span && query.kinds == back.kinds);
     }
     Ok(())
 }
