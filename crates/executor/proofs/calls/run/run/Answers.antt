@@ -1,4 +1,4 @@
-use Rattle.std.proofs.Common.{◌≤◌, ℕ, List, Result, length, take, refl, ap, subst}
+use Rattle.std.proofs.Common.{◌≤◌, ℕ, List, Result, length, take, refl, ap, subst, rules}
 use Rattle.answers.specs.Answers.{IsAnswer, told_by}
 use Rattle.answers.specs.declared.day_fault.DayFault.{DayFault}
 use Rattle.executor.proofs.calls.run.run.Goals as goal
@@ -52,3 +52,24 @@ returns-in-Ok-Printed-clause-ran g c = record {
   took = subst (λ text. g.K.Sink.Took c.args.sink.now c.deliver.new.sink (take c.in-Err-deliver.field-0.written text)) c.items.ensures
       c.in-Err-deliver.ensures.took;
 }
+
+pub returns-in-Err : goal.returns-in-Err
+returns-in-Err g c = search rules
+
+pub returns-in-Err-ReadFailed-clause-ran : goal.returns-in-Err-ReadFailed-clause-ran
+returns-in-Err-ReadFailed-clause-ran g c = search rules
+
+pub returns-in-Err-ReadFailed-clause-read_failed : goal.returns-in-Err-ReadFailed-clause-read_failed
+returns-in-Err-ReadFailed-clause-read_failed g c = search rules
+
+pub returns-in-Err-TooLong-clause-ran : goal.returns-in-Err-TooLong-clause-ran
+returns-in-Err-TooLong-clause-ran g c = search rules
+
+pub returns-in-Err-OutOfMemory-read_day-clause-ran : goal.returns-in-Err-OutOfMemory-read_day-clause-ran
+returns-in-Err-OutOfMemory-read_day-clause-ran g c = search rules
+
+pub returns-in-Ok-Printed-clause-write_failed : goal.returns-in-Ok-Printed-clause-write_failed
+returns-in-Ok-Printed-clause-write_failed g c = search rules
+
+pub returns-clause-ran : goal.returns-clause-ran
+returns-clause-ran g c = search rules
