@@ -6,7 +6,7 @@ use Rattle.probe.specs.Pricing.{first_unknown}
 use Rattle.probe.specs.declared.rows.Sale.{Sale}
 use Rattle.query.specs.Meaning.{Meaning}
 use Rattle.time_and_sales.specs.Names.{name_of}
-use Rattle.answers.specs.Messages.{Placed, directory_rows, executions, first_wrong, messages_of, order_rows}
+use Rattle.answers.specs.Messages.{Placed, counted, directory_rows, executions, first_wrong, messages_of, order_rows}
 use Rattle.answers.specs.Answers.{IsAnswer, IsAnswerToMessages, IsTextOfMessages, IsTextOfSales, selected_sales, wrong_length_at}
 use Rattle.answers.specs.declared.day_fault.DayFault.{DayFault}
 use Rattle.answers.specs.declared.day_fault.DayFault.TheVariants.{Truncated}
@@ -45,6 +45,6 @@ wrong_length_answers file query frames wrong stands is =
 
 -- no wrong length
 pub messages_answer : (file : List ℕ) (query : Meaning) (frames : List PlacedBody) (answer : Result (List ℕ) DayFault) → StandsFor frames file
-    → first_wrong frames ≡ None → IsAnswerToMessages (messages_of frames) query answer → IsAnswer file query answer
+    → first_wrong frames ≡ None → IsAnswerToMessages (counted query.as_of (messages_of frames)) query answer → IsAnswer file query answer
 messages_answer file query frames answer stands right is =
     inr (frames, stands, match_none (first_wrong frames) _ _ right is)

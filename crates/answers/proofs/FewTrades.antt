@@ -12,8 +12,9 @@ use Rattle.day_file.specs.Frames.{PlacedBody, StandsFor, spelling}
 use Rattle.day_file.proofs.Readings.{length-spelling}
 use Rattle.probe.specs.declared.rows.Kind.TheVariants.{C}
 use Rattle.probe.specs.declared.rows.Sale.{Sale}
+use Rattle.answers.proofs.CountedMessages.{fewer_executions, fewer_own_priced}
 use Rattle.answers.proofs.RowsOfFrames.{given_once}
-use Rattle.answers.specs.Messages.{Placed, placed_at, messages_of, execution_at, own_priced_at, executions, own_priced_sales}
+use Rattle.answers.specs.Messages.{Placed, placed_at, messages_of, counted, execution_at, own_priced_at, executions, own_priced_sales}
 
 -- how many executions and sales with a price of their own a message gives
 abbrev trades_of : ℕ → Message → ℕ
@@ -70,7 +71,11 @@ room (frame ∷ frames) =
     ∙ length-append (option_to_list (own_priced_at frame.place (message_of frame.body))) (own_priced_sales (messages_of frames)) in
     omega (arith, more, here, first, second, length-spelling frame frames)
 
--- so a file has few of them
-pub few_trades : (bytes : List ℕ) (frames : List PlacedBody) → StandsFor frames bytes → length bytes ≤ 2 ^ 36
-    → length (executions (messages_of frames)) + length (own_priced_sales (messages_of frames)) < 2 ^ 31
-few_trades bytes frames stands within = let all = room frames in omega (arith, all, ap length stands.whole, within)
+-- so a file has few of them, and no more that count
+pub few_trades : (as_of : Option ℕ) (bytes : List ℕ) (frames : List PlacedBody) → StandsFor frames bytes → length bytes ≤ 2 ^ 36
+    → length (executions (counted as_of (messages_of frames))) + length (own_priced_sales (counted as_of (messages_of frames))) < 2 ^ 31
+few_trades as_of bytes frames stands within =
+    let all = room frames in
+    let first = fewer_executions as_of (messages_of frames) in
+    let second = fewer_own_priced as_of (messages_of frames) in
+    omega (arith, all, first, second, ap length stands.whole, within)

@@ -1,6 +1,8 @@
 pub mod AnswerOfSteps
+pub mod CountedMessages
 pub mod FewTrades
 pub mod JoinedRows
+pub mod MomentLaws
 pub mod OneAnswer
 pub mod RowsByPlace
 pub mod RowsOfFrames

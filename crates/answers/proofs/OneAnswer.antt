@@ -12,7 +12,7 @@ use Rattle.bars.proofs.Bars.{AreBarsOf-unique}
 use Rattle.query.specs.Meaning.{Meaning}
 use Rattle.query.specs.declared.query.What.{What}
 use Rattle.query.specs.declared.query.What.TheVariants.{Sales, Bars}
-use Rattle.answers.specs.Messages.{Placed, executions, first_wrong, messages_of, order_rows}
+use Rattle.answers.specs.Messages.{Placed, counted, executions, first_wrong, messages_of, order_rows}
 use Rattle.answers.specs.Answers.{IsAnswer, IsAnswerToFrames, IsAnswerToMessages, IsTextOfMessages, IsTextOfSales, wrong_length_at}
 use Rattle.answers.specs.declared.day_fault.DayFault.{DayFault}
 use Rattle.answers.specs.declared.day_fault.DayFault.TheVariants.{Truncated, RepeatedReference, UnknownReference}
@@ -50,9 +50,9 @@ one_of_frames : (frames : List PlacedBody) (query : Meaning) (one other : Result
 one_of_frames frames query one other = go (first_wrong frames)
   where
     go : (wrong : Option PlacedBody)
-        → MatchOption wrong (IsAnswerToMessages (messages_of frames) query one) (λ w. one ≡ Err (wrong_length_at w))
-        → MatchOption wrong (IsAnswerToMessages (messages_of frames) query other) (λ w. other ≡ Err (wrong_length_at w)) → one ≡ other
-    go None is is' = one_of_messages (messages_of frames) query one other is is'
+        → MatchOption wrong (IsAnswerToMessages (counted query.as_of (messages_of frames)) query one) (λ w. one ≡ Err (wrong_length_at w))
+        → MatchOption wrong (IsAnswerToMessages (counted query.as_of (messages_of frames)) query other) (λ w. other ≡ Err (wrong_length_at w)) → one ≡ other
+    go None is is' = one_of_messages (counted query.as_of (messages_of frames)) query one other is is'
     go (Some w) e e' = e ∙ sym e'
 
 pub answers_are_one : (file : List ℕ) (query : Meaning) (one other : Result (List ℕ) DayFault) → IsAnswer file query one → IsAnswer file query other

@@ -12,8 +12,9 @@ use Rattle.itch_messages.specs.declared.message.Message.{Message}
 use Rattle.itch_messages.specs.declared.message.Message.TheVariants.{Add, Executed, ExecutedAt, Replace, Trade, Cross, Broken, Directory, Skipped}
 use Rattle.day_file.specs.Frames.{PlacedBody}
 use Rattle.lists.specs.Least.{least_by}
-use Rattle.answers.specs.Messages.{Placed, placed_at, messages_of, first_wrong, order_row_at, execution_at, own_priced_at, break_of, directory_row_at}
-use Rattle.answers.specs.DayRows.{DayRows, joined, rows_at, rows_of}
+use Rattle.answers.specs.Messages.{Placed, placed_at, messages_of, is_counted, counted, first_wrong, order_row_at, execution_at, own_priced_at, break_of, directory_row_at}
+use Rattle.answers.specs.DayRows.{DayRows, counted_rows_at, joined, no_rows, rows_at, rows_of}
+use Rattle.answers.proofs.CountedMessages.{counted-append}
 use Rattle.answers.proofs.JoinedRows.{rows_of-append, same_rows}
 
 cons_nil : {Y : Type 0} (o : Option Y) → cons_option o [] ≡ option_to_list o
@@ -49,13 +50,34 @@ rows_once place message =
     (given_once (λ p m. break_of m) (λ p. refl) place message)
     (given_once directory_row_at (λ p. refl) place message)
 
+-- its rows where it counts, and none where it doesn't
+rows_where : (counts : Bool) (messages : List Placed) (rows : DayRows) → rows_of messages ≡ rows → rows_of (cond counts messages []) ≡ cond counts rows no_rows
+rows_where true messages rows are = are
+rows_where false messages rows are = refl
+
+counted_once : (as_of : Option ℕ) (place : ℕ) (message : Message)
+    → rows_of (counted as_of (option_to_list (placed_at place message))) ≡ counted_rows_at as_of place message
+counted_once as_of place (Add m) = rows_where (is_counted as_of (Add m)) _ _ (rows_once place (Add m))
+counted_once as_of place (Executed m) = rows_where (is_counted as_of (Executed m)) _ _ (rows_once place (Executed m))
+counted_once as_of place (ExecutedAt m) = rows_where (is_counted as_of (ExecutedAt m)) _ _ (rows_once place (ExecutedAt m))
+counted_once as_of place (Replace m) = rows_where (is_counted as_of (Replace m)) _ _ (rows_once place (Replace m))
+counted_once as_of place (Trade m) = rows_where (is_counted as_of (Trade m)) _ _ (rows_once place (Trade m))
+counted_once as_of place (Cross m) = rows_where (is_counted as_of (Cross m)) _ _ (rows_once place (Cross m))
+counted_once as_of place (Broken m) = rows_where (is_counted as_of (Broken m)) _ _ (rows_once place (Broken m))
+counted_once as_of place (Directory m) = rows_where (is_counted as_of (Directory m)) _ _ (rows_once place (Directory m))
+counted_once None place Skipped = refl
+counted_once (Some moment) place Skipped = refl
+
 -- the rows of one frame more
-pub rows_more : (front : List PlacedBody) (frame : PlacedBody)
-    → rows_of (messages_of (front ++ frame ∷ [])) ≡ joined (rows_of (messages_of front)) (rows_at frame.place (message_of frame.body))
-rows_more front frame =
-    ap rows_of (messages_more front frame)
-    ∙ rows_of-append (messages_of front) (option_to_list (placed_at frame.place (message_of frame.body)))
-    ∙ ap (joined (rows_of (messages_of front))) (rows_once frame.place (message_of frame.body))
+pub rows_more : (as_of : Option ℕ) (front : List PlacedBody) (frame : PlacedBody)
+    → rows_of (counted as_of (messages_of (front ++ frame ∷ [])))
+    ≡ joined (rows_of (counted as_of (messages_of front))) (counted_rows_at as_of frame.place (message_of frame.body))
+rows_more as_of front frame =
+    let next = option_to_list (placed_at frame.place (message_of frame.body)) in
+    ap (λ ms. rows_of (counted as_of ms)) (messages_more front frame)
+    ∙ ap rows_of (counted-append as_of (messages_of front) next)
+    ∙ rows_of-append (counted as_of (messages_of front)) (counted as_of next)
+    ∙ ap (joined (rows_of (counted as_of (messages_of front)))) (counted_once as_of frame.place (message_of frame.body))
 
 -- ---- the frames whose length is wrong
 
@@ -110,19 +132,20 @@ wrong_first front frame rest none wrong up =
     ∙ ap (λ b. cond b (frame ∷ filter (λ (f : PlacedBody). has_wrong_length f.body) rest) (filter (λ (f : PlacedBody). has_wrong_length f.body) rest)) wrong)
     ∙ ap Some (first_stays (λ (f : PlacedBody). f.place) frame _ (later_stay frame.place rest (sorted_rest front (frame ∷ rest) up).0))
 
--- what a loop over frames has collected
-pub record IsCollecting (all left : List PlacedBody) (rows : DayRows) : Type 0 where
+-- what a loop over frames has collected of the messages that count
+pub record IsCollecting (as_of : Option ℕ) (all left : List PlacedBody) (rows : DayRows) : Type 0 where
   pub front : List PlacedBody
   pub split : all ≡ front ++ left
   pub none : filter (λ f. has_wrong_length f.body) front ≡ []
-  pub are : rows ≡ rows_of (messages_of front)
+  pub are : rows ≡ rows_of (counted as_of (messages_of front))
 
 -- one frame more, whose length is right
-pub collects : (all left : List PlacedBody) (frame : PlacedBody) (rest : List PlacedBody) (old new : DayRows) → IsCollecting all left old
-    → left ≡ frame ∷ rest → has_wrong_length frame.body ≡ false → new ≡ joined old (rows_at frame.place (message_of frame.body)) → IsCollecting all rest new
-collects all left frame rest old new so_far step right added = record {
+pub collects : (as_of : Option ℕ) (all left : List PlacedBody) (frame : PlacedBody) (rest : List PlacedBody) (old new : DayRows)
+    → IsCollecting as_of all left old → left ≡ frame ∷ rest → has_wrong_length frame.body ≡ false
+    → new ≡ joined old (counted_rows_at as_of frame.place (message_of frame.body)) → IsCollecting as_of all rest new
+collects as_of all left frame rest old new so_far step right added = record {
   front = so_far.front ++ frame ∷ [];
   split = so_far.split ∙ ap (λ l. so_far.front ++ l) step ∙ sym (append_assoc so_far.front (frame ∷ []) rest);
   none = wrong_more so_far.front frame so_far.none right;
-  are = added ∙ ap (λ rows. joined rows (rows_at frame.place (message_of frame.body))) so_far.are ∙ sym (rows_more so_far.front frame);
+  are = added ∙ ap (λ rows. joined rows (counted_rows_at as_of frame.place (message_of frame.body))) so_far.are ∙ sym (rows_more as_of so_far.front frame);
 }

@@ -1,4 +1,4 @@
--- The answer to a query over a day file: the file's one fault, or the text made of its whole message list.
+-- The answer to a query over a day file: the file's one fault, or the text made of all its messages that count.
 -- To be believed.
 -- The language wants each name before it is used, so what stands last is what the others lead to: `IsAnswer`.
 use Rattle.std.specs.Prelude.{◌≡◌, ℕ, Bool, ◌&&◌, List, Option, Result, Ok, Err, filter_map, MatchOption, ◌⊎◌}
@@ -26,6 +26,7 @@ use Rattle.query.specs.declared.query.What.TheVariants.{Sales, Bars}
 use Rattle.answers.specs.Messages.{
   Placed,
   messages_of,
+  counted,
   first_wrong,
   order_rows,
   executions,
@@ -98,11 +99,11 @@ wrong_length_at frame =
     let fault = length_fault_of frame.body in
     WrongLength frame.place fault.kind fault.length fault.wanted
 
--- over frames: the first wrong length; else what answers to their messages
+-- over frames: the first wrong length, whatever the moment; else what answers to the messages that count
 abbrev pub IsAnswerToFrames : List PlacedBody → Meaning → Result (List ℕ) DayFault → Type 0
 IsAnswerToFrames frames query answer =
     MatchOption (first_wrong frames)
-    (IsAnswerToMessages (messages_of frames) query answer)
+    (IsAnswerToMessages (counted query.as_of (messages_of frames)) query answer)
     (λ wrong. answer ≡ Err (wrong_length_at wrong))
 
 -- over a file: its truncation; else what answers to its frames. No file has both, as day_file's `one_reading`

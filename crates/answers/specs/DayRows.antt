@@ -1,6 +1,6 @@
 -- The rows that messages give, of a day or of a part of it, as lists.
 -- Derived: each list is one of Messages, and the answer isn't said by them.
-use Rattle.std.specs.Prelude.{◌≡◌, ℕ, ◌<◌, ◌^◌, List, [], ◌∷◌, ◌++◌, All, option_to_list}
+use Rattle.std.specs.Prelude.{◌≡◌, ℕ, ◌<◌, ◌^◌, List, [], ◌∷◌, ◌++◌, All, Option, option_to_list, if◌then◌else◌}
 use Rattle.std.specs.List.{flat_map}
 use Rattle.std.specs.List.Sorted.{IsStrictlySortedBy}
 use Rattle.std.specs.Ordering.{nat_cmp}
@@ -12,6 +12,7 @@ use Rattle.time_and_sales.specs.declared.directory.DirectoryRow.{DirectoryRow}
 use Rattle.lists.specs.declared.limits.TheConstants.{TIME_LIMIT}
 use Rattle.answers.specs.Messages.{
   Placed,
+  is_counted,
   order_row_at,
   execution_at,
   own_priced_at,
@@ -71,6 +72,10 @@ rows_at place message = record {
   breaks = option_to_list (break_of message);
   directory = option_to_list (directory_row_at place message);
 }
+
+-- what one message gives where it counts up to a moment, if there is one
+abbrev pub counted_rows_at : Option ℕ → ℕ → Message → DayRows
+counted_rows_at as_of place message = if is_counted as_of message then rows_at place message else no_rows
 
 -- rows, and others after them
 abbrev pub joined : DayRows → DayRows → DayRows

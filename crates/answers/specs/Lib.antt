@@ -1,3 +1,4 @@
 pub mod Messages
 pub mod Answers
 pub mod DayRows
+pub mod Moments

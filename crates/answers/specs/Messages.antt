@@ -1,11 +1,13 @@
 -- The message list of a file's frames, and the rows that messages give.
 -- To be believed.
-use Rattle.std.specs.Prelude.{ℕ, List, Option, Some, None, filter, filter_map, ◌==◌, if◌then◌else◌}
-use Rattle.itch_messages.specs.Body.{message_of, has_wrong_length}
+use Rattle.std.specs.Prelude.{ℕ, nat_le, ◌*◌, Bool, true, List, Option, Some, None, filter, filter_map, ◌==◌, if◌then◌else◌}
+use Rattle.std.specs.Option.{option_map_or}
+use Rattle.itch_messages.specs.Body.{message_of, has_wrong_length, time_of_message}
 use Rattle.itch_messages.specs.declared.message.Message.{Message}
 use Rattle.itch_messages.specs.declared.message.Message.TheVariants.{Add, Executed, ExecutedAt, Replace, Trade, Cross, Broken, Directory, Skipped}
 use Rattle.day_file.specs.Frames.{PlacedBody}
 use Rattle.lists.specs.Least.{least_by}
+use Rattle.lists.specs.declared.limits.TheConstants.{NANOSECONDS}
 use Rattle.order_table.specs.declared.row.OrderRow.{OrderRow}
 use Rattle.probe.specs.declared.rows.Execution.{Execution}
 use Rattle.probe.specs.declared.rows.Sale.{Sale}
@@ -25,6 +27,16 @@ placed_at place message = Some (record { place = place; message = message })
 -- the messages of the frames, in their order
 abbrev pub messages_of : List PlacedBody → List Placed
 messages_of frames = filter_map (λ frame. placed_at frame.place (message_of frame.body)) frames
+
+-- a message counts up to a moment, in seconds since midnight: its time is not past it. Without one, each counts
+abbrev pub is_counted : Option ℕ → Message → Bool
+is_counted None message = true
+is_counted (Some moment) message =
+    option_map_or (λ time. nat_le time (moment * NANOSECONDS)) (time_of_message message) true
+
+-- the messages that count, in their order
+abbrev pub counted : Option ℕ → List Placed → List Placed
+counted as_of messages = filter (λ m. is_counted as_of m.message) messages
 
 -- the frame of least place whose length is not its type's
 abbrev pub first_wrong : List PlacedBody → Option PlacedBody

@@ -4,14 +4,18 @@
 mod answer;
 mod day_fault;
 mod laws;
+mod moment;
 mod rows;
 mod text;
 mod texts;
 
 pub use answer::Answer;
 pub use day_fault::DayFault;
-pub use laws::{one_answer, rows_are_joined};
+pub use laws::{
+    counted_are_joined, counted_messages_decide, moment_past_all, one_answer, rows_are_joined,
+};
 pub use lists::OutOfMemory;
+pub use moment::counts;
 pub use rows::Rows;
 pub use text::Text;
 pub use texts::{text_of_bars, text_of_sales};

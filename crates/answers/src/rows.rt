@@ -1,6 +1,7 @@
 ghost use Rattle.std.specs.Prelude.{◌≡◌, All, OnErr, OnOk};
 ghost use Rattle.answers.specs.DayRows.{
   IsStamped,
+  counted_rows_at,
   joined,
   no_rows,
   only_break,
@@ -12,6 +13,7 @@ ghost use Rattle.answers.specs.DayRows.{
 };
 
 use crate::OutOfMemory;
+use crate::moment::counts;
 use itch_messages::{
     Add, Broken, Cross, Directory, Executed, ExecutedAt, Header, Message, Replace, Trade,
 };
@@ -131,6 +133,25 @@ impl<A: Allocator> Rows<A> {
             Message::Directory(directory) => self.add_directory(place, directory),
             Message::Skipped => Ok(()),
         }
+    }
+
+    /// Adds the rows that one message more gives if it counts up to this moment, in seconds since
+    /// midnight; of one that is past it there are none.
+    #[inline(always)]
+    pub fn add_counted(
+        &mut self,
+        as_of: Option<u32>,
+        place: u64,
+        message: &Message,
+    ) -> Result<(), OutOfMemory>
+        ensures added { OnOk result (self.new
+            ≡ joined self.old (counted_rows_at as_of place message.now)) }
+        ensures unchanged { OnErr result (self.new ≡ self.old) }
+    {
+        if !counts(as_of, message) {
+            return Ok(());
+        }
+        self.add(place, message)
     }
 
     /// The reference of an order, with or without attribution.

@@ -1,6 +1,6 @@
 -- What the steps of `plain` give each other.
 -- Derived: no public clause cites it.
-use Rattle.std.specs.Prelude.{◌≡◌, ℕ, ◌<◌, ◌+◌, List, None, MatchOption, IsSomeAnd, length}
+use Rattle.std.specs.Prelude.{◌≡◌, ℕ, ◌<◌, ◌+◌, List, Option, None, MatchOption, IsSomeAnd, length}
 use Rattle.lists.specs.declared.limits.TheConstants.{TRADE_LIMIT}
 use Rattle.day_file.specs.Frames.{PlacedBody, StandsFor}
 use Rattle.order_table.specs.declared.row.OrderRow.{OrderRow}
@@ -8,7 +8,7 @@ use Rattle.order_table.specs.Orders.{first_repeated}
 use Rattle.probe.specs.declared.rows.Execution.{Execution}
 use Rattle.probe.specs.Pricing.{first_unknown}
 use Rattle.answers.specs.DayRows.{AreByPlace, DayRows, rows_of}
-use Rattle.answers.specs.Messages.{Placed, messages_of, first_wrong}
+use Rattle.answers.specs.Messages.{Placed, messages_of, counted, first_wrong}
 use Rattle.answers.specs.declared.day_fault.DayFault.{DayFault}
 use Rattle.answers.specs.declared.day_fault.DayFault.TheVariants.{RepeatedReference, UnknownReference}
 use Rattle.executor.specs.declared.refused.Refused.{Refused}
@@ -23,12 +23,12 @@ IfDay OutOfMemory P = Unit {0}
 abbrev pub AreFew : DayRows → Type 0
 AreFew rows = length rows.executions + length rows.own_priced < TRADE_LIMIT
 
--- the rows of the messages of a whole file, all of whose lengths are right
-pub record AreOfDay (file : List ℕ) (rows : DayRows) : Type 0 where
+-- the rows of the messages of a whole file that count, all of whose lengths are right
+pub record AreOfDay (file : List ℕ) (as_of : Option ℕ) (rows : DayRows) : Type 0 where
   pub frames : List PlacedBody
   pub stands : StandsFor frames file
   pub right : first_wrong frames ≡ None
-  pub are : rows ≡ rows_of (messages_of frames)
+  pub are : rows ≡ rows_of (counted as_of (messages_of frames))
   pub few : AreFew rows
 
 -- the rows of some messages, by place

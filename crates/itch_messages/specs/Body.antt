@@ -146,6 +146,18 @@ abbrev pub is_skipped : Message → Bool
 is_skipped Skipped = true
 is_skipped _ = false
 
+-- a message's time, in nanoseconds since midnight: that of its header; what is skipped has none
+abbrev pub time_of_message : Message → Option ℕ
+time_of_message (Add m) = Some m.header.time
+time_of_message (Executed m) = Some m.header.time
+time_of_message (ExecutedAt m) = Some m.header.time
+time_of_message (Replace m) = Some m.header.time
+time_of_message (Trade m) = Some m.header.time
+time_of_message (Cross m) = Some m.header.time
+time_of_message (Broken m) = Some m.header.time
+time_of_message (Directory m) = Some m.header.time
+time_of_message Skipped = None
+
 -- a header's three fields as bytes
 abbrev pub header_parts : HeaderFields → List (List ℕ)
 header_parts header =

@@ -11,6 +11,7 @@ mod law;
 pub mod layout;
 pub mod message;
 mod reading;
+mod time;
 mod writing;
 
 pub use header::Header;

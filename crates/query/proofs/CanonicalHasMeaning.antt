@@ -14,10 +14,10 @@ use Rattle.std.proofs.lemmas.List.Folds.{list_all-append}
 use Rattle.query.specs.Words.{parts, words_of_parts, words_from, words_of}
 use Rattle.query.specs.Values.{number_from, count_of, unit_of, pair_at, clock_of, time_of, is_symbol_byte, is_symbol, symbols_of, kinds_of}
 use Rattle.query.specs.Meaning.{Meaning, Said, only, meaning_of, is_width, are_symbols, is_span, has_some, IsSound, CanBeSpelled}
-use Rattle.query.specs.Grammar.{Conditions, More, Filter, Means}
-use Rattle.query.specs.Grammar.{symbol, time, kind, done, further, all, those, sales, bars}
+use Rattle.query.specs.Grammar.{Conditions, More, Filter, Moment, Means}
+use Rattle.query.specs.Grammar.{symbol, time, kind, done, further, all, those, any_moment, up_to, sales, bars}
 use Rattle.query.specs.Canonical.{pair_text, clock_text, what_words, symbol_condition, time_condition, kind_letters, kind_condition, conditions_of, linked}
-use Rattle.query.specs.Canonical.{canonical}
+use Rattle.query.specs.Canonical.{moment_words, canonical}
 use Rattle.query.specs.declared.query.What.{What}
 use Rattle.query.specs.declared.query.What.TheVariants.{Sales, Bars}
 use Rattle.probe.specs.declared.selection.Kinds.{Kinds}
@@ -298,49 +298,55 @@ filter_says : (said : Said) (conditions : List (List (List ℕ))) (query : Meani
 filter_says said [] query at h = subst (λ q. Filter said [] q) h all
 filter_says said (condition ∷ conditions) query at h = those (h (at + (length (codes "where") + 1)))
 
-kinds_say : (what : What) (symbols : Option (List (List ℕ))) (span : Option Span) (e c p q : Bool)
+kinds_say : (what : What) (moment : Option ℕ) (symbols : Option (List (List ℕ))) (span : Option Span) (e c p q : Bool)
     → has_some (record { e = e; c = c; p = p; q = q }) ≡ true
-    → Says (record { what = what; symbols = symbols; span = span; kinds = None }) (kind_condition (record { e = e; c = c; p = p; q = q }))
-    (record { what = what; symbols = symbols; span = span; kinds = record { e = e; c = c; p = p; q = q } })
-kinds_say what symbols span true true true true h = refl
-kinds_say what symbols span true true true false h = λ at. kind refl (kinds_spelled true true true false h) done
-kinds_say what symbols span true true false true h = λ at. kind refl (kinds_spelled true true false true h) done
-kinds_say what symbols span true true false false h = λ at. kind refl (kinds_spelled true true false false h) done
-kinds_say what symbols span true false true true h = λ at. kind refl (kinds_spelled true false true true h) done
-kinds_say what symbols span true false true false h = λ at. kind refl (kinds_spelled true false true false h) done
-kinds_say what symbols span true false false true h = λ at. kind refl (kinds_spelled true false false true h) done
-kinds_say what symbols span true false false false h = λ at. kind refl (kinds_spelled true false false false h) done
-kinds_say what symbols span false true true true h = λ at. kind refl (kinds_spelled false true true true h) done
-kinds_say what symbols span false true true false h = λ at. kind refl (kinds_spelled false true true false h) done
-kinds_say what symbols span false true false true h = λ at. kind refl (kinds_spelled false true false true h) done
-kinds_say what symbols span false true false false h = λ at. kind refl (kinds_spelled false true false false h) done
-kinds_say what symbols span false false true true h = λ at. kind refl (kinds_spelled false false true true h) done
-kinds_say what symbols span false false true false h = λ at. kind refl (kinds_spelled false false true false h) done
-kinds_say what symbols span false false false true h = λ at. kind refl (kinds_spelled false false false true h) done
-kinds_say what symbols span false false false false h = absurd (cc)
+    → Says (record { what = what; as_of = moment; symbols = symbols; span = span; kinds = None }) (kind_condition (record { e = e; c = c; p = p; q = q }))
+    (record { what = what; as_of = moment; symbols = symbols; span = span; kinds = record { e = e; c = c; p = p; q = q } })
+kinds_say what moment symbols span true true true true h = refl
+kinds_say what moment symbols span true true true false h = λ at. kind refl (kinds_spelled true true true false h) done
+kinds_say what moment symbols span true true false true h = λ at. kind refl (kinds_spelled true true false true h) done
+kinds_say what moment symbols span true true false false h = λ at. kind refl (kinds_spelled true true false false h) done
+kinds_say what moment symbols span true false true true h = λ at. kind refl (kinds_spelled true false true true h) done
+kinds_say what moment symbols span true false true false h = λ at. kind refl (kinds_spelled true false true false h) done
+kinds_say what moment symbols span true false false true h = λ at. kind refl (kinds_spelled true false false true h) done
+kinds_say what moment symbols span true false false false h = λ at. kind refl (kinds_spelled true false false false h) done
+kinds_say what moment symbols span false true true true h = λ at. kind refl (kinds_spelled false true true true h) done
+kinds_say what moment symbols span false true true false h = λ at. kind refl (kinds_spelled false true true false h) done
+kinds_say what moment symbols span false true false true h = λ at. kind refl (kinds_spelled false true false true h) done
+kinds_say what moment symbols span false true false false h = λ at. kind refl (kinds_spelled false true false false h) done
+kinds_say what moment symbols span false false true true h = λ at. kind refl (kinds_spelled false false true true h) done
+kinds_say what moment symbols span false false true false h = λ at. kind refl (kinds_spelled false false true false h) done
+kinds_say what moment symbols span false false false true h = λ at. kind refl (kinds_spelled false false false true h) done
+kinds_say what moment symbols span false false false false h = absurd (cc)
 
-span_says : (what : What) (symbols : Option (List (List ℕ))) (span : Option Span) (kinds : Kinds)
+span_says : (what : What) (moment : Option ℕ) (symbols : Option (List (List ℕ))) (span : Option Span) (kinds : Kinds)
     → ((some : Span) → span ≡ Some some → is_span some ≡ true) → has_some kinds ≡ true
-    → Says (record { what = what; symbols = symbols; span = None; kinds = None }) (time_condition span ++ kind_condition kinds)
-    (record { what = what; symbols = symbols; span = span; kinds = kinds })
-span_says what symbols None kinds bound some = kinds_say what symbols None kinds.e kinds.c kinds.p kinds.q some
-span_says what symbols (Some span) kinds bound some = λ at.
+    → Says (record { what = what; as_of = moment; symbols = symbols; span = None; kinds = None }) (time_condition span ++ kind_condition kinds)
+    (record { what = what; as_of = moment; symbols = symbols; span = span; kinds = kinds })
+span_says what moment symbols None kinds bound some = kinds_say what moment symbols None kinds.e kinds.c kinds.p kinds.q some
+span_says what moment symbols (Some span) kinds bound some = λ at.
     let rises : nat_lt span.since span.until ≡ true = and_first (nat_lt span.since span.until) _ (bound span refl) in
     let within : span.until ≤ 86400 = leb-true _ _ (and_second (nat_lt span.since span.until) _ (bound span refl)) in
     let before : span.since < span.until = ltb-true _ _ rises in
     time refl (time_value span.since (omega arith)) (time_value span.until within) rises
-    (more_says (record { what = what; symbols = symbols; span = Some span; kinds = None }) (kind_condition kinds)
-    (record { what = what; symbols = symbols; span = Some span; kinds = kinds }) _
-    (kinds_say what symbols (Some span) kinds.e kinds.c kinds.p kinds.q some))
+    (more_says (record { what = what; as_of = moment; symbols = symbols; span = Some span; kinds = None }) (kind_condition kinds)
+    (record { what = what; as_of = moment; symbols = symbols; span = Some span; kinds = kinds }) _
+    (kinds_say what moment symbols (Some span) kinds.e kinds.c kinds.p kinds.q some))
 
-symbols_say : (what : What) (symbols : Option (List (List ℕ))) (span : Option Span) (kinds : Kinds) → IsSound what symbols span → has_some kinds ≡ true
-    → Says (only what) (symbol_condition symbols ++ (time_condition span ++ kind_condition kinds))
-    (record { what = what; symbols = symbols; span = span; kinds = kinds })
-symbols_say what None span kinds sound some = span_says what None span kinds sound.span some
-symbols_say what (Some names) span kinds sound some = λ at.
+-- what is listed, and up to which moment
+abbrev at_moment : What → Option ℕ → Said
+at_moment what moment = record { what = what; as_of = moment; symbols = None; span = None; kinds = None }
+
+symbols_say : (what : What) (moment : Option ℕ) (symbols : Option (List (List ℕ))) (span : Option Span) (kinds : Kinds)
+    → IsSound what moment symbols span → has_some kinds ≡ true
+    → Says (at_moment what moment) (symbol_condition symbols ++ (time_condition span ++ kind_condition kinds))
+    (record { what = what; as_of = moment; symbols = symbols; span = span; kinds = kinds })
+symbols_say what moment None span kinds sound some = span_says what moment None span kinds sound.span some
+symbols_say what moment (Some names) span kinds sound some = λ at.
     symbol refl (symbols_spelled names (sound.symbols names refl))
-    (more_says (record { what = what; symbols = Some names; span = None; kinds = None }) (time_condition span ++ kind_condition kinds)
-    (record { what = what; symbols = Some names; span = span; kinds = kinds }) _ (span_says what (Some names) span kinds sound.span some))
+    (more_says (record { what = what; as_of = moment; symbols = Some names; span = None; kinds = None }) (time_condition span ++ kind_condition kinds)
+    (record { what = what; as_of = moment; symbols = Some names; span = span; kinds = kinds }) _
+    (span_says what moment (Some names) span kinds sound.span some))
 
 -- ---- each canonical word can stand in a text
 
@@ -355,9 +361,10 @@ linked_plain link (condition ∷ conditions) g h =
     list_all-append is_plain condition (linked (codes "and") conditions) ∙ both _ _ this rest in
     both _ _ g whole
 
-conditions_plain : (what : What) (symbols : Option (List (List ℕ))) (span : Option Span) (kinds : Kinds) → IsSound what symbols span → has_some kinds ≡ true
+conditions_plain : (what : What) (moment : Option ℕ) (symbols : Option (List (List ℕ))) (span : Option Span) (kinds : Kinds)
+    → IsSound what moment symbols span → has_some kinds ≡ true
     → list_all (list_all is_plain) (symbol_condition symbols ++ (time_condition span ++ kind_condition kinds)) ≡ true
-conditions_plain what symbols span kinds sound some =
+conditions_plain what moment symbols span kinds sound some =
     let one : list_all (list_all is_plain) (symbol_condition symbols) ≡ true = of_symbols symbols sound.symbols in
     let two : list_all (list_all is_plain) (time_condition span) ≡ true = of_span span in
     let three : list_all (list_all is_plain) (kind_condition kinds) ≡ true = of_kinds ((kinds.e && kinds.c) && (kinds.p && kinds.q)) kinds some in
@@ -378,38 +385,57 @@ conditions_plain what symbols span kinds sound some =
     of_kinds true kinds some = refl
     of_kinds false kinds some = rw (kinds_plain kinds.e kinds.c kinds.p kinds.q some) refl
 
+-- what is said of the moment, before the conditions
+moment_says : (what : What) (moment : Option ℕ) (conditions : List (List (List ℕ))) (query : Meaning) (at : ℕ)
+    → ((last : ℕ) → moment ≡ Some last → last ≤ 86400) → Says (at_moment what moment) conditions query
+    → Moment (only what) (words_of_parts at (moment_words moment ++ linked (codes "where") conditions)) query
+moment_says what None conditions query at bound h = any_moment (filter_says (only what) conditions query at h)
+moment_says what (Some last) conditions query at bound h =
+    up_to (time_value last (bound last refl)) (filter_says (at_moment what (Some last)) conditions query _ h)
+
+moment_plain : (moment : Option ℕ) (rest : List (List ℕ)) → list_all is_plain rest ≡ true → list_all is_plain (moment_words moment ++ rest) ≡ true
+moment_plain None rest h = h
+moment_plain (Some last) rest h = both _ _ (clock_plain last) h
+
+-- the words after what is listed
+abbrev later_words : Meaning → List (List ℕ)
+later_words query = moment_words query.as_of ++ linked (codes "where") (conditions_of query)
+
 -- the canonical text of a query is in the grammar, and means the query
 pub canonical_means : (query : Meaning) → CanBeSpelled query → Means (words_of (canonical query)) query
 unfolding canonical unit_of
 canonical_means query spelled =
     let conditions : List (List (List ℕ)) = conditions_of query in
     let plain : list_all is_plain (linked (codes "where") conditions) ≡ true =
-    linked_plain (codes "where") conditions refl (conditions_plain query.what query.symbols query.span query.kinds spelled.sound spelled.kinds) in
-    of_what query.what query refl spelled plain (symbols_say query.what query.symbols query.span query.kinds spelled.sound spelled.kinds)
+    linked_plain (codes "where") conditions refl (conditions_plain query.what query.as_of query.symbols query.span query.kinds spelled.sound spelled.kinds) in
+    let says : Says (at_moment query.what query.as_of) conditions query =
+    symbols_say query.what query.as_of query.symbols query.span query.kinds spelled.sound spelled.kinds in
+    of_what query.what query refl spelled (moment_plain query.as_of _ plain)
+    (λ at. moment_says query.what query.as_of conditions query at spelled.sound.moment says)
   where
-    of_what : (what : What) (query : Meaning) → query.what ≡ what → CanBeSpelled query
-        → list_all is_plain (linked (codes "where") (conditions_of query)) ≡ true → Says (only query.what) (conditions_of query) query
-        → Means (words_of (join_with_byte 32 (what_words query.what ++ linked (codes "where") (conditions_of query)))) query
+    of_what : (what : What) (query : Meaning) → query.what ≡ what → CanBeSpelled query → list_all is_plain (later_words query) ≡ true
+        → ((at : ℕ) → Moment (only query.what) (words_of_parts at (later_words query)) query)
+        → Means (words_of (join_with_byte 32 (what_words query.what ++ later_words query))) query
     of_what Sales query is spelled plain says =
-        let rest : List (List ℕ) = linked (codes "where") (conditions_of query) in
-        let said : Says (only Sales) (conditions_of query) query = subst (λ w. Says (only w) (conditions_of query) query) is says in
+        let rest : List (List ℕ) = later_words query in
         let words : words_of (join_with_byte 32 (codes "sales" ∷ rest)) ≡ words_of_parts 0 (codes "sales" ∷ rest) = words_joined (codes "sales") rest plain in
+        let said : Moment (only Sales) (words_of_parts (0 + (length (codes "sales") + 1)) rest) query =
+        subst (λ w. Moment (only w) (words_of_parts (0 + (length (codes "sales") + 1)) rest) query) is (says (0 + (length (codes "sales") + 1))) in
         subst (λ w. Means (words_of (join_with_byte 32 (what_words w ++ rest))) query) (sym is)
-        (subst (λ ws. Means ws query) (sym words) (sales (filter_says (only Sales) (conditions_of query) query _ said)))
+        (subst (λ ws. Means ws query) (sym words) (sales said))
     of_what (Bars width) query is spelled plain says =
-        let rest : List (List ℕ) = linked (codes "where") (conditions_of query) in
+        let rest : List (List ℕ) = later_words query in
         let fits : is_width width ≡ true = spelled.sound.width width is in
         let within : width ≤ 86400 = leb-true _ _ (and_second (nat_le 1 width) _ fits) in
         let same : width ≡ width * 1 = omega arith in
-        let said : Says (only (Bars width)) (conditions_of query) query = subst (λ w. Says (only w) (conditions_of query) query) is says in
-        let filtered : Filter (only (Bars (width * 1))) _ query =
-        subst (λ n. Filter (only (Bars n))
-        (words_of_parts (0 + (length (codes "bars") + 1) + (length (decimal width) + 1) + (length (codes "s") + 1)) rest) query) same
-        (filter_says (only (Bars width)) (conditions_of query) query _ said) in
+        let at : ℕ = 0 + (length (codes "bars") + 1) + (length (decimal width) + 1) + (length (codes "s") + 1) in
+        let said : Moment (only (Bars (width * 1))) (words_of_parts at rest) query =
+        subst (λ n. Moment (only (Bars n)) (words_of_parts at rest) query) same
+        (subst (λ w. Moment (only w) (words_of_parts at rest) query) is (says at)) in
         let number : count_of (decimal width) ≡ Some width = decimal_value width (omega arith) (omega arith) in
         let fits_once : is_width (width * 1) ≡ true = subst (λ n. is_width n ≡ true) same fits in
         let words : words_of (join_with_byte 32 (codes "bars" ∷ decimal width ∷ codes "s" ∷ rest))
         ≡ words_of_parts 0 (codes "bars" ∷ decimal width ∷ codes "s" ∷ rest) =
         words_joined (codes "bars") (decimal width ∷ codes "s" ∷ rest) (both _ _ (decimal_plain width (omega arith)) plain) in
         subst (λ w. Means (words_of (join_with_byte 32 (what_words w ++ rest))) query) (sym is)
-        (subst (λ ws. Means ws query) (sym words) (bars number refl fits_once filtered))
+        (subst (λ ws. Means ws query) (sym words) (bars number refl fits_once said))

@@ -3,10 +3,12 @@ use Rattle.std.proofs.Common.{◌≡◌, ℕ, Bool, true, false, cond, List, [],
 use Rattle.std.specs.Prelude.{◌*◌, Result, Ok, Err, codes, is_some}
 use Rattle.query.specs.Words.{Word, reads_as}
 use Rattle.query.specs.Forms.{◌>>=◌, value_or, took, timed, one_list, in_list, span_of, spanned, condition_of, width_at, unit_after, width_of, what_of}
+use Rattle.query.specs.Forms.{after_as, moment_of}
 use Rattle.query.specs.Values.{count_of, unit_of, time_of, symbols_of, kinds_of}
 use Rattle.query.specs.Meaning.{Meaning, Said, meaning_of, only, is_width}
 use Rattle.query.specs.Faults.{Next, Step, step, continued, read_from, expecting, valued, opening, bounded, wide}
-use Rattle.query.specs.Faults.{query, number, unit, filter, condition, symbol_in, symbols, time_from, first_time, time_until, second_time, kind_in, kinds, more}
+use Rattle.query.specs.Faults.{query, number, unit, moment, of_after_as, moment_time, filter, condition, symbol_in, symbols, time_from, first_time}
+use Rattle.query.specs.Faults.{time_until, second_time, kind_in, kinds, more}
 use Rattle.query.specs.declared.fault.QueryFault.{QueryFault}
 use Rattle.query.specs.declared.fault.QueryFault.TheVariants.{UnknownWord, BadNumber, BadTime, Repeated, EmptyRange}
 use Rattle.query.specs.declared.query.What.{What}
@@ -240,12 +242,12 @@ pub ruleset reading = (further_fails, condition_goes_on, condition_fails, more_e
 
 -- what is read after a width
 abbrev after_width : ℕ × List Word → Result Meaning QueryFault
-after_width width = read_from (filter (only (Bars width.0))) width.1
+after_width width = read_from (moment (only (Bars width.0))) width.1
 
 width_fits : (at width : ℕ) (ws : List Word) → continued (wide at width) (λ t. read_from t ws) ≡ on (width_at at width ws) after_width
 width_fits at width ws =
     let go : (b : Bool)
-    → continued (cond b (Ok (filter (only (Bars width)))) (Err (BadNumber at))) (λ t. read_from t ws)
+    → continued (cond b (Ok (moment (only (Bars width)))) (Err (BadNumber at))) (λ t. read_from t ws)
     ≡ on (cond b (Ok (width, ws)) (Err (BadNumber at))) after_width =
     elim [ true ↦ refl | false ↦ refl ] in
     go (is_width width)
@@ -274,7 +276,7 @@ width_read (w ∷ ws) = of_value (count_of w.bytes)
 
 -- what is read after what is listed
 abbrev after_what : What × List Word → Result Meaning QueryFault
-after_what r = read_from (filter (only r.0)) r.1
+after_what r = read_from (moment (only r.0)) r.1
 
 what_read : (ws : List Word) → read_from query ws ≡ on (what_of ws) after_what
 unfolding what_of read_from step
@@ -282,13 +284,13 @@ what_read [] = refl
 what_read (w ∷ ws) = of_word (reads_as (codes "sales") w) (reads_as (codes "bars") w)
   where
     of_word : (is_sales is_bars : Bool)
-        → continued (cond is_sales (Ok (filter (only Sales))) (cond is_bars (Ok number) (Err (UnknownWord w.at)))) (λ t. read_from t ws)
+        → continued (cond is_sales (Ok (moment (only Sales))) (cond is_bars (Ok number) (Err (UnknownWord w.at)))) (λ t. read_from t ws)
         ≡ on (cond is_sales (Ok (Sales, ws)) (cond is_bars (width_of ws >>= (λ width. Ok (Bars width.0, width.1))) (Err (UnknownWord w.at)))) after_what
     of_word true b = refl
     of_word false true = width_read ws ∙ sym (on-on (width_of ws) (λ width. Ok (Bars width.0, width.1)) after_what)
     of_word false false = refl
 
-pub what_goes_on : (what : What) (ws rest : List Word) → what_of ws ≡ Ok (what, rest) → read_from query ws ≡ read_from (filter (only what)) rest
+pub what_goes_on : (what : What) (ws rest : List Word) → what_of ws ≡ Ok (what, rest) → read_from query ws ≡ read_from (moment (only what)) rest
 what_goes_on what ws rest e = what_read ws ∙ ap (λ r. on r after_what) e
 
 pub what_fails : (ws : List Word) (fault : QueryFault) → what_of ws ≡ Err fault → read_from query ws ≡ Err fault
@@ -319,8 +321,62 @@ filter_refused said ws rest w e f = ap (read_from (filter said)) e ∙ filter_fa
 
 pub ruleset filtering = (filter_ends, filter_is_read, filter_refused)
 
-pub query_is_read : (what : What) (ws rest : List Word) (outcome : Result Meaning QueryFault) → what_of ws ≡ Ok (what, rest)
-    → read_from (filter (only what)) rest ≡ outcome → read_from query ws ≡ outcome
-query_is_read what ws rest outcome e f = what_goes_on what ws rest e ∙ f
+-- ---- the moment
 
-pub ruleset whole = (what_fails, query_is_read)
+of_read : (said : Said) (ws : List Word) → read_from (of_after_as said) ws ≡ on (took (codes "of") ws) (read_from (moment_time said))
+unfolding read_from step
+of_read said [] = refl
+of_read said (w ∷ ws) = word_read (codes "of") (moment_time said) w ws
+
+abbrev and_moment : Said → ℕ → Said
+and_moment said time = record said { as_of = Some time }
+
+-- what is read after the moment
+abbrev after_moment : Said × List Word → Result Meaning QueryFault
+after_moment r = read_from (filter r.0) r.1
+
+abbrev with_moment : Said → ℕ × List Word → Result (Said × List Word) QueryFault
+with_moment said time = Ok (and_moment said time.0, time.1)
+
+time_read : (said : Said) (ws : List Word) → read_from (moment_time said) ws ≡ on (timed ws >>= with_moment said) after_moment
+unfolding read_from step
+time_read said [] = refl
+time_read said (w ∷ ws) =
+    value_read (time_of w.bytes) (BadTime w.at) (λ time. filter (and_moment said time)) ws
+    ∙ sym (on-on (value_or (time_of w.bytes) (BadTime w.at) ws) (with_moment said) after_moment)
+
+as_read : (said : Said) (ws : List Word) → read_from (of_after_as said) ws ≡ on (after_as said ws) after_moment
+as_read said ws =
+    of_read said ws ∙ on-same (took (codes "of") ws) _ _ (time_read said)
+    ∙ sym (on-on (took (codes "of") ws) (λ after_of. timed after_of >>= with_moment said) after_moment)
+
+moment_read : (said : Said) (ws : List Word) → read_from (moment said) ws ≡ on (moment_of said ws) after_moment
+unfolding moment_of read_from step
+moment_read said [] = refl
+moment_read said (w ∷ ws) = of_word (reads_as (codes "as") w)
+  where
+    of_word : (is_as : Bool)
+        → continued (cond is_as (Ok (of_after_as said)) (expecting (codes "where") (condition said) w)) (λ t. read_from t ws)
+        ≡ on (cond is_as (cond is_as (Ok ws) (Err (UnknownWord w.at)) >>= after_as said) (Ok (said, w ∷ ws))) after_moment
+    of_word true = as_read said ws
+    of_word false = refl
+
+moment_goes_on : (said next : Said) (ws rest : List Word) → moment_of said ws ≡ Ok (next, rest) → read_from (moment said) ws ≡ read_from (filter next) rest
+moment_goes_on said next ws rest e = moment_read said ws ∙ ap (λ r. on r after_moment) e
+
+moment_fails : (said : Said) (ws : List Word) (fault : QueryFault) → moment_of said ws ≡ Err fault → read_from (moment said) ws ≡ Err fault
+moment_fails said ws fault e = moment_read said ws ∙ ap (λ r. on r after_moment) e
+
+-- ---- the query
+
+pub query_is_read : (what : What) (start said : Said) (ws later rest : List Word) (outcome : Result Meaning QueryFault) → what_of ws ≡ Ok (what, later)
+    → start ≡ only what → moment_of start later ≡ Ok (said, rest) → read_from (filter said) rest ≡ outcome → read_from query ws ≡ outcome
+query_is_read what start said ws later rest outcome e same f g =
+    what_goes_on what ws later e ∙ ap (λ s. read_from (moment s) later) (sym same) ∙ moment_goes_on start said later rest f ∙ g
+
+pub query_fails_at_its_moment : (what : What) (start : Said) (ws later : List Word) (fault : QueryFault) → what_of ws ≡ Ok (what, later)
+    → start ≡ only what → moment_of start later ≡ Err fault → read_from query ws ≡ Err fault
+query_fails_at_its_moment what start ws later fault e same f =
+    what_goes_on what ws later e ∙ ap (λ s. read_from (moment s) later) (sym same) ∙ moment_fails start later fault f
+
+pub ruleset whole = (what_fails, query_is_read, query_fails_at_its_moment)

@@ -6,10 +6,12 @@ use Rattle.std.proofs.lemmas.Slice.Eq.{bytes_eq-Decides}
 use Rattle.query.specs.Words.{Word, word, reads_as}
 use Rattle.query.specs.Values.{count_of, unit_of, time_of, symbols_of, kinds_of}
 use Rattle.query.specs.Meaning.{Meaning, Said, only, meaning_of, is_width}
-use Rattle.query.specs.Grammar.{Conditions, More, Filter, Means}
-use Rattle.query.specs.Grammar.{symbol, time, kind, done, further, all, those, sales, bars}
-use Rattle.query.specs.Faults.{Next, Step, expecting, valued, opening, begins, opens, wide, bounded, step, ended, continued, read_from, first_query_fault}
-use Rattle.query.specs.Faults.{query, number, unit, filter, condition, symbol_in, symbols, time_from, first_time, time_until, second_time, kind_in, kinds, more}
+use Rattle.query.specs.Grammar.{Conditions, More, Filter, Moment, Means}
+use Rattle.query.specs.Grammar.{symbol, time, kind, done, further, all, those, any_moment, up_to, sales, bars}
+use Rattle.query.specs.Faults.{Next, Step, expecting, valued, opening, begins, narrows, opens, wide, bounded, step, ended, continued, read_from}
+use Rattle.query.specs.Faults.{first_query_fault}
+use Rattle.query.specs.Faults.{query, number, unit, moment, of_after_as, moment_time, filter, condition, symbol_in, symbols, time_from, first_time}
+use Rattle.query.specs.Faults.{time_until, second_time, kind_in, kinds, more}
 use Rattle.query.specs.declared.query.What.TheVariants.{Sales, Bars}
 use Rattle.query.specs.declared.fault.QueryFault.{QueryFault}
 use Rattle.query.specs.declared.fault.QueryFault.TheVariants.{UnknownWord, BadNumber, BadTime, Repeated, Incomplete, EmptyRange, OutOfMemory}
@@ -33,10 +35,16 @@ unfolding read_from step
 filter_read all = refl
 filter_read (those rest) = conditions_read rest
 
+pub moment_read : {said : Said} {ws : List Word} {q : Meaning} → Moment said ws q → read_from (moment said) ws ≡ Ok q
+unfolding read_from step
+moment_read (any_moment all) = refl
+moment_read (any_moment (those rest)) = conditions_read rest
+moment_read (up_to last rest) = rw last (filter_read rest)
+
 pub means_read : {ws : List Word} {q : Meaning} → Means ws q → read_from query ws ≡ Ok q
 unfolding read_from step
-means_read (sales rest) = filter_read rest
-means_read (bars count seconds width rest) = rw (count, seconds, width) (filter_read rest)
+means_read (sales rest) = moment_read rest
+means_read (bars count seconds width rest) = rw (count, seconds, width) (moment_read rest)
 
 -- ---- what is read has that meaning
 
@@ -45,6 +53,9 @@ abbrev Completes : Next → List Word → Meaning → Type 0
 Completes query ws q = Means ws q
 Completes number ws q = (a : ℕ) → Means (word a (codes "bars") ∷ ws) q
 Completes (unit at count) ws q = (a : ℕ) (bytes : List ℕ) → count_of bytes ≡ Some count → Means (word a (codes "bars") ∷ word at bytes ∷ ws) q
+Completes (moment said) ws q = Moment said ws q
+Completes (of_after_as said) ws q = (a : ℕ) → Moment said (word a (codes "as") ∷ ws) q
+Completes (moment_time said) ws q = (a b : ℕ) → Moment said (word a (codes "as") ∷ word b (codes "of") ∷ ws) q
 Completes (filter said) ws q = Filter said ws q
 Completes (condition said) ws q = Conditions said ws q
 Completes (symbol_in said) ws q = (a : ℕ) → said.symbols ≡ None → Conditions said (word a (codes "symbol") ∷ ws) q
@@ -93,13 +104,26 @@ begun : (w : Word) (ws : List Word) (q : Meaning) → ((t : Next) → read_from 
     → continued (begins w) (λ t. read_from t ws) ≡ Ok q → Means (w ∷ ws) q
 begun w ws q rest e =
     let k : Goes = λ t. read_from t ws in
-    let from_sales : (reads_as (codes "sales") w ≡ true) × (continued (Ok (filter (only Sales))) k ≡ Ok q) → Means (w ∷ ws) q =
-    λ h. subst (λ v. Means (v ∷ ws) q) (sym (same_word (codes "sales") w h.0)) (sales (rest (filter (only Sales)) h.1)) in
+    let from_sales : (reads_as (codes "sales") w ≡ true) × (continued (Ok (moment (only Sales))) k ≡ Ok q) → Means (w ∷ ws) q =
+    λ h. subst (λ v. Means (v ∷ ws) q) (sym (same_word (codes "sales") w h.0)) (sales (rest (moment (only Sales)) h.1)) in
     let from_bars : (w ≡ word w.at (codes "bars")) × (k number ≡ Ok q) → Means (w ∷ ws) q =
     λ h. subst (λ v. Means (v ∷ ws) q) (sym h.0) (rest number h.1 w.at) in
-    elim (either (reads_as (codes "sales") w) (Ok (filter (only Sales))) (cond (reads_as (codes "bars") w) (Ok number) (Err (UnknownWord w.at))) k q e) [
+    elim (either (reads_as (codes "sales") w) (Ok (moment (only Sales))) (cond (reads_as (codes "bars") w) (Ok number) (Err (UnknownWord w.at))) k q e) [
       | inl h ↦ from_sales h
       | inr h ↦ from_bars (expected (codes "bars") number w k q h)
+    ]
+
+narrowed : (said : Said) (w : Word) (ws : List Word) (q : Meaning) → ((t : Next) → read_from t ws ≡ Ok q → Completes t ws q)
+    → continued (narrows said w) (λ t. read_from t ws) ≡ Ok q → Moment said (w ∷ ws) q
+narrowed said w ws q rest e =
+    let k : Goes = λ t. read_from t ws in
+    let from_as : (reads_as (codes "as") w ≡ true) × (continued (Ok (of_after_as said)) k ≡ Ok q) → Moment said (w ∷ ws) q =
+    λ h. subst (λ v. Moment said (v ∷ ws) q) (sym (same_word (codes "as") w h.0)) (rest (of_after_as said) h.1 w.at) in
+    let from_where : (w ≡ word w.at (codes "where")) × (k (condition said) ≡ Ok q) → Moment said (w ∷ ws) q =
+    λ h. subst (λ v. Moment said (v ∷ ws) q) (sym h.0) (any_moment (those (rest (condition said) h.1))) in
+    elim (either (reads_as (codes "as") w) (Ok (of_after_as said)) (expecting (codes "where") (condition said) w) k q e) [
+      | inl h ↦ from_as h
+      | inr h ↦ from_where (expected (codes "where") (condition said) w k q h)
     ]
 
 opened : (said : Said) (w : Word) (ws : List Word) (q : Meaning) → ((t : Next) → read_from t ws ≡ Ok q → Completes t ws q)
@@ -130,8 +154,15 @@ completed number w ws q rest e = λ a.
     rest (unit w.at h.0) h.2 a w.bytes h.1
 completed (unit at count) w ws q rest e = λ a bytes is_count.
     let h = has_value (unit_of w.bytes) (UnknownWord w.at) (λ seconds. wide at (count * seconds)) (λ t. read_from t ws) q e in
-    let i = passed (is_width (count * h.0)) (filter (only (Bars (count * h.0)))) (BadNumber at) (λ t. read_from t ws) q h.2 in
-    bars is_count h.1 i.0 (rest (filter (only (Bars (count * h.0)))) i.1)
+    let i = passed (is_width (count * h.0)) (moment (only (Bars (count * h.0)))) (BadNumber at) (λ t. read_from t ws) q h.2 in
+    bars is_count h.1 i.0 (rest (moment (only (Bars (count * h.0)))) i.1)
+completed (moment said) w ws q rest e = narrowed said w ws q rest e
+completed (of_after_as said) w ws q rest e = λ a.
+    let h = expected (codes "of") (moment_time said) w (λ t. read_from t ws) q e in
+    subst (λ v. Moment said (word a (codes "as") ∷ v ∷ ws) q) (sym h.0) (rest (moment_time said) h.1 a w.at)
+completed (moment_time said) w ws q rest e = λ a b.
+    let h = has_value (time_of w.bytes) (BadTime w.at) (λ time. Ok (filter (record said { as_of = Some time }))) (λ t. read_from t ws) q e in
+    up_to h.1 (rest (filter (record said { as_of = Some h.0 })) h.2)
 completed (filter said) w ws q rest e =
     let h = expected (codes "where") (condition said) w (λ t. read_from t ws) q e in
     subst (λ v. Filter said (v ∷ ws) q) (sym h.0) (those (rest (condition said) h.1))
@@ -168,6 +199,7 @@ completed (more said) w ws q rest e =
     subst (λ v. More said (v ∷ ws) q) (sym h.0) (further (rest (condition said) h.1))
 
 ended_so : (next : Next) (q : Meaning) → ended next ≡ Ok q → Completes next [] q
+ended_so (moment said) q e = let same : meaning_of said ≡ q = cc in subst (λ m. Moment said [] m) same (any_moment all)
 ended_so (filter said) q e = let same : meaning_of said ≡ q = cc in subst (λ m. Filter said [] m) same all
 ended_so (more said) q e = let same : meaning_of said ≡ q = cc in subst (λ m. More said [] m) same done
 ended_so _ q e = absurd (cc)

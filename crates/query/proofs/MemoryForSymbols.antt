@@ -3,6 +3,7 @@ use Rattle.std.proofs.Common.{◌≡◌, ℕ, Bool, true, false, cond, ◌&&◌,
 use Rattle.std.specs.Prelude.{◌*◌, ◌≢◌, Result, Ok, Err, codes, is_some}
 use Rattle.query.specs.Words.{Word, reads_as, begins_list, lists_symbols}
 use Rattle.query.specs.Forms.{◌>>=◌, value_or, took, timed, one_list, in_list, span_of, spanned, condition_of, width_at, unit_after, width_of, what_of}
+use Rattle.query.specs.Forms.{begins_with, after_as, moment_of}
 use Rattle.query.specs.Values.{count_of, unit_of, time_of, symbols_of, kinds_of}
 use Rattle.query.specs.Meaning.{Said, is_width}
 use Rattle.query.specs.declared.fault.QueryFault.{QueryFault}
@@ -163,6 +164,21 @@ what_sparing (w ∷ ws) =
     one_of false true r one = one
     one_of false false r one = λ e. cc
 
+of_sparing : (said : Said) (ws : List Word) → IsSparing after ws (after_as said ws)
+of_sparing said ws =
+    let with_moment : ℕ × List Word → Result (Said × List Word) QueryFault = λ time. Ok (record said { as_of = Some time.0 }, time.1) in
+    then_sparing whole after ws (took (codes "of") ws) (λ after_of. timed after_of >>= with_moment) (took_sparing (codes "of") ws)
+    (λ after_of. then_sparing after after after_of (timed after_of) with_moment (timed_sparing after_of) (λ time. λ h. h))
+
+moment_sparing : (said : Said) (ws : List Word) → IsSparing after ws (moment_of said ws)
+unfolding moment_of
+moment_sparing said ws =
+    let taken : IsSparing after ws (took (codes "as") ws >>= after_as said) =
+    then_sparing whole after ws (took (codes "as") ws) (after_as said) (took_sparing (codes "as") ws) (of_sparing said) in
+    let go : (b : Bool) → IsSparing after ws (cond b (took (codes "as") ws >>= after_as said) (Ok (said, ws))) =
+    elim [ true ↦ taken | false ↦ λ h. h ] in
+    go (begins_with (codes "as") ws)
+
 -- ---- as the parser's functions need it
 
 pub what_wants_none : (ws : List Word) (fault : QueryFault) → what_of ws ≡ Err fault → fault ≢ OutOfMemory
@@ -177,7 +193,23 @@ kinds_want_none ws fault e = subst (IsSparing after ws) e (in_sparing kinds_of w
 pub what_leaves : (what : What) (ws rest : List Word) → what_of ws ≡ Ok (what, rest) → lists_symbols rest ≡ true → lists_symbols ws ≡ true
 what_leaves what ws rest e = subst (IsSparing after ws) e (what_sparing ws)
 
+pub moment_wants_none : (said : Said) (ws : List Word) (fault : QueryFault) → moment_of said ws ≡ Err fault → fault ≢ OutOfMemory
+moment_wants_none said ws fault e = subst (IsSparing after ws) e (moment_sparing said ws)
+
+pub moment_leaves : (said next : Said) (ws rest : List Word) → moment_of said ws ≡ Ok (next, rest) → lists_symbols rest ≡ true → lists_symbols ws ≡ true
+moment_leaves said next ws rest e = subst (IsSparing after ws) e (moment_sparing said ws)
+
 pub condition_leaves : (said next : Said) (ws rest : List Word) → condition_of said ws ≡ Ok (next, rest) → lists_symbols rest ≡ true → lists_symbols ws ≡ true
 condition_leaves said next ws rest e = subst (IsSparing after ws) e (condition_sparing said ws)
 
-pub ruleset memory = (listed_later, listed_here, span_wants_none, kinds_want_none, what_wants_none, what_leaves, condition_leaves)
+pub ruleset memory = (
+  listed_later,
+  listed_here,
+  span_wants_none,
+  kinds_want_none,
+  what_wants_none,
+  what_leaves,
+  moment_wants_none,
+  moment_leaves,
+  condition_leaves,
+)

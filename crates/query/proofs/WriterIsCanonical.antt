@@ -6,7 +6,7 @@ use Rattle.std.specs.Fmt.{decimal}
 use Rattle.std.specs.List.{join_with_byte}
 use Rattle.std.proofs.lemmas.Grind.{flat_map-append}
 use Rattle.std.proofs.lemmas.List.{take_more}
-use Rattle.query.specs.Canonical.{clock_text, what_words, kind_letters, linked, symbol_condition, time_condition}
+use Rattle.query.specs.Canonical.{clock_text, what_words, moment_words, kind_letters, linked, symbol_condition, time_condition}
 use Rattle.query.specs.CanonicalPieces.{spaced, next_link, letter_text}
 use Rattle.std.proofs.lemmas.Bool.{ltb-true, leb-true}
 use Rattle.query.specs.Meaning.{IsSound, is_span}
@@ -48,12 +48,12 @@ what_more : (what : What) (more : List (List ℕ)) → join_with_byte 32 (what_w
 what_more Sales more = joined_more (codes "sales") [] more
 what_more (Bars width) more = joined_more (codes "bars") (decimal width ∷ codes "s" ∷ []) more
 
-pub written_is : (what : What) (a b c : List (List (List ℕ)))
-    → ((join_with_byte 32 (what_words what) ++ spaced (linked (codes "where") a)) ++ spaced (linked (next_link (codes "where") a) b))
+pub written_is : (what : What) (moment : List (List ℕ)) (a b c : List (List (List ℕ)))
+    → (((join_with_byte 32 (what_words what) ++ spaced moment) ++ spaced (linked (codes "where") a)) ++ spaced (linked (next_link (codes "where") a) b))
     ++ spaced (linked (next_link (next_link (codes "where") a) b) c)
-    ≡ join_with_byte 32 (what_words what ++ linked (codes "where") (a ++ (b ++ c)))
-written_is what a b c =
-    let head = join_with_byte 32 (what_words what) in
+    ≡ join_with_byte 32 (what_words what ++ (moment ++ linked (codes "where") (a ++ (b ++ c))))
+written_is what moment a b c =
+    let head = join_with_byte 32 (what_words what) ++ spaced moment in
     let one = linked (codes "where") a in
     let two = linked (next_link (codes "where") a) b in
     let three = linked (next_link (next_link (codes "where") a) b) c in
@@ -61,7 +61,12 @@ written_is what a b c =
     linked-append (codes "where") a (b ++ c) ∙ ap (λ ws. one ++ ws) (linked-append (next_link (codes "where") a) b c) in
     let spaces : spaced (one ++ (two ++ three)) ≡ spaced one ++ (spaced two ++ spaced three) =
     flat_map-append (λ bytes. 32 ∷ bytes) one (two ++ three) ∙ ap (λ ys. spaced one ++ ys) (flat_map-append (λ bytes. 32 ∷ bytes) two three) in
-    sym (what_more what (linked (codes "where") (a ++ (b ++ c))) ∙ ap (λ ws. head ++ spaced ws) all ∙ ap (λ ys. head ++ ys) spaces
+    let first : join_with_byte 32 (what_words what ++ (moment ++ linked (codes "where") (a ++ (b ++ c))))
+    ≡ head ++ spaced (linked (codes "where") (a ++ (b ++ c))) =
+    what_more what (moment ++ linked (codes "where") (a ++ (b ++ c)))
+    ∙ ap (λ ys. join_with_byte 32 (what_words what) ++ ys) (flat_map-append (λ bytes. 32 ∷ bytes) moment (linked (codes "where") (a ++ (b ++ c))))
+    ∙ sym (append_assoc (join_with_byte 32 (what_words what)) (spaced moment) (spaced (linked (codes "where") (a ++ (b ++ c))))) in
+    sym (first ∙ ap (λ ws. head ++ spaced ws) all ∙ ap (λ ys. head ++ ys) spaces
     ∙ sym (append_assoc head (spaced one) (spaced two ++ spaced three)) ∙ sym (append_assoc (head ++ spaced one) (spaced two) (spaced three)))
 
 in_order : (a b c d e f : List ℕ) → ((((a ++ b) ++ c) ++ d) ++ e) ++ f ≡ a ++ (b ++ (c ++ (d ++ (e ++ f))))
@@ -155,7 +160,8 @@ second_of_two true b h = h
 second_of_two false b h = absurd (cc)
 
 -- times that a query has are no later than the day's end
-pub span_fits : {listed : What} {names : Option (List (List ℕ))} {times : Option Span} → IsSound listed names times → (some : Span) → times ≡ Some some
+pub span_fits : {listed : What} {moment : Option ℕ} {names : Option (List (List ℕ))} {times : Option Span} → IsSound listed moment names times
+    → (some : Span) → times ≡ Some some
     → (some.since ≤ 86400) × (some.until ≤ 86400)
 span_fits sound some e =
     let bound : is_span some ≡ true = sound.span some e in
@@ -163,4 +169,9 @@ span_fits sound some e =
     let within : some.until ≤ 86400 = leb-true _ _ (second_of_two (nat_lt some.since some.until) _ bound) in
     (omega arith, within)
 
-pub ruleset text = (written_is, span_fits)
+-- a moment that a query has is no later than the day's end
+pub moment_fits : {listed : What} {moment : Option ℕ} {names : Option (List (List ℕ))} {times : Option Span} → IsSound listed moment names times
+    → (time : ℕ) → moment ≡ Some time → time ≤ 86400
+moment_fits sound time e = sound.moment time e
+
+pub ruleset text = (written_is, moment_fits, span_fits)

@@ -25,6 +25,11 @@ abbrev pub what_words : What → List (List ℕ)
 what_words Sales = codes "sales" ∷ []
 what_words (Bars width) = codes "bars" ∷ decimal width ∷ codes "s" ∷ []
 
+-- the words of the moment, if there is one
+abbrev pub moment_words : Option ℕ → List (List ℕ)
+moment_words None = []
+moment_words (Some time) = codes "as" ∷ codes "of" ∷ clock_text time ∷ []
+
 -- the words of the condition on symbols, if there is one
 abbrev pub symbol_condition : Option (List (List ℕ)) → List (List (List ℕ))
 symbol_condition None = []
@@ -59,7 +64,9 @@ linked link [] = []
 linked link (condition ∷ conditions) = link ∷ condition ++ linked (codes "and") conditions
 
 abbrev pub canonical_words : Meaning → List (List ℕ)
-canonical_words query = what_words query.what ++ linked (codes "where") (conditions_of query)
+canonical_words query =
+    what_words query.what
+    ++ (moment_words query.as_of ++ linked (codes "where") (conditions_of query))
 
 -- the canonical words, with one space between each two
 unfoldable pub canonical : Meaning → List ℕ

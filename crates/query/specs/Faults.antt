@@ -17,6 +17,10 @@ pub data Next : Type 0 where
   number : Next
   -- after a number, which stands at a byte of the text
   unit : ℕ → ℕ → Next
+  -- the end, `as` or `where`
+  moment : Said → Next
+  of_after_as : Said → Next
+  moment_time : Said → Next
   -- the end, or `where`
   filter : Said → Next
   condition : Said → Next
@@ -50,9 +54,15 @@ opening w given next = if given then Err (Repeated w.at) else Ok next
 
 abbrev pub begins : Word → Step
 begins w =
-    if reads_as (codes "sales") w then Ok (filter (only Sales))
+    if reads_as (codes "sales") w then Ok (moment (only Sales))
     else if reads_as (codes "bars") w then Ok number
     else Err (UnknownWord w.at)
+
+-- the first word after what is listed
+abbrev pub narrows : Said → Word → Step
+narrows said w =
+    if reads_as (codes "as") w then Ok (of_after_as said)
+    else expecting (codes "where") (condition said) w
 
 abbrev pub opens : Said → Word → Step
 opens said w =
@@ -63,7 +73,7 @@ opens said w =
 
 -- a width of so many units, whose number stands at a byte
 abbrev pub wide : ℕ → ℕ → Step
-wide at width = if is_width width then Ok (filter (only (Bars width))) else Err (BadNumber at)
+wide at width = if is_width width then Ok (moment (only (Bars width))) else Err (BadNumber at)
 
 abbrev pub bounded : Said → ℕ → ℕ → Step
 bounded said since until =
@@ -77,6 +87,11 @@ step query w = begins w
 step number w = valued (count_of w.bytes) (BadNumber w.at) (λ count. Ok (unit w.at count))
 step (unit at count) w =
     valued (unit_of w.bytes) (UnknownWord w.at) (λ seconds. wide at (count * seconds))
+step (moment said) w = narrows said w
+step (of_after_as said) w = expecting (codes "of") (moment_time said) w
+step (moment_time said) w =
+    valued (time_of w.bytes) (BadTime w.at) (λ time.
+    Ok (filter (record said { as_of = Some time })))
 step (filter said) w = expecting (codes "where") (condition said) w
 step (condition said) w = opens said w
 step (symbol_in said) w = expecting (codes "in") (symbols said) w
@@ -96,6 +111,7 @@ step (more said) w = expecting (codes "and") (condition said) w
 
 -- the text ends
 abbrev pub ended : Next → Result Meaning QueryFault
+ended (moment said) = Ok (meaning_of said)
 ended (filter said) = Ok (meaning_of said)
 ended (more said) = Ok (meaning_of said)
 ended _ = Err Incomplete

@@ -1,7 +1,7 @@
 -- The forms of a query, taken off the words of a text.
 -- Derived: it follows the parser; proofs/FormsWordByWord shows that it agrees with Faults.
 -- A form gives what it says and the words after it, or its first fault.
-use Rattle.std.specs.Prelude.{ℕ, ◌*◌, nat_lt, if◌then◌else◌, List, [], ◌∷◌, Option, Some, None, is_some, Result, Ok}
+use Rattle.std.specs.Prelude.{ℕ, ◌*◌, nat_lt, Bool, false, if◌then◌else◌, List, [], ◌∷◌, Option, Some, None, is_some, Result, Ok}
 use Rattle.std.specs.Prelude.{Err, codes}
 use Rattle.query.specs.Words.{Word, reads_as}
 use Rattle.query.specs.Values.{count_of, unit_of, time_of, symbols_of, kinds_of}
@@ -99,3 +99,21 @@ what_of (w ∷ ws) =
     if reads_as (codes "sales") w then Ok (Sales, ws)
     else if reads_as (codes "bars") w then width_of ws >>= (λ width. Ok (Bars width.0, width.1))
     else Err (UnknownWord w.at)
+
+-- the text comes first
+abbrev pub begins_with : List ℕ → List Word → Bool
+begins_with text [] = false
+begins_with text (w ∷ ws) = reads_as text w
+
+-- `of` and a time, which is the moment
+abbrev pub after_as : Said → List Word → Result (Said × List Word) QueryFault
+after_as said words = do
+  after_of ← took (codes "of") words
+  time ← timed after_of
+  Ok (record said { as_of = Some time.0 }, time.1)
+
+-- `as of` and a time, where `as` comes first
+unfoldable pub moment_of : Said → List Word → Result (Said × List Word) QueryFault
+moment_of said words =
+    if begins_with (codes "as") words then took (codes "as") words >>= after_as said
+    else Ok (said, words)

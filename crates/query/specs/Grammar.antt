@@ -42,21 +42,31 @@ mutual
         {said : Said} {a : ℕ} {rest : List Word} {query : Meaning}
         → Conditions said rest query → More said (word a (codes "and") ∷ rest) query
 
--- the words after what is listed: none, or `where` and conditions
+-- the words after what is listed and its moment: none, or `where` and conditions
 pub data Filter : Said → List Word → Meaning → Type 0 where
   all : {said : Said} → Filter said [] (meaning_of said)
   those :
       {said : Said} {a : ℕ} {rest : List Word} {query : Meaning}
       → Conditions said rest query → Filter said (word a (codes "where") ∷ rest) query
 
+-- the words after what is listed: a filter, with `as of` and a time before it or not
+pub data Moment : Said → List Word → Meaning → Type 0 where
+  any_moment :
+      {said : Said} {rest : List Word} {query : Meaning}
+      → Filter said rest query → Moment said rest query
+  up_to :
+      {said : Said} {a b c : ℕ} {moment : List ℕ} {time : ℕ} {rest : List Word} {query : Meaning}
+      → time_of moment ≡ Some time → Filter (record said { as_of = Some time }) rest query
+      → Moment said (word a (codes "as") ∷ word b (codes "of") ∷ word c moment ∷ rest) query
+
 -- the words of a query, and what they mean
 pub data Means : List Word → Meaning → Type 0 where
   sales :
       {a : ℕ} {rest : List Word} {query : Meaning}
-      → Filter (only Sales) rest query → Means (word a (codes "sales") ∷ rest) query
+      → Moment (only Sales) rest query → Means (word a (codes "sales") ∷ rest) query
   bars :
       {a b c : ℕ} {number unit : List ℕ} {count seconds : ℕ} {rest : List Word} {query : Meaning}
       → count_of number ≡ Some count → unit_of unit ≡ Some seconds
       → is_width (count * seconds) ≡ true
-      → Filter (only (Bars (count * seconds))) rest query
+      → Moment (only (Bars (count * seconds))) rest query
       → Means (word a (codes "bars") ∷ word b number ∷ word c unit ∷ rest) query

@@ -1,6 +1,6 @@
 -- What a query means.
 -- To be believed.
-use Rattle.std.specs.Prelude.{◌≡◌, ℕ, nat_lt, nat_le, Bool, true, ◌&&◌, ◌||◌, List, length, Option, Some, None}
+use Rattle.std.specs.Prelude.{◌≡◌, ℕ, ◌≤◌, nat_lt, nat_le, Bool, true, ◌&&◌, ◌||◌, List, length, Option, Some, None}
 use Rattle.std.specs.Prelude.{unwrap_or}
 use Rattle.std.specs.List.{list_all}
 use Rattle.lists.specs.declared.limits.TheConstants.{SECONDS_OF_DAY}
@@ -13,20 +13,24 @@ use Rattle.probe.specs.declared.selection.Span.{Span}
 -- a query: what is listed, and of which sales
 pub record Meaning : Type 0 where
   pub what : What
+  -- messages after this second since midnight don't count
+  pub as_of : Option ℕ
   pub symbols : Option (List (List ℕ))
   pub span : Option Span
   pub kinds : Kinds
 
--- the part of a query that was read; a condition that wasn't given is `None`
+-- the part of a query that was read; a moment or condition that wasn't given is `None`
 pub record Said : Type 0 where
   pub what : What
+  -- messages after this second since midnight don't count
+  pub as_of : Option ℕ
   pub symbols : Option (List (List ℕ))
   pub span : Option Span
   pub kinds : Option Kinds
 
--- no condition was given
+-- neither a moment nor a condition was given
 abbrev pub only : What → Said
-only what = record { what = what; symbols = None; span = None; kinds = None }
+only what = record { what = what; as_of = None; symbols = None; span = None; kinds = None }
 
 abbrev pub all_kinds : Kinds
 all_kinds = record { e = true; c = true; p = true; q = true }
@@ -36,6 +40,7 @@ abbrev pub meaning_of : Said → Meaning
 meaning_of said =
     record {
       what = said.what;
+      as_of = said.as_of;
       symbols = said.symbols;
       span = said.span;
       kinds = unwrap_or said.kinds all_kinds;
@@ -57,16 +62,17 @@ is_span span = nat_lt span.since span.until && nat_le span.until SECONDS_OF_DAY
 abbrev pub has_some : Kinds → Bool
 has_some kinds = (kinds.e || kinds.c) || (kinds.p || kinds.q)
 
--- widths, symbols and times are within their bounds
-pub record IsSound (listed : What) (names : Option (List (List ℕ))) (times : Option Span)
-    : Type 0 where
+-- widths, moments, symbols and times are within their bounds
+pub record IsSound (listed : What) (latest : Option ℕ) (names : Option (List (List ℕ)))
+    (times : Option Span) : Type 0 where
   pub width : (n : ℕ) → listed ≡ Bars n → is_width n ≡ true
+  pub moment : (time : ℕ) → latest ≡ Some time → time ≤ SECONDS_OF_DAY
   pub symbols : (some : List (List ℕ)) → names ≡ Some some → are_symbols some ≡ true
   pub span : (some : Span) → times ≡ Some some → is_span some ≡ true
 
 -- a query that the language can spell
 pub record CanBeSpelled (query : Meaning) : Type 0 where
-  pub sound : IsSound query.what query.symbols query.span
+  pub sound : IsSound query.what query.as_of query.symbols query.span
   pub kinds : has_some query.kinds ≡ true
 
 -- a width of bars is within its bounds
@@ -75,5 +81,5 @@ HasWidth what = (n : ℕ) → what ≡ Bars n → is_width n ≡ true
 
 -- what was said is within its bounds
 pub record IsSaidSoundly (said : Said) : Type 0 where
-  pub sound : IsSound said.what said.symbols said.span
+  pub sound : IsSound said.what said.as_of said.symbols said.span
   pub kinds : (some : Kinds) → said.kinds ≡ Some some → has_some some ≡ true

@@ -43,6 +43,7 @@ fn read_query<A: Allocator + Clone>(alloc: A, text: &[u8]) -> Result<Reading<A>,
     let mut words = Words::of(text);
     let what = read_what(&mut words)?;
     let mut reading = Reading::only(what);
+    reading.read_moment(&mut words)?;
     reading.read_filter(&alloc, &mut words)?;
     Ok(reading)
 }

@@ -18,11 +18,14 @@ pub enum What {
 }
 
 /// What is listed, and of which sales. Each query can be spelled in the language: it has one or
-/// more kinds, and a span that isn't empty and ends with the day or before. A clause sees what it
-/// means.
+/// more kinds, a moment no later than the day's end, and a span that isn't empty and ends with the
+/// day or before. A clause sees what it means.
 #[derive(Drop)]
 pub struct Query<A: Allocator = Global> {
     pub what: What,
+    /// Messages after this moment don't count; each counts where there is none. In seconds since
+    /// midnight, 0 to 86,400.
+    pub as_of: Option<u32>,
     /// The symbols whose sales are listed, or those of each.
     pub symbols: Option<Symbols<A>>,
     /// The part of the day, or the whole day.
@@ -38,6 +41,7 @@ impl<A: Allocator> Model for Query<A> {
 
     ghost view = { λ query. record {
       what = query.what;
+      as_of = query.as_of;
       symbols = query.symbols;
       span = query.span;
       kinds = query.kinds;
@@ -45,6 +49,7 @@ impl<A: Allocator> Model for Query<A> {
 
     ghost invariant = { λ query. CanBeSpelled (record {
       what = query.what;
+      as_of = query.as_of;
       symbols = query.symbols;
       span = query.span;
       kinds = query.kinds;

@@ -1,7 +1,7 @@
 //! The part of a query that was read.
 ghost use Rattle.std.specs.Prelude.{◌≡◌, ◌≢◌, ◌<◌, ◌≤◌, length, true, IfOk, IfErr, OnOk, Ok, Err, Some};
 ghost use Rattle.query.specs.Faults.{condition, filter, read_from};
-ghost use Rattle.query.specs.Forms.{condition_of, in_list, spanned, timed};
+ghost use Rattle.query.specs.Forms.{condition_of, in_list, moment_of, spanned, timed};
 ghost use Rattle.query.specs.Meaning.{
   CanBeSpelled,
   HasWidth,
@@ -32,10 +32,11 @@ const ALL_KINDS: Kinds = Kinds {
     q: true,
 };
 
-/// What the words so far have said; a condition that wasn't given is `None`.
+/// What the words so far have said; a moment or condition that wasn't given is `None`.
 #[derive(Drop)]
 pub(crate) struct Reading<A: Allocator> {
     what: What,
+    as_of: Option<u32>,
     symbols: Option<Symbols<A>>,
     span: Option<Span>,
     kinds: Option<Kinds>,
@@ -48,6 +49,7 @@ impl<A: Allocator> Model for Reading<A> {
 
     ghost view = { λ said. record {
       what = said.what;
+      as_of = said.as_of;
       symbols = said.symbols;
       span = said.span;
       kinds = said.kinds;
@@ -55,6 +57,7 @@ impl<A: Allocator> Model for Reading<A> {
 
     ghost invariant = { λ said. IsSaidSoundly (record {
       what = said.what;
+      as_of = said.as_of;
       symbols = said.symbols;
       span = said.span;
       kinds = said.kinds;
@@ -62,13 +65,14 @@ impl<A: Allocator> Model for Reading<A> {
 }
 
 impl<A: Allocator + Clone> Reading<A> {
-    /// No condition was given yet.
+    /// No moment and no condition was given yet.
     pub(crate) fn only(what: What) -> Self
         requires { HasWidth what }
         ensures { result ≡ only what }
     {
         Reading {
             what,
+            as_of: None,
             symbols: None,
             span: None,
             kinds: None,
@@ -82,10 +86,24 @@ impl<A: Allocator + Clone> Reading<A> {
     {
         Query {
             what: self.what,
+            as_of: self.as_of,
             symbols: self.symbols,
             span: self.span,
             kinds: self.kinds.unwrap_or(ALL_KINDS),
         }
+    }
+
+    /// Reads `as of` and a time, where `as` comes next.
+    #[tactic(auto, unfolding(crate::specs::Forms::moment_of))]
+    pub(crate) fn read_moment(&mut self, words: &mut Words<'_>) -> Result<(), QueryFault>
+        ensures ok { OnOk result (moment_of self.old words.old ≡ Ok (self.new, words.new)) }
+        ensures err { IfErr result (λ fault. moment_of self.old words.old ≡ Err fault) }
+    {
+        if words.take_if(b"as") {
+            words.expect(b"of")?;
+            self.as_of = Some(read_time(words)?);
+        }
+        Ok(())
     }
 
     /// Reads to the end of the text: nothing, or `where` and conditions.

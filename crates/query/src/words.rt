@@ -2,7 +2,7 @@
 ghost use Rattle.std.specs.Prelude.{◌≡◌, ◌+◌, ◌<◌, ◌^◌, ◌∷◌, ◌++◌, [], length, MatchOption, IfOk, IfErr, IfSome};
 ghost use Rattle.std.specs.Prelude.{OnOk, position, ◌==◌, Ok, Err, true, false};
 ghost use Rattle.query.specs.Words.{Word, parts, reads_as, word, words_from};
-ghost use Rattle.query.specs.Forms.{took};
+ghost use Rattle.query.specs.Forms.{begins_with, took};
 ghost use Rattle.query.specs.TextLeft.{after_part};
 
 use crate::fault::QueryFault;
@@ -93,6 +93,25 @@ impl<'a> Words<'a> {
         ensures err { IfErr result (λ fault. (fault ≡ QueryFault.Incomplete) × (self.old ≡ [])) }
     {
         self.next().ok_or(QueryFault::Incomplete)
+    }
+
+    /// Takes the next word if it is this one, and answers whether it is.
+    pub(crate) fn take_if(&mut self, text: &[u8]) -> bool
+        ensures is { result ≡ begins_with text.now self.old }
+        ensures taken { result ≡ true → took text.now self.old ≡ Ok self.new }
+        ensures unchanged { result ≡ false → self.new ≡ self.old }
+    {
+        let mut ahead = Words {
+            at: self.at,
+            rest: self.rest,
+        };
+        match ahead.next() {
+            Some(word) if word.is(text) => {
+                *self = ahead;
+                true
+            }
+            _ => false,
+        }
     }
 
     /// Takes the next word, which must be this one.

@@ -1,6 +1,6 @@
 //! Writes a query as its canonical text.
 ghost use Rattle.std.specs.Prelude.{◌≡◌, ◌∷◌, ◌++◌, [], ◌<◌, ◌≤◌, length, List, take, ◌&&◌, not, OnOk, OnErr, IfOk};
-ghost use Rattle.std.specs.Prelude.{true, Some};
+ghost use Rattle.std.specs.Prelude.{true, Some, ℕ};
 ghost use Rattle.std.specs.Fmt.{decimal};
 ghost use Rattle.std.specs.List.{join_with_byte};
 ghost use Rattle.query.specs.Canonical.{
@@ -9,6 +9,7 @@ ghost use Rattle.query.specs.Canonical.{
   kind_condition,
   kind_letters,
   linked,
+  moment_words,
   pair_text,
   symbol_condition,
   time_condition,
@@ -48,6 +49,7 @@ fn append_query<A: Allocator, B: Allocator>(
     ensures { OnOk result (text.new.items ≡ canonical query.now) }
 {
     append_what(text, query.what)?;
+    append_moment(text, query.as_of)?;
     let link = append_symbols(text, b"where", &query.symbols)?;
     let link = append_span(text, link, query.span)?;
     append_kinds(text, link, query.kinds)
@@ -71,6 +73,19 @@ fn append_what<A: Allocator>(text: &mut Vec<u8, A>, what: What) -> Result<(), Ou
             append_word(text, b"s")
         }
     }
+}
+
+/// Appends the moment, if there is one.
+fn append_moment<A: Allocator>(text: &mut Vec<u8, A>, as_of: Option<u32>) -> Result<(), OutOfMemory>
+    requires { (time : ℕ) → as_of ≡ Some time → time ≤ SECONDS_OF_DAY }
+    ensures { OnOk result (text.new.items ≡ text.old.items ++ spaced (moment_words as_of)) }
+{
+    let Some(time) = as_of else {
+        return Ok(());
+    };
+    append_word(text, b"as")?;
+    append_word(text, b"of")?;
+    append_clock(text, time)
 }
 
 #[tactic(auto, using(crate::proofs::WriterIsCanonical::joined_first, crate::proofs::WriterIsCanonical::joined_next))]

@@ -1,5 +1,5 @@
-//! The answer to `sales` by its definition: each price, break and name is searched for in the whole
-//! list of messages.
+//! The answer to `sales`, up to a moment or without one, by its definition: each price, break and name is
+//! searched for in the whole list of the messages that count.
 use executor::{DayFault, OutOfMemory};
 use itch_messages::Message;
 use std::alloc::Global;
@@ -130,7 +130,38 @@ fn write_text(out: &mut String, messages: &[Placed]) -> Result<(), OutOfMemory> 
     Ok(())
 }
 
-/// The text, or the first fault in the references. All times are the same.
+/// The time of a message, in nanoseconds since midnight; what is skipped is sent at midnight.
+fn time(message: &Message) -> u64 {
+    match message {
+        Message::Add(add) => add.header.time,
+        Message::Executed(executed) => executed.header.time,
+        Message::ExecutedAt(executed) => executed.header.time,
+        Message::Replace(replace) => replace.header.time,
+        Message::Trade(trade) => trade.header.time,
+        Message::Cross(cross) => cross.header.time,
+        Message::Broken(broken) => broken.header.time,
+        Message::Directory(directory) => directory.header.time,
+        Message::Skipped => 0,
+    }
+}
+
+/// The answer to `sales` as of a moment, in nanoseconds since midnight: the text, or the first fault in the
+/// references. All trades have the same time.
+pub fn defined_answer_as_of(
+    alloc: Global,
+    messages: &[Placed],
+    moment: u64,
+) -> Result<Result<String, DayFault>, OutOfMemory> {
+    let mut counted = Vec::new(alloc);
+    for placed in messages {
+        if time(&placed.message) <= moment {
+            counted.push(*placed)?;
+        }
+    }
+    defined_answer(alloc, counted.as_slice())
+}
+
+/// The text, or the first fault in the references. All trades have the same time.
 pub fn defined_answer(
     alloc: Global,
     messages: &[Placed],

@@ -9,6 +9,8 @@ mod definition;
 #[cfg(test)]
 mod devices;
 #[cfg(test)]
+mod moments;
+#[cfg(test)]
 mod queries;
 #[cfg(test)]
 mod refusals;

@@ -13,7 +13,7 @@ const HEADER: &[u8] = b"time,symbol,kind,price,shares,number\n";
 const BARS_HEADER: &[u8] = b"symbol,start,first,high,low,last,volume,trades,average\n";
 
 /// `plain` and `run` give this answer.
-fn is_answered(rt: &impl Abort, alloc: Global, row: AskedRow) -> Result<(), Fail> {
+pub fn is_answered(rt: &impl Abort, alloc: Global, row: AskedRow) -> Result<(), Fail> {
     let (text, forms, want) = row;
     let header = if text.starts_with("bars") {
         BARS_HEADER

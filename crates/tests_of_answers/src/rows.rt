@@ -13,7 +13,7 @@ pub type AskedRow = (
 );
 
 /// A trade at the latest time that six bytes hold.
-const LATEST_TRADE: &[u8] = b"\x00\x2cP\x00\x07\x00\x00\xff\xff\xff\xff\xff\xff\x00\x00\x00\x00\
+pub const LATEST_TRADE: &[u8] = b"\x00\x2cP\x00\x07\x00\x00\xff\xff\xff\xff\xff\xff\x00\x00\x00\x00\
     \x00\x00\x00\x00B\x00\x00\x00\x01MSFT    \x00\x00\x27\x10\x00\x00\x00\x00\x00\x00\x00\x3d";
 
 /// Files that have a listing.
@@ -163,7 +163,7 @@ pub const FAULTY: [Row; 6] = [
 ];
 
 /// Trades at the last nanosecond of a minute, and at the first of the next.
-const MINUTES: [Form; 3] = [
+pub const MINUTES: [Form; 3] = [
     Form::R(7, MSFT),
     Form::T(7, 34_259, 999_999_999, 100, 4_105_000, 21),
     Form::T(7, 34_260, 0, 200, 4_106_000, 22),

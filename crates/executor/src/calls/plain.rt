@@ -51,13 +51,18 @@ fn text_of_day<A: Allocator + Copy>(
     ensures fault { IfErr result (λ refused. IfDay refused (λ fault.
         IsAnswer day.now query.now (Err fault))) }
 {
-    let rows = collect(alloc, day)?;
+    let rows = collect(alloc, day, query.as_of)?;
     text_of_rows(alloc, rows, query)
 }
 
-/// The rows of the messages of all frames, in one walk over them.
-fn collect<A: Allocator + Copy>(alloc: A, day: &DayFile<A>) -> Result<Rows<A>, Refused>
-    ensures rows { IfOk result (λ rows. AreOfDay day.now rows) }
+/// The rows of the messages that count up to a moment, in seconds since midnight, in one walk over all
+/// frames.
+fn collect<A: Allocator + Copy>(
+    alloc: A,
+    day: &DayFile<A>,
+    as_of: Option<u32>,
+) -> Result<Rows<A>, Refused>
+    ensures rows { IfOk result (λ rows. AreOfDay day.now as_of rows) }
     ensures fault { IfErr result (λ refused. IfDay refused (λ fault. (query : Meaning) →
         IsAnswer day.now query (Err fault))) }
 {
@@ -65,7 +70,7 @@ fn collect<A: Allocator + Copy>(alloc: A, day: &DayFile<A>) -> Result<Rows<A>, R
     let mut left = frames(day);
     while let Some(frame) = left.next() {
         match read(frame.body) {
-            Ok(message) => rows.add(frame.place, &message)?,
+            Ok(message) => rows.add_counted(as_of, frame.place, &message)?,
             Err(fault) => {
                 // A truncation comes first, wherever it stands.
                 left.finish()?;
@@ -83,7 +88,7 @@ fn collect<A: Allocator + Copy>(alloc: A, day: &DayFile<A>) -> Result<Rows<A>, R
     Ok(rows)
 }
 
-/// The text that the rows of a whole day give.
+/// The text that the rows of a whole day's counted messages give.
 fn text_of_rows<A: Allocator + Copy>(
     alloc: A,
     rows: Rows<A>,

@@ -8,8 +8,8 @@ use Rattle.day_file.specs.Frames.{IsTruncatedAt, IsWhole, PlacedBody, spelling}
 use Rattle.day_file.specs.Placed.{placed_body}
 use Rattle.day_file.proofs.Laws.{places_rise}
 use Rattle.answers.specs.Answers.{IsAnswer}
-use Rattle.answers.specs.DayRows.{DayRows, joined, rows_at, rows_of}
-use Rattle.answers.specs.Messages.{first_wrong, messages_of}
+use Rattle.answers.specs.DayRows.{DayRows, counted_rows_at, joined, rows_of}
+use Rattle.answers.specs.Messages.{counted, first_wrong, messages_of}
 use Rattle.answers.specs.declared.day_fault.DayFault.{DayFault}
 use Rattle.answers.specs.declared.day_fault.DayFault.TheVariants.{WrongLength}
 use Rattle.answers.proofs.AnswerOfSteps.{truncation_answers, wrong_length_answers}
@@ -21,11 +21,12 @@ use Rattle.executor.proofs.calls.plain.collect.Goals as goal
 
 pub loop-frame-preserved : goal.loop-frame-preserved
 loop-frame-preserved g c =
-    let added = subst (λ message. c.add.new.self ≡ joined c.loop-frame.rows (rows_at c.in-Some.frame.place message)) c.in-Ok.ensures.message
-    c.in_ok-add-in-Ok.ensures.added in
+    let added = subst (λ message. c.add_counted.new.self ≡ joined c.loop-frame.rows (counted_rows_at c.args.as_of c.in-Some.frame.place message))
+    c.in-Ok.ensures.message
+    c.in_ok-add_counted-in-Ok.ensures.added in
     record {
-      so_far = collects c.frames-left.result.frames c.loop-frame.left.frames (placed_body c.in-Some.frame) c.next.new.self.frames c.loop-frame.rows
-          c.add.new.self c.loop-frame.invariant.so_far c.in-Some.ensures.steps.0 (right_length _ c.in-Ok.ensures.fault.1) added;
+      so_far = collects c.args.as_of c.frames-left.result.frames c.loop-frame.left.frames (placed_body c.in-Some.frame) c.next.new.self.frames c.loop-frame.rows
+          c.add_counted.new.self c.loop-frame.invariant.so_far c.in-Some.ensures.steps.0 (right_length _ c.in-Ok.ensures.fault.1) added;
       end = c.in-Some.ensures.steps.1 ∙ c.loop-frame.invariant.end;
     }
 
@@ -64,7 +65,8 @@ returns-clause-rows g c =
     let same = c.frames-left.ensures.whole whole.0 whole.1 in
     let front : whole.0 ≡ so_far.front =
     sym same ∙ so_far.split ∙ ap (λ l. so_far.front ++ l) c.in_default.ensures.steps.0.0 ∙ append-nil so_far.front in
-    let are : c.loop-frame.rows ≡ rows_of (messages_of whole.0) = so_far.are ∙ ap (λ frames. rows_of (messages_of frames)) (sym front) in
+    let are : c.loop-frame.rows ≡ rows_of (counted c.args.as_of (messages_of whole.0)) =
+    so_far.are ∙ ap (λ frames. rows_of (counted c.args.as_of (messages_of frames))) (sym front) in
     let fits : length (spelling whole.0) ≤ 2 ^ 36 = subst (λ frames. length (spelling frames) ≤ 2 ^ 36) same c.frames-left.ensures.within in
     let within : length c.args.day.now ≤ 2 ^ 36 = omega (arith, ap length whole.1.whole, fits) in
     record {
@@ -72,5 +74,5 @@ returns-clause-rows g c =
       stands = whole.1;
       right = ap first_wrong front ∙ ap (least_by (λ (f : PlacedBody). f.place)) so_far.none;
       are = are;
-      few = subst AreFew (sym are) (few_trades c.args.day.now whole.0 whole.1 within);
+      few = subst AreFew (sym are) (few_trades c.args.as_of c.args.day.now whole.0 whole.1 within);
     }
