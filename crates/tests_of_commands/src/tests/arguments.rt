@@ -65,8 +65,22 @@ fn asked(alloc: Global, words: &[&str]) -> Result<Result<Job, Outcome>, Fail> {
 #[test]
 fn words_ask_for_a_job(rt: HostRuntime) -> Result<(), Fail> {
     let defaults: &[&str] = &["itch_bars", "day", "sales"];
-    let most: &[&str] = &["itch_bars", "day", "sales", "--workers", "64", "--partitions=256"];
-    let least: &[&str] = &["itch_bars", "--partitions", "1", "--morsel=1", "day", "sales"];
+    let most: &[&str] = &[
+        "itch_bars",
+        "day",
+        "sales",
+        "--workers",
+        "64",
+        "--partitions=256",
+    ];
+    let least: &[&str] = &[
+        "itch_bars",
+        "--partitions",
+        "1",
+        "--morsel=1",
+        "day",
+        "sales",
+    ];
     for (words, workers, morsel, parts) in [
         (defaults, 4, 1_048_576, 64),
         (most, 64, 1_048_576, 256),

@@ -34,7 +34,8 @@ fn answers_over_the_example(rt: HostRuntime) -> Result<(), Fail> {
         return Err(Fail::from("the day is short"));
     };
     let narrow = "sales where symbol in MSFT and time from 09:30:00 until 09:30:01 and kind in E,P";
-    let early = "sales as of 09:31:00 where symbol in MSFT and time from 09:30:00 until 09:30:01 and kind in E,P";
+    let early =
+        "sales as of 09:31:00 where symbol in MSFT and time from 09:30:00 until 09:30:01 and kind in E,P";
     let line = "fault: place 82: message runs past the end\n";
     for (day, query, status, text, line) in [
         (day.as_slice(), "bars 5 m", 0, BARS, ""),
