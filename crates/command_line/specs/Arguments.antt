@@ -1,7 +1,7 @@
 -- The program's command line, as what clap reads of it.
 -- To be believed.
 use Rattle.std.specs.Prelude.{[], ◌∷◌, Some, codes, pos, true}
-use Rattle.lists.specs.declared.limits.TheConstants.{LARGEST_MORSEL, MOST_WORKERS}
+use Rattle.lists.specs.declared.limits.TheConstants.{LARGEST_MORSEL, MOST_PARTITIONS, MOST_WORKERS}
 use Rattle.clap.specs.Words.{App, Rule, new_app, new_rule, with_rule}
 use Rattle.clap.specs.declared.builder.action.ArgAction.TheVariants.{Set}
 use Rattle.clap.specs.declared.builder.value_parser.ValueParser.TheVariants.{Signed, Unsigned}
@@ -24,17 +24,27 @@ workers_rule = record (new_rule (codes "workers")) {
   defaults = codes "4" ∷ [];
 }
 
--- `--morsel BYTES`, from 1 to the largest morsel, and 16,777,216 where it is left out
+-- `--morsel BYTES`, from 1 to the largest morsel, and 1,048,576 where it is left out
 abbrev pub morsel_rule : Rule
 morsel_rule = record (new_rule (codes "morsel")) {
   long = Some (codes "morsel");
   value_names = 1;
   action = Some Set;
   parser = Some (Unsigned 1 LARGEST_MORSEL);
-  defaults = codes "16777216" ∷ [];
+  defaults = codes "1048576" ∷ [];
+}
+
+-- `--partitions N`, from 1 to the most partitions, and 64 where it is left out
+abbrev pub partitions_rule : Rule
+partitions_rule = record (new_rule (codes "partitions")) {
+  long = Some (codes "partitions");
+  value_names = 1;
+  action = Some Set;
+  parser = Some (Signed (pos 1) (pos MOST_PARTITIONS));
+  defaults = codes "64" ∷ [];
 }
 
 -- the program's command line
 abbrev pub the_app : App
-the_app = with_rule (with_rule (with_rule (with_rule (new_app (codes "itch_bars"))
-    file_rule) query_rule) workers_rule) morsel_rule
+the_app = with_rule (with_rule (with_rule (with_rule (with_rule (new_app (codes "itch_bars"))
+    file_rule) query_rule) workers_rule) morsel_rule) partitions_rule

@@ -6,6 +6,7 @@ use Rattle.answers.specs.declared.day_fault.DayFault.{DayFault}
 use Rattle.answers.specs.declared.day_fault.DayFault.TheVariants as day
 use Rattle.executor.specs.declared.run_fault.RunFault.{RunFault}
 use Rattle.executor.specs.declared.run_fault.RunFault.TheVariants as run
+use Rattle.lists.specs.declared.limits.TheConstants.{MOST_MORSELS}
 use Rattle.query.specs.declared.fault.QueryFault.{QueryFault}
 use Rattle.query.specs.declared.fault.QueryFault.TheVariants as query
 
@@ -43,6 +44,10 @@ report_of run.ReadFailed = record { status = 4; text = codes "reading failed" }
 report_of (run.TooLong limit) = record {
   status = 1;
   text = codes "file is longer than " ++ decimal limit ++ codes " bytes";
+}
+report_of run.TooManyMorsels = record {
+  status = 2;
+  text = codes "more than " ++ decimal MOST_MORSELS ++ codes " morsels";
 }
 report_of (run.Day fault) = record { status = 1; text = day_fault_text fault }
 report_of (run.WriteFailed written) = record {

@@ -7,7 +7,8 @@ use Rattle.clap.specs.Words.{IsAmong, Kinds, Row, Text, first_of, one_of}
 use Rattle.clap.specs.declared.error.kind.ErrorKind.{ErrorKind}
 use Rattle.clap.specs.declared.error.kind.ErrorKind.TheVariants.{DisplayHelp}
 use Rattle.executor.specs.declared.settings.Settings.{Settings}
-use Rattle.lists.specs.declared.limits.TheConstants.{LARGEST_MORSEL, LONGEST_FILE, MOST_WORKERS}
+use Rattle.lists.specs.declared.limits.TheConstants.{LARGEST_MORSEL, LONGEST_FILE, MOST_PARTITIONS}
+use Rattle.lists.specs.declared.limits.TheConstants.{MOST_WORKERS}
 use Rattle.command_line.specs.declared.arguments.Job.{Job}
 use Rattle.command_line.specs.declared.arguments.WordsFault.{WordsFault}
 use Rattle.command_line.specs.declared.arguments.WordsFault.TheVariants as fault
@@ -20,6 +21,7 @@ number_of text = digits_value 10 (without_leading_plus text)
 pub record HasSettingsOf (rows : List Row) (settings : Settings) : Type 0 where
   pub workers : option_map number_of (one_of (codes "workers") rows) ≡ Some settings.crew.workers
   pub morsel : option_map number_of (one_of (codes "morsel") rows) ≡ Some settings.morsel
+  pub partitions : option_map number_of (one_of (codes "partitions") rows) ≡ Some settings.parts
   pub limit : settings.limit ≡ LONGEST_FILE
 
 -- the job has the path, the query and the numbers that clap found
@@ -51,3 +53,4 @@ pub record IsWhole (rows : List Row) : Type 0 where
   pub query : is_some (first_of (codes "QUERY") rows) ≡ true
   pub workers : HasNumberIn 1 MOST_WORKERS (codes "workers") rows
   pub morsel : HasNumberIn 1 LARGEST_MORSEL (codes "morsel") rows
+  pub partitions : HasNumberIn 1 MOST_PARTITIONS (codes "partitions") rows

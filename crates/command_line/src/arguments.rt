@@ -4,8 +4,8 @@ ghost use Rattle.clap.specs.Values.{kind_of};
 ghost use Rattle.clap.specs.declared.error.kind.ErrorKind.TheVariants.{InvalidValue};
 ghost use Rattle.clap.specs.Words.{FailsBy, HasKind, Kinds, app_of, fault_of, found_of};
 ghost use Rattle.clap.specs.Words.{matches_of, rows_of, rule_of};
-ghost use Rattle.command_line.specs.Arguments.{file_rule, morsel_rule, query_rule, the_app};
-ghost use Rattle.command_line.specs.Arguments.{workers_rule};
+ghost use Rattle.command_line.specs.Arguments.{file_rule, morsel_rule, partitions_rule};
+ghost use Rattle.command_line.specs.Arguments.{query_rule, the_app, workers_rule};
 ghost use Rattle.command_line.specs.Jobs.{HasSettingsOf, IsFaultOf, IsJobOf, IsWhole};
 
 use clap::error::ErrorKind;
@@ -20,7 +20,9 @@ const AFTER_HELP: &str = "\
 Queries:
   sales        time and sales: a line for each sale of the day, by its place in the file
   bars 5 m     a line for each security and interval of 5 minutes; s, m or h, 1 s to 24 h
-Behind either, `where` and some of these, joined by `and`:
+Behind either, if wanted:
+  as of 16:00:00     only messages up to this moment count
+Behind these, `where` and some of these, joined by `and`:
   symbol in MSFT,AAPL
   time from 09:30:00 until 16:00:00
   kind in E,C,P,Q    executions, executions with a price, trades, crosses
@@ -117,7 +119,8 @@ fn clap_command<'a>(alloc: Global) -> Result<Command<'a>, AllocError>
         .arg(file_argument(alloc))?
         .arg(query_argument(alloc))?
         .arg(workers_option(alloc))?
-        .arg(morsel_option(alloc))
+        .arg(morsel_option(alloc))?
+        .arg(partitions_option(alloc))
 }
 
 /// The day file's path.
@@ -166,8 +169,22 @@ fn morsel_option<'a>(alloc: Global) -> Arg<'a>
         .value_name("BYTES")
         .action(ArgAction::Set)
         .value_parser(value_parser!(u64).range(1..=1_073_741_824))
-        .default_value("16777216")
+        .default_value("1048576")
         .help("Least size of a piece of the file, 1 to 1073741824; no answer depends on it")
+}
+
+/// How many partitions there are.
+fn partitions_option<'a>(alloc: Global) -> Arg<'a>
+    ensures rule { rule_of result ≡ partitions_rule }
+    ensures local { result.global ≡ false }
+{
+    Arg::new(alloc, "partitions")
+        .long("partitions")
+        .value_name("N")
+        .action(ArgAction::Set)
+        .value_parser(value_parser!(u32).range(1..=256))
+        .default_value("64")
+        .help("Partitions of the order references, 1 to 256; no answer depends on them")
 }
 
 /// The job of what was matched.
@@ -191,6 +208,7 @@ fn settings_of(matches: &ArgMatches<'_>) -> Settings
 {
     let workers = matches.get_one::<u32>("workers").unwrap();
     let morsel = matches.get_one::<u64>("morsel").unwrap();
+    let parts = matches.get_one::<u32>("partitions").unwrap();
     let crew = Crew {
         workers,
         gatherers: 1,
@@ -198,6 +216,7 @@ fn settings_of(matches: &ArgMatches<'_>) -> Settings
     Settings {
         crew,
         morsel,
+        parts,
         limit: LONGEST_FILE,
     }
 }

@@ -8,6 +8,7 @@ ghost use Rattle.command_line.specs.FaultLines.{report_of, status_of};
 use arrayvec::ArrayVec;
 use executor::{DayFault, QueryFault, RunFault};
 use itoa::Buffer;
+use lists::limits::MOST_MORSELS;
 
 /// Room for the longest line, which has 103 bytes: that of a wrong length whose three numbers have
 /// 20 digits each.
@@ -18,7 +19,7 @@ pub(crate) fn status_of(fault: &RunFault) -> u8
     ensures { result ≡ status_of fault.now }
 {
     match fault {
-        RunFault::Query(_) => 2,
+        RunFault::Query(_) | RunFault::TooManyMorsels => 2,
         RunFault::ReadFailed => 4,
         RunFault::TooLong { .. } | RunFault::Day(_) => 1,
         RunFault::WriteFailed { .. } => 5,
@@ -48,6 +49,9 @@ fn push_fault(line: &mut Line, fault: &RunFault)
         RunFault::ReadFailed => push_text(line, b"reading failed"),
         RunFault::TooLong { limit } => {
             push_number(line, b"file is longer than ", *limit, b" bytes");
+        }
+        RunFault::TooManyMorsels => {
+            push_number(line, b"more than ", u64::from(MOST_MORSELS), b" morsels");
         }
         RunFault::Day(fault) => push_day_fault(line, fault),
         RunFault::WriteFailed { written } => {

@@ -145,10 +145,11 @@ fn trade(day: &mut Day, step: u32, security: &Security) -> Result<(), AllocError
             match_no + 4,
         )?;
     }
-    if step % 12 == 0 {
+    // The break of an execution comes nine steps after it, a minute later.
+    if step % 12 == 9 {
         day.put(Message::Broken(Broken {
             header,
-            trade_no: match_no,
+            trade_no: match_no - 90,
         }))?;
     }
     Ok(())

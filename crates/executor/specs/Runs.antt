@@ -57,7 +57,7 @@ module _ {S K : Type 0}
     pub took : Took sink_before sink_after (take written text)
 
   -- what each outcome of a run says: the whole text was written, or one refusal holds and the sink was
-  -- left alone, or took a front of the text
+  -- left alone, or took a front of the text; no run is refused for its morsels, since a day is read as one
   abbrev pub Ran : List ℕ → ℕ → S → S → K → K → Result (Unit {0}) RunFault → Type 0
   Ran words limit before after sink_before sink_after (Ok done) =
       WroteAll words limit before after sink_before sink_after
@@ -67,6 +67,7 @@ module _ {S K : Type 0}
       ((query : Meaning) × Means (words_of words) query) × GaveSome limit before after × (sink_after ≡ sink_before)
   Ran words limit before after sink_before sink_after (Err (fault.TooLong most)) =
       GaveMore words limit before after × (most ≡ limit) × (sink_after ≡ sink_before)
+  Ran words limit before after sink_before sink_after (Err fault.TooManyMorsels) = ⊥
   Ran words limit before after sink_before sink_after (Err (fault.Day f)) =
       Answers words limit before after (Err f) × (sink_after ≡ sink_before)
   Ran words limit before after sink_before sink_after (Err (fault.WriteFailed written)) =

@@ -1,4 +1,5 @@
 use answers::DayFault;
+use lists::limits::MOST_MORSELS;
 use query::QueryFault;
 use thiserror::Error;
 
@@ -15,6 +16,10 @@ pub enum RunFault {
     /// The source gave more than `limit` bytes.
     #[error("file is longer than {limit} bytes")]
     TooLong { limit: u64 },
+    /// The day file isn't truncated and has more morsels than 65,536. No run is refused so yet: a day
+    /// is read as one.
+    #[error("more than {MOST_MORSELS} morsels")]
+    TooManyMorsels,
     /// The day file has a fault.
     #[error("{0}")]
     Day(DayFault),

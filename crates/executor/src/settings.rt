@@ -1,9 +1,10 @@
 ghost use Rattle.std.specs.Prelude.{◌≡◌, ◌<◌, ◌≤◌};
 ghost use Rattle.lists.specs.declared.limits.TheConstants.{LARGEST_MORSEL, LONGEST_FILE};
+ghost use Rattle.lists.specs.declared.limits.TheConstants.{MOST_PARTITIONS};
 
 use pipelines::Crew;
 
-/// How a query is answered. No text of an answer depends on the crew or the morsel.
+/// How a query is answered. No text of an answer depends on the crew, the morsel or the parts.
 #[derive(Clone, Copy, Debug, PartialEq, Eq)]
 pub struct Settings {
     /// How many threads work. It has no effect yet: one thread answers.
@@ -11,8 +12,12 @@ pub struct Settings {
     /// The least size of a morsel, in bytes: 1 to 1,073,741,824. It has no effect yet: a day is
     /// read as one.
     pub morsel: u64,
+    /// How many partitions the order references are divided into: 1 to 256. It has no effect yet:
+    /// one thread answers.
+    pub parts: u32,
     /// The most bytes that a day file may have: at most 68,719,476,736.
     pub limit: u64,
     ghost morsel_in_range: { (0 < morsel) × (morsel ≤ LARGEST_MORSEL) },
+    ghost parts_in_range: { (0 < parts) × (parts ≤ MOST_PARTITIONS) },
     ghost limit_in_range: { limit ≤ LONGEST_FILE },
 }

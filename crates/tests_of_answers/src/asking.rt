@@ -35,6 +35,7 @@ pub fn settings(limit: u64) -> Settings
             gatherers: 1,
         },
         morsel: 1,
+        parts: 1,
         limit,
     }
 }

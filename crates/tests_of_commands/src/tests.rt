@@ -25,7 +25,8 @@ fn job(alloc: Global, query: &str, limit: u64) -> Result<Job, Fail>
         query: String::from_str(alloc, query)?,
         settings: Settings {
             crew,
-            morsel: 16_777_216,
+            morsel: 1_048_576,
+            parts: 64,
             limit,
         },
     })

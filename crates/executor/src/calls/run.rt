@@ -12,7 +12,7 @@ use std::alloc::{AllocError, Allocator};
 
 /// Reads a whole day file from a source, and writes the answer to a query to a sink. Nothing is written
 /// before every refusal but that of the sink is past. After a refusal the source may have been read in
-/// part. The first argument, and of the settings the crew and the morsel, have no effect yet.
+/// part. The first argument, and of the settings the crew, the morsel and the parts, have no effect yet.
 pub fn run<R, A: Allocator + Copy, S: Source, K: Sink>(
     _rt: &R,
     alloc: A,

@@ -17,13 +17,16 @@ Arguments:
 
 Options:
       --workers <N>     Threads that work on the query, 1 to 64; no answer depends on them [default: 4]
-      --morsel <BYTES>  Least size of a piece of the file, 1 to 1073741824; no answer depends on it [default: 16777216]
+      --morsel <BYTES>  Least size of a piece of the file, 1 to 1073741824; no answer depends on it [default: 1048576]
+      --partitions <N>  Partitions of the order references, 1 to 256; no answer depends on them [default: 64]
   -h, --help            Print help
 
 Queries:
   sales        time and sales: a line for each sale of the day, by its place in the file
   bars 5 m     a line for each security and interval of 5 minutes; s, m or h, 1 s to 24 h
-Behind either, `where` and some of these, joined by `and`:
+Behind either, if wanted:
+  as of 16:00:00     only messages up to this moment count
+Behind these, `where` and some of these, joined by `and`:
   symbol in MSFT,AAPL
   time from 09:30:00 until 16:00:00
   kind in E,C,P,Q    executions, executions with a price, trades, crosses
@@ -62,21 +65,41 @@ fn asked(alloc: Global, words: &[&str]) -> Result<Result<Job, Outcome>, Fail> {
 #[test]
 fn words_ask_for_a_job(rt: HostRuntime) -> Result<(), Fail> {
     let defaults: &[&str] = &["itch_bars", "day", "sales"];
-    let given: &[&str] = &["itch_bars", "day", "sales", "--workers", "64", "--morsel=1"];
-    for (words, workers, morsel) in [(defaults, 4, 16_777_216), (given, 64, 1)] {
+    let most: &[&str] = &[
+        "itch_bars",
+        "day",
+        "sales",
+        "--workers",
+        "64",
+        "--partitions=256",
+    ];
+    let least: &[&str] = &[
+        "itch_bars",
+        "--partitions",
+        "1",
+        "--morsel=1",
+        "day",
+        "sales",
+    ];
+    for (words, workers, morsel, parts) in [
+        (defaults, 4, 1_048_576, 64),
+        (most, 64, 1_048_576, 256),
+        (least, 4, 1, 1),
+    ] {
         let Ok(job) = asked(rt.alloc(), words)? else {
             return Err(Fail::from("no job"));
         };
         assert!(rt; job.file.as_str() == "day" && job.query.as_str() == "sales");
         assert!(rt; job.settings.crew.workers == workers);
         assert!(rt; job.settings.morsel == morsel);
+        assert!(rt; job.settings.parts == parts);
     }
     Ok(())
 }
 
 #[test]
 fn wrong_words_are_reported(rt: HostRuntime) -> Result<(), Fail> {
-    let cases: [(&[&str], &str); 9] = [
+    let cases: [(&[&str], &str); 11] = [
         (
             &["itch_bars"],
             "the following required arguments were not provided:",
@@ -100,6 +123,14 @@ fn wrong_words_are_reported(rt: HostRuntime) -> Result<(), Fail> {
         (
             &["itch_bars", "-", "sales", "--morsel=1073741825"],
             "invalid value '1073741825' for '--morsel <BYTES>': 1073741825 is not in 1..=1073741824",
+        ),
+        (
+            &["itch_bars", "-", "sales", "--partitions", "0"],
+            "invalid value '0' for '--partitions <N>': 0 is not in 1..=256",
+        ),
+        (
+            &["itch_bars", "-", "sales", "--partitions=257"],
+            "invalid value '257' for '--partitions <N>': 257 is not in 1..=256",
         ),
         (
             &["itch_bars", "-", "sales", "--gatherers=1"],

@@ -20,6 +20,12 @@ const SALES: &str = "time,symbol,kind,price,shares,number\n\
     09:30:00.000000000,MSFT,E,410.5100,30,20003\n\
     09:30:00.000000000,MSFT,P,410.5050,75,20004\n";
 
+/// The same as of a moment before the break of the first.
+const SALES_BEFORE_A_BREAK: &str = "time,symbol,kind,price,shares,number\n\
+    09:30:00.000000000,MSFT,E,410.5000,10,20000\n\
+    09:30:00.000000000,MSFT,E,410.5100,30,20003\n\
+    09:30:00.000000000,MSFT,P,410.5050,75,20004\n";
+
 #[test]
 fn answers_over_the_example(rt: HostRuntime) -> Result<(), Fail> {
     let alloc = rt.alloc();
@@ -28,10 +34,13 @@ fn answers_over_the_example(rt: HostRuntime) -> Result<(), Fail> {
         return Err(Fail::from("the day is short"));
     };
     let narrow = "sales where symbol in MSFT and time from 09:30:00 until 09:30:01 and kind in E,P";
+    let early =
+        "sales as of 09:31:00 where symbol in MSFT and time from 09:30:00 until 09:30:01 and kind in E,P";
     let line = "fault: place 82: message runs past the end\n";
     for (day, query, status, text, line) in [
         (day.as_slice(), "bars 5 m", 0, BARS, ""),
         (day.as_slice(), narrow, 0, SALES, ""),
+        (day.as_slice(), early, 0, SALES_BEFORE_A_BREAK, ""),
         (cut_off, "sales", 1, "", line),
     ] {
         let outcome = performed(alloc, day, query)?;

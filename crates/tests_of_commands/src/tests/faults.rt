@@ -3,9 +3,10 @@ use command_line::{CountedSink, DayFault, QueryFault, RunFault, tell};
 use std::test::Fail;
 
 /// The least fault of each kind, and the greatest of those with numbers.
-const FAULTS: [(RunFault, u8, &str); 18] = [
+const FAULTS: [(RunFault, u8, &str); 19] = [
     (RunFault::ReadFailed, 4, "reading failed"),
     (RunFault::OutOfMemory, 3, "out of memory"),
+    (RunFault::TooManyMorsels, 2, "more than 65536 morsels"),
     (
         RunFault::TooLong {
             limit: 68_719_476_736,

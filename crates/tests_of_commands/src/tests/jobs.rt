@@ -82,6 +82,57 @@ fn a_job_answers_or_reports_a_fault(rt: HostRuntime) -> Result<(), Fail> {
 }
 
 #[test]
+fn only_messages_up_to_a_moment_count(rt: HostRuntime) -> Result<(), Fail> {
+    let alloc = rt.alloc();
+    let named = Day::of(alloc, &NAMED)?.bytes;
+    let short_add = Day::of(alloc, &WITH_A_SHORT_ADD)?.bytes;
+    let (day, short) = (named.as_slice(), short_add.as_slice());
+    let Some(execution) = day.get(79..) else {
+        return Err(Fail::from("a day of another length"));
+    };
+    // The order is of 09:30:00, and its execution five nanoseconds past 09:30:01.
+    let cases = [
+        (day, "sales as of 09:30:02", 0, NAMED_TEXT, ""),
+        (day, "sales as of 09:30:01", 0, HEADER, ""),
+        (day, "bars 1 m as of 24:00:00 where kind in E", 0, BAR, ""),
+        (execution, "sales as of 09:30:01", 0, HEADER, ""),
+        (
+            execution,
+            "sales as of 09:30:02",
+            1,
+            "",
+            "fault: place 0: order reference 1 is not known\n",
+        ),
+        (
+            short,
+            "sales as of 00:00:00",
+            1,
+            "",
+            "fault: place 84: message A has length 35, not 36\n",
+        ),
+        (
+            day,
+            "sales as of 9:30:02",
+            2,
+            "",
+            "fault: query byte 12: bad time\n",
+        ),
+        (
+            day,
+            "sales where kind in E as of 09:30:02",
+            2,
+            "",
+            "fault: query byte 22: unknown word\n",
+        ),
+    ];
+    for (file, query, status, text, line) in cases {
+        let outcome = performed(alloc, file, query)?;
+        assert!(rt; outcome.is(status, text, line), "{query}: {line}");
+    }
+    Ok(())
+}
+
+#[test]
 fn each_allocation_of_a_job_can_be_refused(rt: HostRuntime) -> Result<(), Fail> {
     let alloc = rt.alloc();
     let day = Day::of(alloc, &NAMED)?.bytes;

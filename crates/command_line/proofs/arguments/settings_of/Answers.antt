@@ -14,6 +14,12 @@ unwrap-morsel-requires c =
     (omega arith) in
     some_is _ _ got.1
 
+pub unwrap-parts-requires : goal.unwrap-parts-requires
+unwrap-parts-requires c =
+    let got = integer_found 32 1 256 (codes "partitions") (found_of c.args.matches.now) c.get_one-3.result c.requires.partitions c.get_one-3.ensures.value
+    (omega arith) in
+    some_is _ _ got.1
+
 pub invariant_of-crew : goal.invariant_of-crew
 invariant_of-crew c =
     let got = integer_unwrapped 32 1 64 (codes "workers") (found_of c.args.matches.now) c.get_one.result _ c.requires.workers c.get_one.ensures.value
@@ -24,7 +30,13 @@ pub invariant_of-result : goal.invariant_of-result
 invariant_of-result c =
     let got = integer_unwrapped 64 1 1073741824 (codes "morsel") (found_of c.args.matches.now) c.get_one-2.result _ c.requires.morsel
     c.get_one-2.ensures.value (omega arith) c.unwrap-morsel.ensures in
-    record { morsel_in_range = (omega (arith, got.0), got.1); limit_in_range = omega arith }
+    let parts = integer_unwrapped 32 1 256 (codes "partitions") (found_of c.args.matches.now) c.get_one-3.result _ c.requires.partitions
+    c.get_one-3.ensures.value (omega arith) c.unwrap-parts.ensures in
+    record {
+      morsel_in_range = (omega (arith, got.0), got.1);
+      parts_in_range = (omega (arith, parts.0), parts.1);
+      limit_in_range = omega arith;
+    }
 
 pub returns : goal.returns
 returns c =
@@ -32,4 +44,6 @@ returns c =
     (omega arith) c.unwrap-workers.ensures in
     let morsel = integer_unwrapped 64 1 1073741824 (codes "morsel") (found_of c.args.matches.now) c.get_one-2.result _ c.requires.morsel
     c.get_one-2.ensures.value (omega arith) c.unwrap-morsel.ensures in
-    record { workers = workers.2; morsel = morsel.2; limit = refl }
+    let parts = integer_unwrapped 32 1 256 (codes "partitions") (found_of c.args.matches.now) c.get_one-3.result _ c.requires.partitions
+    c.get_one-3.ensures.value (omega arith) c.unwrap-parts.ensures in
+    record { workers = workers.2; morsel = morsel.2; partitions = parts.2; limit = refl }
