@@ -46,7 +46,8 @@ pub record IsCutAt (ends : List ℕ) (runs : List (List ℕ)) (bytes : List ℕ)
 abbrev pub IsPlace : List ℕ → ℕ → Type 0
 IsPlace bytes place = (place < length bytes) × IsWhole (take place bytes)
 
--- the first of the ends that isn't greater than the one before it, the first one than `last`, or isn't the place of a frame
+-- the first of the ends that isn't greater than the one before it, the first one than `last`, or isn't the place of a
+-- frame
 abbrev pub IsFirstBad : List ℕ → ℕ → List ℕ → ℕ → Type 0
 IsFirstBad bytes last [] bad = ⊥
 IsFirstBad bytes last (end ∷ ends) bad =

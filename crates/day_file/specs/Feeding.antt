@@ -5,8 +5,8 @@ use Rattle.std.specs.List.{concat}
 use Rattle.lists.specs.declared.limits.TheConstants.{MOST_MORSELS}
 use Rattle.day_file.specs.Cuts.{IsRun, HasNoShorter}
 
--- what contracts see of a `Cutter`: its target, the runs that it keeps, how many bytes the full runs behind those had, and
--- the bytes behind all full runs
+-- what contracts see of a `Cutter`: its target, the runs that it keeps, how many bytes the full runs behind those had,
+-- and the bytes behind all full runs
 pub record CutterView : Type 0 where
   pub target : ℕ
   pub cut : List (List ℕ)

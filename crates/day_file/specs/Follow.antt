@@ -15,7 +15,8 @@ pub record IsFirstRun (target : ℕ) (n : ℕ) (bytes : List ℕ) : Type 0 where
 abbrev pub Follow : ℕ → List (List ℕ) → List ℕ → Type 0
 Follow target [] bytes = bytes ≡ []
 Follow target (run ∷ runs) bytes =
-    IsFirstRun target (length run) bytes × (run ≡ take (length run) bytes) × Follow target runs (drop (length run) bytes)
+    IsFirstRun target (length run) bytes × (run ≡ take (length run) bytes)
+    × Follow target runs (drop (length run) bytes)
 
 -- the rest as a run, if there is any
 abbrev pub rest_run : List ℕ → List (List ℕ)
