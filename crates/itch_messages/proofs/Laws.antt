@@ -6,7 +6,8 @@ use Rattle.itch_messages.specs.Layout.{length_of}
 use Rattle.itch_messages.specs.declared.message.Add.{Add as AddMessage}
 use Rattle.itch_messages.specs.declared.message.Message.{Message}
 use Rattle.itch_messages.specs.declared.message.Message.TheVariants.{Add, Executed, ExecutedAt, Replace, Trade, Cross, Broken, Directory, Skipped}
-use Rattle.itch_messages.proofs.Bodies.{Row, add_row, attributed_row, executed_row, executed_at_row, replace_row, trade_row, cross_row, broken_row, directory_row}
+use Rattle.itch_messages.proofs.Bodies.{Row, add_row, attributed_row, executed_row, executed_at_row, replace_row, trade_row, cross_row, broken_row}
+use Rattle.itch_messages.proofs.Bodies.{directory_row}
 use Rattle.itch_messages.proofs.NineTypes.{by_kind, message_of_whole, right_of_whole, whole_of_message, whole_of_test}
 use Rattle.itch_messages.proofs.Table.{Field, Values, Fits, width_of, read_from, written, length-written, read_from-written, written-read_from, Fits-read_from}
 

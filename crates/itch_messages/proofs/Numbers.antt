@@ -1,5 +1,6 @@
 -- That n bytes are the bytes of their number, and a number in n bytes is below 256 ^ n.
-use Rattle.std.proofs.Common.{◌≡◌, ℕ, zero, suc, ◌+◌, ◌*◌, ◌/◌, ◌^◌, ◌<◌, ◌≤◌, List, [], ◌∷◌, ◌++◌, length, take, get_or, refl, sym, ap, ◌∙◌, inl, inr, Fits, w8, arith}
+use Rattle.std.proofs.Common.{◌≡◌, ℕ, zero, suc, ◌+◌, ◌*◌, ◌/◌, ◌^◌, ◌<◌, ◌≤◌, List, [], ◌∷◌, ◌++◌, length, take, get_or, refl, sym, ap, ◌∙◌, inl}
+use Rattle.std.proofs.Common.{inr, Fits, w8, arith}
 use Rattle.std.proofs.Math.Nat.{add-mul, mod-lt, mul-le-mul_right}
 use Rattle.std.proofs.lemmas.List.{append-nil, get_or_default, length-take-le}
 use Rattle.std.proofs.lemmas.List.Elements.{All-take}

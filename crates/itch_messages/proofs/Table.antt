@@ -1,6 +1,7 @@
 -- A table's rule: a list of fields is read from a body, and written, and the two undo each other.
 use Rattle.std.proofs.Common.{◌≡◌, ℕ, ◌+◌, ◌^◌, ◌<◌, ◌≤◌, List, [], ◌∷◌, ◌++◌, length, take, drop, refl, sym, ap, ◌∙◌, arith}
-use Rattle.std.proofs.lemmas.List.{append_assoc, length-append, length-drop, drop_all, drop_at, drop-drop, length-take-le, take-append-drop, take-append-le, take_all}
+use Rattle.std.proofs.lemmas.List.{append_assoc, length-append, length-drop, drop_all, drop_at, drop-drop, length-take-le, take-append-drop}
+use Rattle.std.proofs.lemmas.List.{take-append-le, take_all}
 use Rattle.std.proofs.lemmas.List.Elements.{All-drop, All-take}
 use Rattle.byteorder.specs.Numbers.{big_from-lt, big_number-reads_back, length-bytes_high_first}
 use Rattle.itch_messages.specs.Fields.{number_at, bytes_at, number_bytes, AreBytes}
