@@ -16,3 +16,6 @@ loop-other-preserved g c =
 
 pub loop-other-init : goal.loop-other-init
 loop-other-init g c = search rules
+
+pub returns-clause-covered : goal.returns-clause-covered
+returns-clause-covered g c = search rules
