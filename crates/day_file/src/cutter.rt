@@ -180,6 +180,9 @@ fn remove_front(bytes: &mut Vec<u8>, start: usize)
     requires { start ≤ vec_len bytes.old }
     ensures { bytes.new.items ≡ drop start bytes.old.items }
 {
+    if start == 0 {
+        return;
+    }
     let left = bytes.len() - start;
     bytes.copy_within(start.., 0);
     bytes.truncate(left);
