@@ -1,4 +1,5 @@
 pub mod DigitsJoined
 pub mod LastRows
+pub mod MergedListings
 pub mod SortedByPlace
 pub mod TrailingSpaces

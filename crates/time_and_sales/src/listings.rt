@@ -1,10 +1,11 @@
 //! A listing: sales by place.
-ghost use Rattle.std.specs.Prelude.{◌≡◌, List, [], ◌++◌, map, nat_eq, IsOk, OnOk, OnErr};
-ghost use Rattle.std.specs.List.{IsDistinct};
+ghost use Rattle.std.specs.Prelude.{◌≡◌, List, [], ◌++◌, map, nat_eq, nat_lt, IsOk, IfOk, OnOk, OnErr, All, ⊤};
+ghost use Rattle.std.specs.List.{IsDistinct, flat_map};
 ghost use Rattle.std.specs.List.Sorted.{IsPermutation};
 ghost use Rattle.time_and_sales.specs.Listings.{IsByPlace};
 
 use crate::OutOfMemory;
+use itertools::{Itertools, MergePredicate};
 use probe::Sale;
 use std::alloc::{Allocator, Global};
 use std::marker::Model;
@@ -64,6 +65,25 @@ impl<A: Allocator> Listing<A> {
         Ok(())
     }
 
+    /// The listing of the sales of all listings, in memory of `alloc`: one merge of all of them.
+    pub fn merge_all(alloc: A, listings: Vec<Listing<A>, A>) -> Result<Listing<A>, OutOfMemory>
+    where
+        A: Clone,
+        requires { IsDistinct nat_eq
+            (map (λ sale. sale.place) (flat_map (λ listing. listing) listings.items)) }
+        ensures permutation { IfOk result (λ all.
+            IsPermutation (flat_map (λ listing. listing) listings.items) all) }
+        ensures by_place { IfOk result IsByPlace }
+    {
+        let mut parts = Vec::new(alloc.clone()?);
+        for listing in listings {
+            parts.push(listing.into_vec())?;
+        }
+        Ok(Listing {
+            sales: merged(alloc, parts)?,
+        })
+    }
+
     /// The vector of the sales, by place.
     pub fn into_vec(self) -> Vec<Sale, A>
         ensures value { result.items ≡ self }
@@ -81,4 +101,34 @@ impl<A: Allocator> Listing<A> {
     {
         self.sales.as_slice()
     }
+}
+
+/// The order of sales by place.
+#[derive(Clone, Copy)]
+struct ByPlace;
+
+impl MergePredicate<Sale> for ByPlace {
+    ghost can_test = { λ _. ⊤ };
+
+    ghost computes = { λ _ first. first ≡ (λ one other. nat_lt one.place other.place) };
+
+    fn is_first(&mut self, left: &Sale, right: &Sale) -> bool {
+        left.place < right.place
+    }
+}
+
+/// The sales of all parts, merged by place.
+fn merged<A: Allocator + Clone>(
+    alloc: A,
+    parts: Vec<Vec<Sale, A>, A>,
+) -> Result<Vec<Sale, A>, OutOfMemory>
+    requires by_place { All (λ part. IsByPlace part.items) parts.items }
+    requires apart { IsDistinct nat_eq
+        (map (λ sale. sale.place) (flat_map (λ part. part.items) parts.items)) }
+    ensures permutation { IfOk result (λ all.
+        IsPermutation (flat_map (λ part. part.items) parts.items) all.items) }
+    ensures by_place { IfOk result (λ all. IsByPlace all.items) }
+{
+    let merge = parts.into_iter().kmerge_by(alloc.clone()?, ByPlace)?;
+    merge.collect(alloc)
 }
