@@ -1,6 +1,6 @@
 -- Bars of lists joined, of a list in another order, and the tables of both.
 use Rattle.std.proofs.Common.{◌≡◌, ℕ, ◌*◌, min, max, Bool, true, false, ◌&&◌, cond, eqb, ltb, List, [], ◌∷◌, ◌++◌, Some, Contains, IsPermutation, Less, refl}
-use Rattle.std.proofs.Common.{sym, ap, ap₂, ◌∙◌, subst, arith, length-append, ⊎_elim}
+use Rattle.std.proofs.Common.{None, sym, ap, ap₂, ◌∙◌, subst, arith, length-append, ⊎_elim}
 use Rattle.std.specs.List.Sorted.{IsStrictlySortedBy}
 use Rattle.std.specs.Cmp.{IsTotalOrder}
 use Rattle.std.proofs.lemmas.Bool.{cond_both, ltb-true, ltb-false, eq-eqb, and_from}
@@ -147,6 +147,14 @@ found_in (head ∷ table) key bar e = go (eqb head.locate key.locate && eqb head
     go : (t : Bool) → (found table key ≡ Some bar → Contains table bar) → cond t (Some head) (found table key) ≡ Some bar → Contains (head ∷ table) bar
     go true more e = let same : head ≡ bar = cc in subst (Contains (head ∷ table)) same (Contains_head head table)
     go false more e = Contains_later head bar table (more e)
+
+-- one bar alone
+pub found_alone : (bar : Bar) (key : Key) (b : Bar) → found (bar ∷ []) key ≡ Some b → bar ≡ b
+found_alone bar key b e = go (eqb bar.locate key.locate && eqb bar.start key.start) e
+  where
+    go : (t : Bool) → cond t (Some bar) None ≡ Some b → bar ≡ b
+    go true e = cc
+    go false e = absurd (cc)
 
 pub tables_agree : (one other : List Bar) → IsStrictlySortedBy key_cmp one → IsStrictlySortedBy key_cmp other
     → ((key : Key) → found one key ≡ found other key) → one ≡ other

@@ -194,6 +194,13 @@ equal_from Less e = absurd (cc)
 equal_from Equal e = refl
 equal_from Greater e = absurd (cc)
 
+pub turned : (a b : Bar) → key_cmp a b ≡ Equal → key_cmp b a ≡ Equal
+turned a b h = grind (arith, nat_tests)
+
+pub one_rises : (bar : Bar) → IsByKey (bar ∷ [])
+unfolding IsStrictlySortedBy
+one_rises bar = (tt, tt)
+
 -- ---- the steps of the loop over the sorted sales
 
 pub told_one_more : (width : ℕ) (sales : List Sale) (i : ℕ) (d : Sale) (table new : List Bar) (bar : Bar) → i < length sales

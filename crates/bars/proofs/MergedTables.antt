@@ -61,7 +61,7 @@ rise_merged [] other up vp = vp
 rise_merged (a ∷ one) other up vp = rise_into a one (λ t h. rise_merged one t up.1 h) up other vp
 
 -- a table above a bar has nothing under the bar's key
-higher_misses : (a b : Bar) (key : Key) → key_cmp a b ≡ Less → has a key ≡ true → has b key ≡ false
+pub higher_misses : (a b : Bar) (key : Key) → key_cmp a b ≡ Less → has a key ≡ true → has b key ≡ false
 higher_misses a b key h t =
     let p = and_parts _ _ t in
     let l = eqb-true a.locate key.locate p.0 in

@@ -1,6 +1,6 @@
 -- The sums of a bar: what they are of, how large they can be, and what they mean for the text of a bar.
 use Rattle.std.proofs.Common.{◌≡◌, ℕ, ◌+◌, ◌*◌, ◌/◌, ◌^◌, ◌<◌, ◌≤◌, Bool, true, false, cond, All, List, [], ◌∷◌, length, filter, Some, Contains, sym, ap, ◌∙◌}
-use Rattle.std.proofs.Common.{arith}
+use Rattle.std.proofs.Common.{None, refl, subst, arith}
 use Rattle.std.specs.List.{sum_by}
 use Rattle.std.specs.Option.{unwrap_or}
 use Rattle.std.proofs.lemmas.Bool.{and_parts, eqb-true}
@@ -8,9 +8,11 @@ use Rattle.std.proofs.lemmas.List.Sums.{sum_by-cons}
 use Rattle.std.proofs.lemmas.List.Elements.{All-filter, All-head, All-tail, All-weaker, All-contains, All-contains_itself, filter_passes}
 use Rattle.std.proofs.Math.Nat.{mul-le-mul_left, div-mul-le_self, div-le_of_le-mul}
 use Rattle.probe.specs.declared.rows.Sale.{Sale}
-use Rattle.bars.specs.Bars.{Key, Bar, start_of, has_key, bar_of, found, AreBarsOf, CanJoin, SumsFit, IsTraded}
+use Rattle.bars.specs.Bars.{Key, Bar, start_of, has_key, bar_of, found, AreBarsOf, AreBarsOfEach, CanJoin, SumsFit, AllSumsFit, IsTraded}
+use Rattle.bars.specs.Bars.{under, all_bars, all_sales}
+use Rattle.bars.proofs.JoinedTables.{has, of, of_none, sum_joined, bars_of_all}
 use Rattle.bars.specs.Texts.{IsWritable}
-use Rattle.bars.proofs.Bars.{found_itself, found_in}
+use Rattle.bars.proofs.Bars.{found_itself, found_in, found_alone}
 
 record HasSumsOf (key : Key) (sales : List Sale) (bar : Bar) : Type 0 where
   start : bar.start ≡ key.start
@@ -55,14 +57,60 @@ sums_fit width xs ys one other p q traded also few key a b e f =
     let more = trades_within width ys other key b q f in
     can_join a b (All-contains IsTraded one a traded (found_in one key a e)) (All-contains IsTraded other b also (found_in other key b f)) (omega arith)
 
--- so one more sale fits
-pub can_join_one : (width : ℕ) (sales : List Sale) (table : List Bar) (bar : Bar) → AreBarsOf width sales table → All IsTraded table → length sales + 1 < 2 ^ 31
+-- so one more bar of one trade fits
+can_join_one : (width : ℕ) (sales : List Sale) (table : List Bar) (bar : Bar) → AreBarsOf width sales table → All IsTraded table → length sales + 1 < 2 ^ 31
     → IsTraded bar → bar.trades ≡ 1 → All (λ kept. CanJoin kept bar) table
 can_join_one width sales table bar are traded few one count =
     All-weaker (Contains table) (λ kept. CanJoin kept bar)
     (λ kept c. let trades = trades_within width sales table _ kept are (found_itself table kept are.rise c) in
     can_join kept bar (All-contains IsTraded table kept traded c) one (omega arith))
     table (All-contains_itself table)
+
+pub sums_fit_one : (width : ℕ) (sales : List Sale) (table : List Bar) (bar : Bar) → AreBarsOf width sales table → All IsTraded table → length sales + 1 < 2 ^ 31
+    → IsTraded bar → bar.trades ≡ 1 → SumsFit table (bar ∷ [])
+sums_fit_one width sales table bar are traded few one count key a b e f =
+    let all = can_join_one width sales table bar are traded few one count in
+    let same : bar ≡ b = found_alone bar key b f in
+    subst (CanJoin a) same (All-contains (λ kept. CanJoin kept bar) table a all (found_in table key a e))
+
+-- ---- many tables
+
+trades_of : (key : Key) (sales : List Sale) → of (λ b. b.trades) (bar_of key sales) ≡ length sales
+unfolding of
+trades_of key [] = refl
+trades_of key (x ∷ xs) = refl
+
+sum_trades : (width : ℕ) (key : Key) (lists : List (List Sale)) (tables : List (List Bar)) → AreBarsOfEach width lists tables
+    → sum_by (λ (b : Bar). b.trades) (under key (all_bars tables)) ≤ length (all_sales lists)
+sum_trades width key lists tables are =
+    let sum = sum_joined (λ b. b.trades) (λ a b. refl) None (under key (all_bars tables)) in
+    let some = filter (has_key width key) (all_sales lists) in
+    let is = bars_of_all width key lists tables None [] are refl in
+    omega (arith, sum, ap (of (λ b. b.trades)) is, trades_of key some, of_none (λ b. b.trades), filter_shorter (has_key width key) (all_sales lists))
+
+sums_of_traded : (bars : List Bar) → All IsTraded bars
+    → (sum_by (λ (b : Bar). b.volume) bars ≤ sum_by (λ (b : Bar). b.trades) bars * 2 ^ 64) ×
+    (sum_by (λ (b : Bar). b.notional) bars ≤ sum_by (λ (b : Bar). b.volume) bars * 4294967295)
+sums_of_traded [] h = (omega arith, omega arith)
+sums_of_traded (x ∷ xs) h =
+    let one = All-head IsTraded x xs h in
+    let more = sums_of_traded xs (All-tail IsTraded x xs h) in
+    let v = sum_by-cons (λ (b : Bar). b.volume) x xs in
+    let n = sum_by-cons (λ (b : Bar). b.notional) x xs in
+    let t = sum_by-cons (λ (b : Bar). b.trades) x xs in
+    (omega (arith, one.2, more.0, v, t), omega (arith, one.1, more.1, v, n))
+
+-- the sums of the bars of fewer than 2,147,483,648 sales fit, however many tables they are in
+pub all_sums_fit : (width : ℕ) (lists : List (List Sale)) (tables : List (List Bar)) → AreBarsOfEach width lists tables → All IsTraded (all_bars tables)
+    → length (all_sales lists) < 2 ^ 31 → AllSumsFit (all_bars tables)
+all_sums_fit width lists tables are traded few =
+    let at = λ (key : Key). sums_of_traded (under key (all_bars tables)) (All-filter (λ b. has b key) IsTraded (all_bars tables) traded) in
+    let trades = λ (key : Key). sum_trades width key lists tables are in
+    record {
+      volume = λ key. let t = trades key in let s = at key in omega (arith, t, s.0);
+      notional = λ key. let t = trades key in let s = at key in omega (arith, t, s.0, s.1);
+      trades = λ key. let t = trades key in omega (arith, t);
+    }
 
 -- ---- what the text of a bar asks
 

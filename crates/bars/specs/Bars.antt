@@ -2,6 +2,7 @@
 -- To be believed.
 use Rattle.std.specs.Prelude.{◌≡◌, ℕ, ◌+◌, ◌*◌, ◌/◌, ◌==◌, ◌<◌, ◌≤◌, ◌^◌, nat_lt, max, min, Bool, ◌&&◌}
 use Rattle.std.specs.Prelude.{cond, List, [], ◌∷◌, length, Option, Some, None, filter, find, sum_by}
+use Rattle.std.specs.List.{AllZip, flat_map}
 use Rattle.std.specs.Ordering.{nat_cmp, ordering_then}
 use Rattle.std.specs.declared.cmp.Ordering.{Ordering}
 use Rattle.std.specs.List.Sorted.{IsStrictlySortedBy}
@@ -109,3 +110,38 @@ CanJoin a b =
 abbrev pub SumsFit : List Bar → List Bar → Type 0
 SumsFit one other =
     (key : Key) (a b : Bar) → found one key ≡ Some a → found other key ≡ Some b → CanJoin a b
+
+-- ---- many tables made one
+
+-- the bars of one key made one, in the order of the list, with what there was before
+abbrev pub joined_all : Option Bar → List Bar → Option Bar
+joined_all before [] = before
+joined_all before (bar ∷ bars) = joined_all (joined before (Some bar)) bars
+
+-- the bars of a list that have a key
+abbrev pub under : Key → List Bar → List Bar
+under key bars =
+    filter (λ bar. (bar.locate == key.locate) && (bar.start == key.start)) bars
+
+-- the bars of all tables, table by table
+abbrev pub all_bars : List (List Bar) → List Bar
+all_bars tables = flat_map (λ table. table) tables
+
+-- the table has, by rising keys, the bars of a list, those of one key made one
+pub record IsUnionOf (bars table : List Bar) : Type 0 where
+  pub rise : IsByKey table
+  pub each : (key : Key) → found table key ≡ joined_all None (under key bars)
+
+-- the sums of all bars of one key fit into 128 bits, and their numbers of trades into 64
+pub record AllSumsFit (bars : List Bar) : Type 0 where
+  pub volume : (key : Key) → sum_by (λ bar. bar.volume) (under key bars) < 2 ^ 128
+  pub notional : (key : Key) → sum_by (λ bar. bar.notional) (under key bars) < 2 ^ 128
+  pub trades : (key : Key) → sum_by (λ bar. bar.trades) (under key bars) < 2 ^ 64
+
+-- each table is that of the list of sales at its place
+abbrev pub AreBarsOfEach : ℕ → List (List Sale) → List (List Bar) → Type 0
+AreBarsOfEach width lists tables = AllZip (AreBarsOf width) lists tables
+
+-- the sales of all lists, list by list
+abbrev pub all_sales : List (List Sale) → List Sale
+all_sales lists = flat_map (λ sales. sales) lists

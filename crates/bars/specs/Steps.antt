@@ -1,12 +1,13 @@
--- What the steps of making tables compute: the bar of one sale, and two tables in one.
--- Derived: it follows the code; of what it computes, the public contracts say `AreBarsOf` and `IsMergeOf`.
+-- What the steps of making tables compute: the bar of one sale, two tables in one, bars in order.
+-- Derived: it follows the code; of what it computes, the public contracts say `AreBarsOf`, `IsMergeOf` and `IsUnionOf`.
 use Rattle.std.specs.Prelude.{◌≡◌, ℕ, ◌*◌, false, All, List, [], ◌∷◌}
 use Rattle.std.specs.declared.cmp.Ordering.{Ordering}
 use Rattle.std.specs.declared.cmp.Ordering.TheVariants.{Less, Equal, Greater}
 use Rattle.std.specs.Ordering.{is_gt}
+use Rattle.std.specs.List.Sorted.{IsPermutation, IsSorted}
 use Rattle.probe.specs.declared.rows.Sale.{Sale}
 use Rattle.bars.specs.declared.bar.Bar.{Bar}
-use Rattle.bars.specs.Bars.{start_of, key_cmp, joined_bar}
+use Rattle.bars.specs.Bars.{Key, start_of, key_cmp, joined_bar, under}
 
 -- the bar of one sale
 abbrev pub bar_of_one : ℕ → Sale → Bar
@@ -46,3 +47,9 @@ put_before one others (other ∷ table) =
 abbrev pub merged_tables : List Bar → List Bar → List Bar
 merged_tables [] other = other
 merged_tables (one ∷ others) other = put_before one (merged_tables others) other
+
+-- bars in order of their keys, those of one key as they stood before
+pub record IsOrderOf (bars sorted : List Bar) : Type 0 where
+  pub rise : IsSorted key_cmp sorted
+  pub each : (key : Key) → under key sorted ≡ under key bars
+  pub permutation : IsPermutation bars sorted

@@ -3,8 +3,10 @@ ghost use Rattle.std.specs.Prelude.{◌≡◌, ℕ, ◌<◌, ◌≤◌, List, []
 ghost use Rattle.std.specs.Prelude.{All, IfOk, OnErr, OnOk, nat_eq, vec_len};
 ghost use Rattle.std.specs.List.{IsDistinct};
 ghost use Rattle.probe.specs.declared.rows.Sale.{Sale};
-ghost use Rattle.bars.specs.Bars.{AreBarsOf, CanJoin, IsByKey, IsMergeOf, IsTraded, SumsFit};
-ghost use Rattle.bars.specs.Steps.{IsUpTo, merged_tables};
+ghost use Rattle.std.specs.List.Sorted.{IsSorted};
+ghost use Rattle.bars.specs.Bars.{AllSumsFit, AreBarsOf, AreBarsOfEach, IsByKey, IsMergeOf};
+ghost use Rattle.bars.specs.Bars.{IsTraded, IsUnionOf, SumsFit, all_bars, all_sales, key_cmp};
+ghost use Rattle.bars.specs.Steps.{IsOrderOf, IsUpTo, merged_tables};
 
 use crate::OutOfMemory;
 use crate::bar::Bar;
@@ -84,6 +86,29 @@ impl<A: Allocator + Clone> BarTable<A> {
         Ok(BarTable { bars })
     }
 
+    /// One table of the bars of all tables, in memory of `alloc`: those of one locate and start are
+    /// made one. It is refused where there is no memory for them or to sort them.
+    pub fn merge_all<B: Allocator>(
+        alloc: A,
+        tables: &[&BarTable<B>],
+    ) -> Result<BarTable<A>, OutOfMemory>
+        requires sums { AllSumsFit (all_bars (map (λ table. table.now) tables.now)) }
+        ensures union { IfOk result
+            (λ all. IsUnionOf (all_bars (map (λ table. table.now) tables.now)) all) }
+        ensures bars { IfOk result (λ all. (width : ℕ) (lists : List (List Sale)) →
+            AreBarsOfEach width lists (map (λ table. table.now) tables.now) →
+            AreBarsOf width (all_sales lists) all) }
+        ensures traded { IfOk result (λ all. All IsTraded all) }
+    {
+        let mut parts = Vec::new(alloc.clone()?);
+        for table in tables {
+            parts.push(table.items())?;
+        }
+        Ok(BarTable {
+            bars: unite(alloc, parts.as_slice())?,
+        })
+    }
+
     /// Takes in the bars of `other`, those of one locate and start made one. It is refused where
     /// there is no memory for the bars of both, and then leaves the table as it was.
     pub fn merge<B: Allocator>(&mut self, other: &BarTable<B>) -> Result<(), OutOfMemory>
@@ -107,7 +132,7 @@ fn add<A: Allocator>(bars: &mut Vec<Bar, A>, bar: Bar) -> Result<(), OutOfMemory
     requires by_key { IsByKey bars.old.items }
     requires traded { All IsTraded bars.old.items × IsTraded bar }
     requires up_to { IsUpTo bars.old.items bar }
-    requires sums { All (λ kept. CanJoin kept bar) bars.old.items }
+    requires sums { SumsFit bars.old.items (bar ∷ []) }
     ensures merged { OnOk result (bars.new.items ≡ merged_tables bars.old.items (bar ∷ [])) }
     ensures traded { OnOk result (All IsTraded bars.new.items) }
     ensures up_to { OnOk result (IsUpTo bars.new.items bar) }
@@ -157,5 +182,48 @@ fn merge_bars<A: Allocator>(
     }
     bars.extend_from_slice(&one[i..])?;
     bars.extend_from_slice(&other[j..])?;
+    Ok(bars)
+}
+
+/// One list of the bars of all parts, by key, those of one key made one.
+fn unite<A: Allocator + Clone>(alloc: A, parts: &[&[Bar]]) -> Result<Vec<Bar, A>, OutOfMemory>
+    requires traded { All IsTraded (all_bars (map (λ part. part.now) parts.now)) }
+    requires sums { AllSumsFit (all_bars (map (λ part. part.now) parts.now)) }
+    ensures union { IfOk result
+        (λ bars. IsUnionOf (all_bars (map (λ part. part.now) parts.now)) bars.items) }
+    ensures traded { IfOk result (λ bars. All IsTraded bars.items) }
+{
+    let sorted = in_order(alloc.clone()?, parts)?;
+    join_all(alloc, sorted.as_slice())
+}
+
+/// The bars of all parts in order of their keys.
+fn in_order<'a, A: Allocator>(alloc: A, parts: &[&'a [Bar]]) -> Result<Vec<&'a Bar, A>, OutOfMemory>
+    ensures { IfOk result (λ sorted. IsOrderOf (all_bars (map (λ part. part.now) parts.now))
+        (map (λ bar. bar.now) sorted.items)) }
+{
+    let mut bars = Vec::new(alloc);
+    for part in parts {
+        bars.reserve(part.len())?;
+        for bar in *part {
+            bars.push(bar)?;
+        }
+    }
+    bars.sort_by_key(|bar| (bar.locate, bar.start))?;
+    Ok(bars)
+}
+
+/// Sorted bars in one list, those of one key made one.
+fn join_all<A: Allocator>(alloc: A, sorted: &[&Bar]) -> Result<Vec<Bar, A>, OutOfMemory>
+    requires rise { IsSorted key_cmp (map (λ bar. bar.now) sorted.now) }
+    requires traded { All IsTraded (map (λ bar. bar.now) sorted.now) }
+    requires sums { AllSumsFit (map (λ bar. bar.now) sorted.now) }
+    ensures union { IfOk result (λ bars. IsUnionOf (map (λ bar. bar.now) sorted.now) bars.items) }
+    ensures traded { IfOk result (λ bars. All IsTraded bars.items) }
+{
+    let mut bars = Vec::with_capacity(alloc, sorted.len())?;
+    for bar in sorted {
+        add(&mut bars, **bar)?;
+    }
     Ok(bars)
 }

@@ -1,5 +1,5 @@
 ghost use Rattle.std.specs.Prelude.{◌≡◌, ◌++◌, IfOk, map, nat_eq};
-ghost use Rattle.std.specs.List.{IsDistinct};
+ghost use Rattle.std.specs.List.{IsDistinct, flat_map};
 
 use linked_list_allocator::LocalHeap;
 use probe::{Kind, Sale};
@@ -44,6 +44,23 @@ fn listings<'a>(heap: &'a LocalHeap) -> Result<TwoListings<'a>, OutOfMemory>
     Ok((one, other))
 }
 
+fn in_one_vector<'a>(
+    heap: &'a LocalHeap,
+) -> Result<Vec<Listing<&'a LocalHeap>, &'a LocalHeap>, OutOfMemory>
+    ensures { IfOk result (λ both. IsDistinct nat_eq
+        (map (λ sale. sale.place) (flat_map (λ listing. listing) both.items))) }
+{
+    let (one, other) = listings(heap)?;
+    let mut both = Vec::new(heap);
+    both.push(one)?;
+    both.push(other)?;
+    Ok(both)
+}
+
+fn merged_none(heap: &LocalHeap) -> Result<Listing<&LocalHeap>, OutOfMemory> {
+    Listing::merge_all(heap, Vec::new(heap))
+}
+
 fn stands_at<A: Allocator>(listing: &Listing<A>, places: &[u64]) -> bool {
     listing
         .items()
@@ -75,5 +92,26 @@ fn listings_take_in_others_or_stay(rt: HostRuntime) -> Result<(), Fail> {
     assert!(rt; stands_at(&other, &[41, 87, 133]));
     assert!(rt; other.into_vec().len() == 3);
     assert!(rt; Listing::empty(&heap).items().is_empty());
+    Ok(())
+}
+
+#[test]
+fn many_listings_are_merged_or_refused(rt: HostRuntime) -> Result<(), Fail> {
+    let (mut was_refused, mut finished) = (false, false);
+    for step in 1..200 {
+        let heap = LocalHeap::new(rt.alloc(), 16 * step)?;
+        let Ok(both) = in_one_vector(&heap) else {
+            continue;
+        };
+        if let Ok(all) = Listing::merge_all(&heap, both) {
+            assert!(rt; stands_at(&all, &[41, 87, 133]));
+            finished = true;
+            break;
+        }
+        was_refused = true;
+    }
+    assert!(rt; was_refused && finished);
+    let heap = LocalHeap::new(rt.alloc(), 1 << 12)?;
+    assert!(rt; merged_none(&heap)?.items().is_empty());
     Ok(())
 }

@@ -1,5 +1,4 @@
-use Rattle.std.proofs.Common.{arith, rules}
-use Rattle.std.proofs.lemmas.Grind.{common_steps}
+use Rattle.std.proofs.Common.{rules}
 use Rattle.bars.proofs.bar.Bar.of_sale.Goals as goal
 
 pub returns-clause-value : goal.returns-clause-value

@@ -8,7 +8,7 @@ use Rattle.probe.specs.declared.rows.Sale.{Sale}
 use Rattle.bars.specs.Bars.{AreBarsOf}
 use Rattle.bars.specs.Steps.{bar_of_one}
 use Rattle.bars.proofs.Bars.{AreBarsOf-permutation}
-use Rattle.bars.proofs.SumsAreBounded.{can_join_one}
+use Rattle.bars.proofs.SumsAreBounded.{sums_fit_one}
 use Rattle.bars.proofs.LastBar.{AreBarsOf-no_bars, up_to_none, no_bars, sorted_by_time, by_time, told_one_more, next_up_to}
 use Rattle.std.specs.List.Sorted.{IsSortedByKey}
 use Rattle.bars.proofs.table.BarTable.of_sales.Goals as goal
@@ -35,7 +35,7 @@ add-requires-clause-sums g c =
     let start : c.in_ok-sorted.sorted.items ≡ c.args.sales.now = c.in_ok-sorted.ensures.items in
     let count = length_permutation _ _ c.in_ok-sort_by_key.ensures.permutation in
     let taken = length-take-le c.loop-sale.sale-index c.as_slice-sale-items.result.now (omega arith) in
-    can_join_one c.args.width _ c.loop-sale.bars.items c.of_sale.result c.loop-sale.invariant.told c.loop-sale.invariant.traded
+    sums_fit_one c.args.width _ c.loop-sale.bars.items c.of_sale.result c.loop-sale.invariant.told c.loop-sale.invariant.traded
     (omega (arith, count, taken, ap length items, ap length start, c.requires.count)) c.of_sale.ensures.traded (ap (λ b. b.trades) c.of_sale.ensures.value)
 
 pub loop-sale-preserved : goal.loop-sale-preserved
