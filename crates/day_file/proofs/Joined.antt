@@ -3,21 +3,25 @@ use Rattle.std.proofs.Common.{ℕ, ◌+◌, List, [], ◌++◌, length, take, dr
 use Rattle.std.proofs.Math.Seq.{take-add}
 use Rattle.std.proofs.lemmas.List.{length-drop, drop-drop}
 use Rattle.std.proofs.lemmas.List.Elements.{All-append, All-nil}
-use Rattle.day_file.specs.Frames.{IsShort, IsTruncatedAt, IsStuck, IsWhole}
-use Rattle.day_file.proofs.Moved.{AreShort-moved, StandAt-moved, moved, spelling-moved}
+use Rattle.day_file.specs.Frames.{IsShort, IsTruncatedAt, IsStuck, IsWhole, PlacedBody, StandAt, StandsFrom}
+use Rattle.day_file.proofs.Moved.{moved, stands_moved}
 use Rattle.day_file.proofs.Laws.{spelling-append, StandAt-append}
+
+-- frames, and then frames that stand where those end
+pub StandsFrom-append : (start : ℕ) (xs ys : List PlacedBody) (bytes more : List ℕ) → StandsFrom start xs bytes → StandsFrom (start + length bytes) ys more
+    → StandsFrom start (xs ++ ys) (bytes ++ more)
+StandsFrom-append start xs ys bytes more p q = record {
+  places = StandAt-append start xs ys p.places (subst (λ n. StandAt (start + n) ys) (ap length p.whole) q.places);
+  short = All-append (λ frame. IsShort frame.body) xs ys p.short q.short;
+  whole = ap₂ ◌++◌ p.whole q.whole ∙ sym (spelling-append xs ys);
+}
 
 -- whole frames and then whole frames are whole frames
 pub IsWhole-append : (xs ys : List ℕ) → IsWhole xs → IsWhole ys → IsWhole (xs ++ ys)
 IsWhole-append xs ys p q =
-    let more = moved (length xs) q.0 in (
-      p.0 ++ more,
-      record {
-        places = StandAt-append 0 p.0 more p.1.places (StandAt-moved (length xs) 0 _ q.0 (omega (arith, ap length p.1.whole)) q.1.places);
-        short = All-append (λ frame. IsShort frame.body) p.0 more p.1.short (AreShort-moved (length xs) q.0 q.1.short);
-        whole = ap₂ ◌++◌ p.1.whole (q.1.whole ∙ sym (spelling-moved (length xs) q.0)) ∙ sym (spelling-append p.0 more);
-      },
-    )
+    let more = moved (length xs) q.0 in
+    let behind : StandsFrom (0 + length xs) more ys = subst (λ n. StandsFrom n more ys) (omega arith) (stands_moved (length xs) ys q.0 q.1) in
+    (p.0 ++ more, StandsFrom-append 0 p.0 more xs ys p.1 behind)
 
 pub IsWhole-nil : IsWhole []
 IsWhole-nil = ([], record { places = tt; short = All-nil _; whole = refl })

@@ -1,6 +1,7 @@
 -- What a `Cut` keeps of its morsels, as it grows.
 use Rattle.std.proofs.Common.{◌≡◌, ℕ, zero, suc, ◌+◌, ◌<◌, ◌≤◌, List, [], ◌∷◌, ◌++◌, length, take, map, All, get_or, slice_get, Some, refl, sym, ap}
-use Rattle.std.proofs.Common.{◌∙◌, subst, append-nil, arith}
+use Rattle.std.proofs.Common.{◌∙◌, subst, append-nil, arith, Fits, w8}
+use Rattle.std.proofs.lemmas.List.{get_or_default}
 use Rattle.std.specs.List.{concat}
 use Rattle.std.proofs.lemmas.List.{length-append, length-map, map-append}
 use Rattle.std.proofs.lemmas.List.Folds.{concat-append}
@@ -8,11 +9,11 @@ use Rattle.std.proofs.lemmas.Option.{slice_get_read}
 use Rattle.std.proofs.Math.ListN.{get_or-map}
 use Rattle.std.proofs.lemmas.List.Elements.{All-append, All-cons, All-nil}
 use Rattle.lists.specs.declared.limits.TheConstants.{LONGEST_FILE, MOST_MORSELS}
-use Rattle.day_file.specs.Cuts.{IsRun, MorselView, start_of}
+use Rattle.day_file.specs.Cuts.{AreBytes, IsRun, MorselView, start_of}
 use Rattle.day_file.specs.Kept.{runs_of, numbered, AreMorsels}
 
 pub AreMorsels-none : AreMorsels [] 0
-AreMorsels-none = record { numbers = refl; runs = All-nil _; few = omega arith; length_is = refl; within = omega arith }
+AreMorsels-none = record { numbers = refl; runs = All-nil _; bytes = All-nil _; few = omega arith; length_is = refl; within = omega arith }
 
 pub runs_of-append : (xs : List MorselView) (x : MorselView) → runs_of (xs ++ x ∷ []) ≡ runs_of xs ++ x.bytes ∷ []
 runs_of-append xs x = map-append (λ morsel. morsel.bytes) xs (x ∷ [])
@@ -32,10 +33,11 @@ numbered-last number start (first ∷ runs) run =
     ∙ (λ i. numbered (number + 1) (start + length first) runs ++ record { number = a i; start = b i; bytes = run } ∷ []))
 
 -- one morsel more
-pub AreMorsels-more : (morsels : List MorselView) (total : ℕ) (run : List ℕ) → AreMorsels morsels total → IsRun run → length morsels < MOST_MORSELS
+pub AreMorsels-more : (morsels : List MorselView) (total : ℕ) (run : List ℕ) → AreMorsels morsels total → IsRun run → AreBytes run
+    → length morsels < MOST_MORSELS
     → total + length run ≤ LONGEST_FILE
     → AreMorsels (morsels ++ record { number = length morsels; start = total; bytes = run } ∷ []) (total + length run)
-AreMorsels-more morsels total run m r few h =
+AreMorsels-more morsels total run m r are few h =
     let last : MorselView = record { number = length morsels; start = total; bytes = run } in
     let runs = runs_of morsels in
     let grown : runs_of (morsels ++ last ∷ []) ≡ runs ++ run ∷ [] = runs_of-append morsels last in
@@ -46,6 +48,7 @@ AreMorsels-more morsels total run m r few h =
       numbers = ap (λ l. l ++ last ∷ []) m.numbers
           ∙ sym (ap (numbered 0 0) grown ∙ numbered-last 0 0 runs run ∙ (λ i. numbered 0 0 runs ++ record { number = a i; start = b i; bytes = run } ∷ []));
       runs = subst (All IsRun) (sym grown) (All-append IsRun runs (run ∷ []) m.runs (All-cons IsRun run [] r (All-nil _)));
+      bytes = subst (All AreBytes) (sym grown) (All-append AreBytes runs (run ∷ []) m.bytes (All-cons AreBytes run [] are (All-nil _)));
       few = omega (arith, few, length-append morsels (last ∷ []));
       length_is = let joined : concat (runs ++ run ∷ []) ≡ concat runs ++ run = concat-append runs (run ∷ []) ∙ ap (λ l. concat runs ++ l) (append-nil run) in
           omega (arith, m.length_is, ap (λ l. length (concat l)) grown, ap length joined, length-append (concat runs) run);
@@ -91,17 +94,28 @@ module _ {X : Type 0} where
   -- one more was pushed
   pub AreMorsels-pushed : (value : X → MorselView) (items grown : List X) (x : X) (number total size : ℕ) (run : List ℕ) (runs : List (List ℕ))
       → AreMorsels (map value items) total → runs_of (map value items) ≡ runs
-      → grown ≡ items ++ x ∷ [] → value x ≡ record { number = number; start = total; bytes = run } → number ≡ length items → size ≡ length run → IsRun run
+      → grown ≡ items ++ x ∷ [] → value x ≡ record { number = number; start = total; bytes = run } → number ≡ length items → size ≡ length run
+      → IsRun run → AreBytes run
       → length runs < MOST_MORSELS → length (concat runs) + size ≤ LONGEST_FILE → AreMorsels (map value grown) (total + size)
-  AreMorsels-pushed value items grown x number total size run runs m view pushed made n s r few within =
+  AreMorsels-pushed value items grown x number total size run runs m view pushed made n s r are few within =
       let all = map value items in
       let long : length all ≡ length items = length-map items value in
       let same : length (runs_of all) ≡ length all = length-map all (λ morsel. morsel.bytes) in
       let more =
-      AreMorsels-more all total run m r (omega (arith, same, ap length view, few)) (omega (arith, m.length_is, ap (λ l. length (concat l)) view, within, s)) in
+      AreMorsels-more all total run m r are (omega (arith, same, ap length view, few)) (omega (
+        arith,
+        m.length_is,
+        ap (λ l. length (concat l)) view,
+        within,
+        s,
+      )) in
       let k : length all ≡ number = omega (arith, long, n) in
       let last : all ++ record { number = length all; start = total; bytes = run } ∷ [] ≡ map value grown =
       (λ i. all ++ record { number = k i; start = total; bytes = run } ∷ []) ∙ ap (λ v. all ++ v ∷ []) (sym made) ∙ sym (map-append value items (x ∷ []))
       ∙ ap (map value) (sym pushed) in
       subst (λ l. AreMorsels l (total + size)) last
       (subst (λ k. AreMorsels (all ++ record { number = length all; start = total; bytes = run } ∷ []) (total + k)) (sym s) more)
+
+-- what a vector of bytes has
+pub bytes_of_type : (bytes : List ℕ) → ((k : ℕ) → Fits w8 (get_or bytes k 0)) → AreBytes bytes
+bytes_of_type bytes each k d within = omega (arith, each k, get_or_default bytes k d 0 within)

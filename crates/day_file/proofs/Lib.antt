@@ -12,3 +12,5 @@ pub mod OneCut
 pub mod Pieces
 pub mod Readings
 pub mod Walks
+pub mod CutFrames
+pub mod BodyBytes

@@ -5,13 +5,14 @@ use Rattle.std.proofs.Common.{nat_le, if◌then◌else◌}
 use Rattle.std.specs.Option.{option_map_or}
 use Rattle.std.proofs.lemmas.Bool.{eqb-true, leb-true, le-leb}
 use Rattle.std.proofs.lemmas.List.{length-append, take-append-drop, length-take-le, get_or-drop, drop-drop}
-use Rattle.std.proofs.Math.Seq.{drop-length}
+use Rattle.std.proofs.Math.Seq.{drop-length, drop-append_seam, take-append_seam}
 use Rattle.std.proofs.lemmas.List.Elements.{All-cons, All-nil}
 use Rattle.byteorder.specs.Endian.{big_number}
 use Rattle.day_file.specs.Frames.{PlacedBody, frame_of, spelling, StandAt, IsShort, IsStuck, StandsFrom, IsTruncatedAt, IsWhole}
 use Rattle.day_file.specs.Walk.{first_length, left_of, place_if_any, truncated_after, walk}
 use Rattle.day_file.proofs.Moved.{moved, stands_moved}
-use Rattle.day_file.proofs.Readings.{IsReading, IsReading-whole, IsReading-truncated, same_reading, reading_ends, IsStuck-nil, length-spelling, length_told}
+use Rattle.day_file.proofs.Readings.{AreShort, IsReading, IsReading-truncated, head_short, reading_ends, same_reading, tail_short}
+use Rattle.day_file.proofs.Readings.{IsStuck-nil, length-spelling, length_told}
 
 -- ---- the first frame
 
@@ -161,10 +162,26 @@ walk_next place size bytes prefix after body rest two p a told fits b r n =
 
 -- ---- the walk over a whole file
 
-pub walk_whole : (start : ℕ) (bytes : List ℕ) (all : List PlacedBody) → AreBytes bytes → StandsFrom start all bytes → walk (length bytes) start bytes ≡ all
-walk_whole start bytes all b s =
-    let r = walk_reads (length bytes) start bytes (omega arith) b in
-    (same_reading start bytes _ all r.0 [] r.1 (IsReading-whole start bytes all s)).0
+walk_each : (start : ℕ) (all : List PlacedBody) → AreShort all → StandAt start all → walk (length (spelling all)) start (spelling all) ≡ all
+walk_each start [] h p = refl
+walk_each start (x ∷ xs) h p =
+    let size = length x.body in
+    let more = spelling xs in
+    let first : HasFirst (spelling (x ∷ xs)) size = record {
+      told = length_told x.body more (head_short x xs h);
+      prefix = omega arith;
+      body = omega (arith, length-append x.body more);
+    } in
+    let body : take size (x.body ++ more) ≡ x.body = take-append_seam x.body more in
+    let rest : drop size (x.body ++ more) ≡ more = drop-append_seam x.body more in
+    let later : StandAt (start + (2 + size)) xs = subst (λ n. StandAt n xs) (omega arith) p.1 in
+    walk_more start (spelling (x ∷ xs)) size first
+    ∙ (λ i. record { place = start; body = body i } ∷ walk (length (rest i)) (start + (2 + size)) (rest i))
+    ∙ ap₂ ◌∷◌ (λ i. record { place = sym p.0 i; body = x.body }) (walk_each (start + (2 + size)) xs (tail_short x xs h) later)
+
+-- the walk over whole frames comes to each of them
+pub walk_whole : (start : ℕ) (bytes : List ℕ) (all : List PlacedBody) → StandsFrom start all bytes → walk (length bytes) start bytes ≡ all
+walk_whole start bytes all s = ap (λ l. walk (length l) start l) s.whole ∙ walk_each start all s.short s.places
 
 pub walk_truncated : (start : ℕ) (bytes : List ℕ) (count : ℕ) → AreBytes bytes → IsTruncatedAt bytes count
     → StandsFrom start (walk (length bytes) start bytes) (take count bytes)
@@ -196,7 +213,7 @@ walk_ends start bytes b =
     ⊎_elim
     (λ w.
     let all = stands_moved start bytes w.0 w.1 in
-    let spelled : spelling frames ≡ bytes = ap spelling (walk_whole start bytes (moved start w.0) b all) ∙ sym all.whole in
+    let spelled : spelling frames ≡ bytes = ap spelling (walk_whole start bytes (moved start w.0) all) ∙ sym all.whole in
     let none : truncated_after frames start bytes ≡ None =
     ap (λ n. place_if_any (start + n) (drop n bytes)) (ap length spelled) ∙ ap (place_if_any (start + length bytes)) (drop-length bytes) in
     subst Ends (sym none) w)

@@ -1,6 +1,7 @@
 -- A file cut into runs of whole frames.
 -- To be believed.
-use Rattle.std.specs.Prelude.{◌≡◌, ℕ, ◌+◌, ◌-◌, ◌<◌, ◌≤◌, ◌⊎◌, List, [], ◌∷◌, length, take, All}
+use Rattle.std.specs.Prelude.{◌≡◌, ℕ, ◌+◌, ◌-◌, ◌<◌, ◌≤◌, ◌⊎◌, ◌==◌, ◌&&◌, Bool, List, [], ◌∷◌, length, take, All, nat_eq}
+use Rattle.std.specs.Cmp.Lexicographic.{pointwise}
 use Rattle.std.specs.List.{concat}
 use Rattle.day_file.specs.Frames.{IsWhole}
 
@@ -8,6 +9,10 @@ use Rattle.day_file.specs.Frames.{IsWhole}
 pub record IsRun (bytes : List ℕ) : Type 0 where
   pub some : 0 < length bytes
   pub whole : IsWhole bytes
+
+-- each number is a byte
+abbrev pub AreBytes : List ℕ → Type 0
+AreBytes bytes = All (λ byte. byte < 256) bytes
 
 -- runs whose bytes, in order, are these bytes
 pub record IsCutOf (runs : List (List ℕ)) (bytes : List ℕ) : Type 0 where
@@ -59,3 +64,7 @@ pub record MorselView : Type 0 where
   pub number : ℕ
   pub start : ℕ
   pub bytes : List ℕ
+
+-- they have one number, start at one place, and have the same bytes
+abbrev pub is_same_morsel : MorselView → MorselView → Bool
+is_same_morsel a b = (a.number == b.number) && (a.start == b.start) && pointwise nat_eq a.bytes b.bytes

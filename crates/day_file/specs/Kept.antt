@@ -3,7 +3,7 @@
 use Rattle.std.specs.Prelude.{◌≡◌, ℕ, ◌+◌, ◌≤◌, List, [], ◌∷◌, length, map, All}
 use Rattle.std.specs.List.{concat}
 use Rattle.lists.specs.declared.limits.TheConstants.{LONGEST_FILE, MOST_MORSELS}
-use Rattle.day_file.specs.Cuts.{IsRun, MorselView}
+use Rattle.day_file.specs.Cuts.{AreBytes, IsRun, MorselView}
 
 -- the bytes of each morsel
 abbrev pub runs_of : List MorselView → List (List ℕ)
@@ -19,6 +19,7 @@ numbered number start (run ∷ runs) =
 pub record AreMorsels (morsels : List MorselView) (total : ℕ) : Type 0 where
   pub numbers : morsels ≡ numbered 0 0 (runs_of morsels)
   pub runs : All IsRun (runs_of morsels)
+  pub bytes : All AreBytes (runs_of morsels)
   pub few : length morsels ≤ MOST_MORSELS
   pub length_is : total ≡ length (concat (runs_of morsels))
   pub within : total ≤ LONGEST_FILE

@@ -22,7 +22,7 @@ pub use cutter::Cutter;
 pub use cutting::{CutFault, cut, cut_at};
 pub use day::{DayFile, frames};
 pub use frame::{Frame, Frames, append_frame};
-pub use law::{one_cut, one_reading};
+pub use law::{one_cut, one_cut_at, one_reading};
 pub use lists::OutOfMemory;
 pub use lists::limits::{LONGEST_FILE, MOST_MORSELS};
 pub use morsel::Morsel;

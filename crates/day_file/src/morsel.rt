@@ -1,6 +1,9 @@
 ghost use Rattle.std.specs.Prelude.{◌≡◌, ◌≤◌, ◌+◌, None, length, vec_len};
+ghost use Rattle.std.specs.Cmp.Rules.{comparing};
+ghost use Rattle.std.proofs.Common.{rules};
 ghost use Rattle.day_file.specs.Frames.{StandsFrom};
-ghost use Rattle.day_file.specs.Cuts.{IsRun, MorselView};
+ghost use Rattle.day_file.specs.Cuts.{IsRun, MorselView, is_same_morsel};
+ghost use Rattle.day_file.specs.Walk.{frames_of};
 
 use crate::Frames;
 use lists::limits::LONGEST_FILE;
@@ -68,7 +71,23 @@ impl Morsel {
     pub fn frames(&self) -> Frames<'_>
         ensures stand { StandsFrom self.now.start result.frames self.now.bytes }
         ensures whole { result.truncated ≡ None }
+        ensures walked { result.frames ≡ frames_of self.now }
     {
         Frames::of(self.start, &self.bytes)
     }
+}
+
+/// Morsels are equal if they have the same number, start and bytes.
+impl PartialEq for Morsel {
+    ghost eq = { is_same_morsel };
+
+    ghost laws = { Prim.search (comparing, rules) };
+
+    fn eq(&self, other: &Morsel) -> bool {
+        self.number == other.number && self.start == other.start && self.bytes == other.bytes
+    }
+}
+
+impl Eq for Morsel {
+    ghost laws = { Prim.search (comparing, rules) };
 }

@@ -1,7 +1,7 @@
 ghost use Rattle.std.specs.Prelude.{◌≡◌, ◌≤◌, ◌<◌, ◌+◌, ◌++◌, ◌∷◌, [], ℕ, List, length, OnOk, OnErr, IfOk, slice_get, Some, vec_len, All};
 ghost use Rattle.std.specs.List.{concat};
 ghost use Rattle.std.specs.Arc.{arc_value};
-ghost use Rattle.day_file.specs.Cuts.{IsRun, start_of};
+ghost use Rattle.day_file.specs.Cuts.{AreBytes, IsRun, start_of};
 
 use crate::{Morsel, OutOfMemory};
 use lists::limits::{LONGEST_FILE, MOST_MORSELS};
@@ -49,6 +49,7 @@ impl Cut {
         ensures ok { OnOk result (self.new ≡ self.old ++ run.items ∷ []) }
         ensures err { OnErr result (self.new ≡ self.old) }
     {
+        tell_bytes(&run);
         let length = run.len() as u64;
         let morsel = Morsel::of(self.morsels.len() as u32, self.length, run);
         self.morsels.push(Arc::new(alloc, morsel)?)?;
@@ -61,6 +62,7 @@ impl Cut {
         ensures count { result ≡ length self.now }
         ensures few { result ≤ MOST_MORSELS }
         ensures runs { All IsRun self.now }
+        ensures bytes { All AreBytes self.now }
         ensures within { length (concat self.now) ≤ LONGEST_FILE }
     {
         self.morsels.len() as u32
@@ -83,3 +85,8 @@ impl Cut {
         &self.morsels[number as usize]
     }
 }
+
+/// Each number of a slice of bytes is a byte. It does nothing when it runs.
+fn tell_bytes(bytes: &[u8])
+    ensures { AreBytes bytes.now }
+{}

@@ -3,7 +3,7 @@ use Rattle.day_file.proofs.Walks.{walk_ends, walk_truncated, walk_whole, walk_wi
 use Rattle.day_file.proofs.frame.Frames.of.Goals as goal
 
 pub returns-clause-whole : goal.returns-clause-whole
-returns-clause-whole c = λ all s. walk_whole c.args.place c.args.bytes.now all (λ k. let f = c.type_inv.bytes k in omega arith) s
+returns-clause-whole c = λ all s. walk_whole c.args.place c.args.bytes.now all s
 
 pub returns-clause-truncated : goal.returns-clause-truncated
 returns-clause-truncated c = λ count t. walk_truncated c.args.place c.args.bytes.now count (λ k. let f = c.type_inv.bytes k in omega arith) t
