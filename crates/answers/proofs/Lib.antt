@@ -7,6 +7,7 @@ pub mod OneAnswer
 pub mod RowsByPlace
 pub mod RowsOfFrames
 pub mod SelectedSales
+pub mod StampedMessages
 pub mod StampedSales
 pub mod TextsByLine
 pub mod TradesOfRows

@@ -28,7 +28,7 @@ use Rattle.answers.specs.Messages.{Placed, placed_at, messages_of, order_row_at,
 use Rattle.answers.specs.Messages.{own_priced_sales, break_numbers, directory_rows}
 use Rattle.answers.specs.Answers.{trade_at, trades}
 use Rattle.answers.specs.DayRows.{AreByPlace}
-use Rattle.answers.proofs.TradesOfRows.{kept_are_sales, sales_by_place}
+use Rattle.answers.proofs.TradesOfRows.{trades_are_both, trades_by_place}
 
 not_equal : (a b : ℕ) → nat_cmp a b ≡ Less → nat_eq a b ≡ false
 not_equal a b h = grind (arith, nat_tests)
@@ -107,14 +107,20 @@ directory_distinct messages up = distinct_places (λ (row : DirectoryRow). row.p
 flips : (x y : ℕ) → nat_eq x y ≡ nat_eq y x
 flips x y = grind (arith, nat_tests)
 
--- what is kept of the sales has no place twice
+-- what is kept of the sales has no place twice, whatever breaks there are
+pub kept_apart : (breaks : List ℕ) (selection : Sale → Bool) (messages : List Placed) → AreByPlace messages
+    → IsDistinct nat_eq (map (λ sale. sale.place)
+    (kept breaks selection (priced (order_rows messages) (executions messages) ++ own_priced_sales messages)))
+kept_apart breaks selection messages up =
+    IsDistinct-IsPermutation nat_eq flips _ _
+    (IsPermutation-map (λ (s : Sale). s.place) _ _ (IsPermutation-filter (is_kept breaks selection) _ _ (trades_are_both (order_rows messages) messages)))
+    (distinct_places (λ (s : Sale). s.place) (kept breaks selection (trades messages))
+    (IsStrictlySortedBy-filter place_cmp (is_kept breaks selection) (trades messages) (trades_by_place messages up)))
+
 pub kept_distinct : (selection : Sale → Bool) (messages : List Placed) → AreByPlace messages
     → IsDistinct nat_eq (map (λ sale. sale.place)
     (kept (break_numbers messages) selection (priced (order_rows messages) (executions messages) ++ own_priced_sales messages)))
-kept_distinct selection messages up =
-    IsDistinct-IsPermutation nat_eq flips _ _
-    (IsPermutation-map (λ (s : Sale). s.place) _ _ (IsPermutation-sym _ _ (kept_are_sales selection messages)))
-    (distinct_places (λ (s : Sale). s.place) (kept (break_numbers messages) selection (trades messages)) (sales_by_place selection messages up))
+kept_distinct selection messages up = kept_apart (break_numbers messages) selection messages up
 
 -- the messages of frames by place
 pub messages_by_place : (frames : List PlacedBody) → IsStrictlySortedBy (λ a b. nat_cmp a.place b.place) frames → AreByPlace (messages_of frames)

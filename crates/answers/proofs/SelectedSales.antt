@@ -28,8 +28,9 @@ use Rattle.bars.specs.Bars.{AreBarsOf}
 use Rattle.bars.specs.Texts.{bar_line, bars_header, bars_text}
 use Rattle.bars.specs.declared.bar.Bar.{Bar}
 use Rattle.query.specs.Meaning.{Meaning}
-use Rattle.query.specs.Selected.{AreLocatesOf, has_name}
+use Rattle.query.specs.Selected.{has_name}
 use Rattle.query.specs.declared.query.What.TheVariants.{Sales, Bars}
+use Rattle.query.proofs.ListedLocates.{AreLocatesOf}
 use Rattle.answers.specs.Answers.{asks_for, selected_sales}
 use Rattle.answers.specs.Messages.{Placed, order_rows, executions, own_priced_sales, break_numbers, directory_rows}
 use Rattle.answers.specs.DayRows.{AreByPlace, IsStamped}

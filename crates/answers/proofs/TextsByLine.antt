@@ -28,7 +28,7 @@ use Rattle.bars.specs.Bars.{AreBarsOf}
 use Rattle.bars.specs.Texts.{bar_line, bars_header, bars_text}
 use Rattle.bars.specs.declared.bar.Bar.{Bar}
 use Rattle.query.specs.Meaning.{Meaning}
-use Rattle.query.specs.Selected.{AreLocatesOf, has_name}
+use Rattle.query.specs.Selected.{has_name}
 use Rattle.query.specs.declared.query.What.TheVariants.{Sales, Bars}
 
 -- one line more

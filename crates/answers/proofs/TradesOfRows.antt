@@ -70,7 +70,7 @@ sale_keeps_place rows execution sale = go (price_of rows execution)
     go None e = absurd (cc)
     go (Some price) e = let same : sale_at execution price ≡ sale = cc in sym (ap (λ (s : Sale). s.place) same)
 
-own_keeps_place : (place : ℕ) (message : Message) (sale : Sale) → own_priced_at place message ≡ Some sale → sale.place ≡ place
+pub own_keeps_place : (place : ℕ) (message : Message) (sale : Sale) → own_priced_at place message ≡ Some sale → sale.place ≡ place
 own_keeps_place place (Add add) sale e = absurd (cc)
 own_keeps_place place (Executed executed) sale e = absurd (cc)
 own_keeps_place place (ExecutedAt executed) sale e = go (executed.printable == 89) e
@@ -104,13 +104,16 @@ trade_keeps_place rows place (Broken broken) sale e = own_keeps_place place (Bro
 trade_keeps_place rows place (Directory directory) sale e = own_keeps_place place (Directory directory) sale e
 trade_keeps_place rows place Skipped sale e = own_keeps_place place Skipped sale e
 
--- the sales stand by place, since the messages do
+-- the trades stand by place, since the messages do
+pub trades_by_place : (messages : List Placed) → AreByPlace messages → IsStrictlySortedBy place_cmp (trades messages)
+trades_by_place messages up =
+    sorted-filter_map (λ (m : Placed). m.place) (λ (s : Sale). s.place) (λ m. trade_at (order_rows messages) m.place m.message)
+    (λ m sale e. trade_keeps_place (order_rows messages) m.place m.message sale e) messages up
+
+-- so do the sales
 pub sales_by_place : (selection : Sale → Bool) (messages : List Placed) → AreByPlace messages
     → IsStrictlySortedBy place_cmp (kept (break_numbers messages) selection (trades messages))
-sales_by_place selection messages up =
-    IsStrictlySortedBy-filter place_cmp _ (trades messages)
-    (sorted-filter_map (λ (m : Placed). m.place) (λ (s : Sale). s.place) (λ m. trade_at (order_rows messages) m.place m.message)
-    (λ m sale e. trade_keeps_place (order_rows messages) m.place m.message sale e) messages up)
+sales_by_place selection messages up = IsStrictlySortedBy-filter place_cmp _ (trades messages) (trades_by_place messages up)
 
 -- what is kept of the priced executions and the sales with a price of their own is, in some order, the sales
 pub kept_are_sales : (selection : Sale → Bool) (messages : List Placed)

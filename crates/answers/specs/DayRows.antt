@@ -1,6 +1,6 @@
 -- The rows that messages give, of a day or of a part of it, as lists.
 -- Derived: each list is one of Messages, and the answer isn't said by them.
-use Rattle.std.specs.Prelude.{◌≡◌, ℕ, ◌<◌, ◌^◌, List, [], ◌∷◌, ◌++◌, All, Option, option_to_list, if◌then◌else◌}
+use Rattle.std.specs.Prelude.{◌≡◌, ℕ, ◌<◌, ◌^◌, List, [], ◌∷◌, ◌++◌, All, Option, Some, None, option_to_list, if◌then◌else◌}
 use Rattle.std.specs.List.{flat_map}
 use Rattle.std.specs.List.Sorted.{IsStrictlySortedBy}
 use Rattle.std.specs.Ordering.{nat_cmp}
@@ -10,6 +10,8 @@ use Rattle.probe.specs.declared.rows.Execution.{Execution}
 use Rattle.probe.specs.declared.rows.Sale.{Sale}
 use Rattle.time_and_sales.specs.declared.directory.DirectoryRow.{DirectoryRow}
 use Rattle.lists.specs.declared.limits.TheConstants.{TIME_LIMIT}
+use Rattle.answers.specs.declared.row.Row.{Row}
+use Rattle.answers.specs.declared.row.Row.TheVariants as one
 use Rattle.answers.specs.Messages.{
   Placed,
   is_counted,
@@ -52,6 +54,15 @@ only_break trade_no = record { orders = []; executions = []; own_priced = []; br
 
 abbrev pub only_directory_row : DirectoryRow → DayRows
 only_directory_row row = record { orders = []; executions = []; own_priced = []; breaks = []; directory = row ∷ [] }
+
+-- the rows that one row is, if there is one
+abbrev pub told : Option Row → DayRows
+told None = no_rows
+told (Some (one.Order row)) = only_order row
+told (Some (one.Execution row)) = only_execution row
+told (Some (one.Sale row)) = only_sale row
+told (Some (one.Break trade_no)) = only_break trade_no
+told (Some (one.Directory row)) = only_directory_row row
 
 -- what a list of messages gives
 abbrev pub rows_of : List Placed → DayRows

@@ -5,6 +5,7 @@ mod answer;
 mod day_fault;
 mod laws;
 mod moment;
+mod row;
 mod rows;
 mod text;
 mod texts;
@@ -16,6 +17,7 @@ pub use laws::{
 };
 pub use lists::OutOfMemory;
 pub use moment::counts;
+pub use row::{Row, row_of};
 pub use rows::Rows;
 pub use text::Text;
 pub use texts::{text_of_bars, text_of_sales};

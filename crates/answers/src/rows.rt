@@ -1,5 +1,6 @@
-ghost use Rattle.std.specs.Prelude.{◌≡◌, All, OnErr, OnOk};
+ghost use Rattle.std.specs.Prelude.{◌≡◌, All, OnErr, OnOk, Some};
 ghost use Rattle.answers.specs.DayRows.{
+  AreStamped,
   IsStamped,
   counted_rows_at,
   joined,
@@ -10,21 +11,18 @@ ghost use Rattle.answers.specs.DayRows.{
   only_order,
   only_sale,
   rows_at,
+  told,
 };
 
 use crate::OutOfMemory;
 use crate::moment::counts;
-use itch_messages::{
-    Add, Broken, Cross, Directory, Executed, ExecutedAt, Header, Message, Replace, Trade,
-};
+use crate::row::{Row, row_of};
+use itch_messages::Message;
 use order_table::OrderRow;
-use probe::{Execution, Kind, Sale};
+use probe::{Execution, Sale};
 use std::alloc::{Allocator, Global};
 use std::marker::Model;
 use time_and_sales::DirectoryRow;
-
-/// The byte of an execution that is printable.
-const PRINTABLE: u8 = b'Y';
 
 /// What the messages of a day, or of a part of it, give: each list in the order of the messages.
 #[derive(Drop)]
@@ -122,16 +120,9 @@ impl<A: Allocator> Rows<A> {
         ensures added { OnOk result (self.new ≡ joined self.old (rows_at place message.now)) }
         ensures unchanged { OnErr result (self.new ≡ self.old) }
     {
-        match message {
-            Message::Add(add) => self.add_order(place, add),
-            Message::Replace(replace) => self.add_replace(place, replace),
-            Message::Executed(executed) => self.add_executed(place, executed),
-            Message::ExecutedAt(executed) => self.add_executed_at(place, executed),
-            Message::Trade(trade) => self.add_trade(place, trade),
-            Message::Cross(cross) => self.add_cross(place, cross),
-            Message::Broken(broken) => self.add_broken(place, broken),
-            Message::Directory(directory) => self.add_directory(place, directory),
-            Message::Skipped => Ok(()),
+        match row_of(place, message) {
+            Some(row) => self.push(row),
+            None => Ok(()),
         }
     }
 
@@ -154,126 +145,20 @@ impl<A: Allocator> Rows<A> {
         self.add(place, message)
     }
 
-    /// The reference of an order, with or without attribution.
+    /// Adds one row.
     #[inline(always)]
-    fn add_order(&mut self, place: u64, add: &Add) -> Result<(), OutOfMemory>
-        ensures added { OnOk result (self.new ≡ joined self.old (rows_at place (Message.Add add.now))) }
+    fn push(&mut self, row: Row) -> Result<(), OutOfMemory>
+        requires { AreStamped (told (Some row)) }
+        ensures added { OnOk result (self.new ≡ joined self.old (told (Some row))) }
         ensures unchanged { OnErr result (self.new ≡ self.old) }
     {
-        self.push_order(OrderRow {
-            place,
-            order_no: add.order_no,
-            price: add.price,
-        })
-    }
-
-    /// The new reference of an order that replaces another.
-    #[inline(always)]
-    fn add_replace(&mut self, place: u64, replace: &Replace) -> Result<(), OutOfMemory>
-        ensures added { OnOk result (self.new
-            ≡ joined self.old (rows_at place (Message.Replace replace.now))) }
-        ensures unchanged { OnErr result (self.new ≡ self.old) }
-    {
-        self.push_order(OrderRow {
-            place,
-            order_no: replace.new_no,
-            price: replace.price,
-        })
-    }
-
-    /// An execution that its order prices.
-    #[inline(always)]
-    fn add_executed(&mut self, place: u64, executed: &Executed) -> Result<(), OutOfMemory>
-        ensures added { OnOk result (self.new
-            ≡ joined self.old (rows_at place (Message.Executed executed.now))) }
-        ensures unchanged { OnErr result (self.new ≡ self.old) }
-    {
-        self.push_execution(execution(
-            place,
-            executed.header,
-            executed.order_no,
-            executed.shares,
-            executed.trade_no,
-        ))
-    }
-
-    /// An execution with a price, where it is printable.
-    #[inline(always)]
-    fn add_executed_at(&mut self, place: u64, executed: &ExecutedAt) -> Result<(), OutOfMemory>
-        ensures added { OnOk result (self.new
-            ≡ joined self.old (rows_at place (Message.ExecutedAt executed.now))) }
-        ensures unchanged { OnErr result (self.new ≡ self.old) }
-    {
-        if executed.printable != PRINTABLE {
-            return Ok(());
+        match row {
+            Row::Order(row) => self.push_order(row),
+            Row::Execution(row) => self.push_execution(row),
+            Row::Sale(row) => self.push_sale(row),
+            Row::Break(trade_no) => self.push_break(trade_no),
+            Row::Directory(row) => self.push_directory_row(row),
         }
-        self.push_sale(sale(
-            place,
-            executed.header,
-            Kind::C,
-            executed.price,
-            executed.shares.into(),
-            executed.trade_no,
-        ))
-    }
-
-    /// A trade.
-    #[inline(always)]
-    fn add_trade(&mut self, place: u64, trade: &Trade) -> Result<(), OutOfMemory>
-        ensures added { OnOk result (self.new
-            ≡ joined self.old (rows_at place (Message.Trade trade.now))) }
-        ensures unchanged { OnErr result (self.new ≡ self.old) }
-    {
-        self.push_sale(sale(
-            place,
-            trade.header,
-            Kind::P,
-            trade.price,
-            trade.shares.into(),
-            trade.trade_no,
-        ))
-    }
-
-    /// A cross.
-    #[inline(always)]
-    fn add_cross(&mut self, place: u64, cross: &Cross) -> Result<(), OutOfMemory>
-        ensures added { OnOk result (self.new
-            ≡ joined self.old (rows_at place (Message.Cross cross.now))) }
-        ensures unchanged { OnErr result (self.new ≡ self.old) }
-    {
-        self.push_sale(sale(
-            place,
-            cross.header,
-            Kind::Q,
-            cross.price,
-            cross.shares,
-            cross.trade_no,
-        ))
-    }
-
-    /// The match number that a break names.
-    #[inline(always)]
-    fn add_broken(&mut self, place: u64, broken: &Broken) -> Result<(), OutOfMemory>
-        ensures added { OnOk result (self.new
-            ≡ joined self.old (rows_at place (Message.Broken broken.now))) }
-        ensures unchanged { OnErr result (self.new ≡ self.old) }
-    {
-        self.push_break(broken.trade_no)
-    }
-
-    /// A row of the stock directory.
-    #[inline(always)]
-    fn add_directory(&mut self, place: u64, directory: &Directory) -> Result<(), OutOfMemory>
-        ensures added { OnOk result (self.new
-            ≡ joined self.old (rows_at place (Message.Directory directory.now))) }
-        ensures unchanged { OnErr result (self.new ≡ self.old) }
-    {
-        let header = directory.header;
-        self.push_directory_row(DirectoryRow {
-            place,
-            locate: header.locate,
-            stock: directory.stock,
-        })
     }
 
     #[inline(always)]
@@ -321,53 +206,5 @@ impl<A: Allocator> Rows<A> {
     {
         self.directory.push(row)?;
         Ok(())
-    }
-}
-
-/// The execution with this header.
-#[inline(always)]
-fn execution(place: u64, header: Header, order_no: u64, shares: u32, trade_no: u64) -> Execution
-    ensures row { result ≡ record {
-      place = place;
-      time = header.time;
-      locate = header.locate;
-      order_no = order_no;
-      shares = shares;
-      trade_no = trade_no;
-    } }
-    ensures stamped { IsStamped result.time result.locate }
-{
-    Execution {
-        place,
-        time: header.time,
-        locate: header.locate,
-        order_no,
-        shares,
-        trade_no,
-    }
-}
-
-/// The sale with this header.
-#[inline(always)]
-fn sale(place: u64, header: Header, kind: Kind, price: u32, shares: u64, trade_no: u64) -> Sale
-    ensures row { result ≡ record {
-      place = place;
-      time = header.time;
-      locate = header.locate;
-      kind = kind;
-      price = price;
-      shares = shares;
-      trade_no = trade_no;
-    } }
-    ensures stamped { IsStamped result.time result.locate }
-{
-    Sale {
-        place,
-        time: header.time,
-        locate: header.locate,
-        kind,
-        price,
-        shares,
-        trade_no,
     }
 }

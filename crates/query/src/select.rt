@@ -1,9 +1,7 @@
 //! Which sales a query asks for, once the names of the locates are known.
-ghost use Rattle.std.specs.Prelude.{◌≡◌, ◌<◌, ◌^◌, IfOk, None, Some, ℕ};
+ghost use Rattle.std.specs.Prelude.{◌≡◌, IfOk, None};
 ghost use Rattle.std.specs.Result.{IsOk};
-ghost use Rattle.probe.specs.declared.selection.Locates.TheVariants.{All};
-ghost use Rattle.query.specs.Selected.{AreLocatesOf, has_name};
-ghost use Rattle.lists.specs.Among.{is_among};
+ghost use Rattle.query.specs.Selected.{locates_of, selected_locates};
 ghost use Rattle.time_and_sales.specs.Names.{last_row, name_text};
 
 use crate::OutOfMemory;
@@ -22,9 +20,8 @@ pub fn selection<A: Allocator + Clone, B: Allocator, C: Allocator + Clone>(
     query: &Query<B>,
     names: &Names<C>,
 ) -> Result<Selection<A>, OutOfMemory>
-    ensures locates { IfOk result (λ selection.
-        AreLocatesOf query.now.symbols names.now selection.locates) }
-    ensures every { IfOk result (λ selection. query.now.symbols ≡ None → selection.locates ≡ All) }
+    ensures locates { IfOk result (λ selection. selection.locates
+        ≡ locates_of query.now.symbols (λ locate. name_text locate (last_row names.now locate))) }
     ensures memory { query.now.symbols ≡ None → IsOk result }
     ensures span { IfOk result (λ selection. selection.span ≡ query.now.span) }
     ensures kinds { IfOk result (λ selection. selection.kinds ≡ query.now.kinds) }
@@ -43,14 +40,13 @@ pub fn selection<A: Allocator + Clone, B: Allocator, C: Allocator + Clone>(
 // How many locates there are.
 const LOCATES: u32 = 65_536;
 
-#[tactic(auto, using(crate::proofs::ListedLocates::listing))]
 fn listed<A: Allocator + Clone, B: Allocator, C: Allocator + Clone>(
     alloc: A,
     symbols: &Symbols<B>,
     names: &Names<C>,
 ) -> Result<Vec<u16, A>, OutOfMemory>
-    ensures { IfOk result (λ rows. (locate : ℕ) → locate < 2 ^ 16 → is_among rows.items locate
-        ≡ has_name (Some symbols.now) (name_text locate (last_row names.now locate))) }
+    ensures { IfOk result (λ rows. rows.items
+        ≡ selected_locates symbols.now (λ locate. name_text locate (last_row names.now locate))) }
 {
     let sorted = SortedSymbols::of(alloc.clone()?, symbols)?;
     let mut rows = Vec::new(alloc);

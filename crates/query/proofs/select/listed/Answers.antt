@@ -1,9 +1,8 @@
-use Rattle.std.proofs.Common.{◌≡◌, ◌∙◌, ℕ, ap, arith, sym}
+use Rattle.std.proofs.Common.{◌≡◌, ◌∙◌, ◌++◌, ◌∷◌, [], ℕ, ap, arith, sym}
 use Rattle.std.specs.Prelude.{Some}
 use Rattle.time_and_sales.specs.Names.{last_row, name_text}
-use Rattle.lists.specs.Among.{is_among}
 use Rattle.query.specs.Selected.{has_name}
-use Rattle.query.proofs.ListedLocates.{all_listed, listed_less, listed_more, same_symbols}
+use Rattle.query.proofs.ListedLocates.{all_selected, passing_less, passing_more, same_symbols}
 use Rattle.query.proofs.select.listed.Goals as goal
 use Rattle.query.proofs.select.listed.Goals.{then-hold+in_ok-push, else-hold}
 
@@ -16,14 +15,14 @@ loop-number-preserved g c =
     let same : c.hold.result ≡ test number = same_symbols c.args.symbols.now c.in_ok-sorted.sorted c.items.result.now (text number) c.hold.result
     c.in_ok-sorted.ensures name c.hold.ensures in
     elim c.if-hold.branch [
-      | then-hold+in_ok-push w ↦ λ k.
-          ap (λ rows. is_among rows.items k) w.rows-is ∙ ap (λ l. is_among l k) w.in_ok-push.ensures.items
-          ∙ listed_more c.loop-number.rows.items number test c.loop-number.invariant (sym same ∙ w.if-hold.true) k
-      | else-hold w ↦ λ k.
-          ap (λ rows. is_among rows.items k) w.rows-is
-          ∙ listed_less c.loop-number.rows.items number test c.loop-number.invariant (sym same ∙ w.if-hold.false) k
+      | then-hold+in_ok-push w ↦
+          ap (λ rows. rows.items) w.rows-is ∙ w.in_ok-push.ensures.items ∙ ap (λ rows. rows ++ number ∷ []) c.loop-number.invariant
+          ∙ sym (passing_more test number (sym same ∙ w.if-hold.true))
+      | else-hold w ↦
+          ap (λ rows. rows.items) w.rows-is ∙ c.loop-number.invariant ∙ sym (passing_less test number (sym same ∙ w.if-hold.false))
     ]
 
 pub returns : goal.returns
-returns g c = λ locate below.
-    all_listed c.loop-number.rows.items c.loop-number.number _ c.loop-number.invariant locate (omega (arith, below, c.loop-number-test.false))
+returns g c =
+    all_selected c.args.symbols.now (λ (locate : ℕ). name_text locate (last_row c.args.names.now locate)) c.loop-number.number c.loop-number.rows.items
+    c.loop-number.invariant (omega (arith, c.loop-number-test.false))

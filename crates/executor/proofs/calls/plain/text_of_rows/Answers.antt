@@ -3,6 +3,7 @@ use Rattle.lists.specs.declared.limits.TheConstants.{TRADE_LIMIT}
 use Rattle.time_and_sales.specs.Names.{IsNamesOf, last_row, name_text}
 use Rattle.probe.specs.Pricing.{priced}
 use Rattle.probe.specs.Selection.{admits}
+use Rattle.query.proofs.ListedLocates.{AreLocatesOf-selected}
 use Rattle.answers.specs.DayRows.{DayRows}
 use Rattle.answers.specs.Messages.{directory_rows, executions, order_rows}
 use Rattle.answers.proofs.AnswerOfSteps.{text_answers, text_asked}
@@ -44,8 +45,9 @@ returns-clause-text g c messages up are =
     let names : IsNamesOf (directory_rows messages) c.in_ok-names.names =
     subst (λ rows. IsNamesOf rows c.in_ok-names.names) (c.directory.ensures ∙ ap (λ (r : DayRows). r.directory) are) c.in_ok-names.ensures in
     let listing = selected messages c.args.query.now c.in_ok-names.names c.in_ok-selection.selection c.into_breaks.result.items c.in_ok-trades.trades.items
-    c.list-listing.result up is c.in_ok-trades.ensures.stamped names c.in_ok-selection.ensures.locates c.in_ok-selection.ensures.span
-    c.in_ok-selection.ensures.kinds c.list-listing.ensures.by_place c.list-listing.ensures.permutation in
+    c.list-listing.result up is c.in_ok-trades.ensures.stamped names
+    (AreLocatesOf-selected c.args.query.now.symbols c.in_ok-names.names c.in_ok-selection.selection.locates c.in_ok-selection.ensures.locates)
+    c.in_ok-selection.ensures.span c.in_ok-selection.ensures.kinds c.list-listing.ensures.by_place c.list-listing.ensures.permutation in
     let faultless : HaveNoFault (order_rows messages) (executions messages) =
     subst (λ (r : DayRows). HaveNoFault r.orders r.executions) are c.in_ok-trades.ensures.faultless in
     text_answers messages c.args.query.now c.in_ok-text_of.field-0 faultless.0 faultless.1
