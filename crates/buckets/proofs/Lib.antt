@@ -1,0 +1,4 @@
+pub mod ProductsOfSales
+pub mod OneBucketMore
+pub mod RowsOfParts
+pub mod RowsApart

@@ -1,0 +1,34 @@
+-- Rows of messages by place: no place stands twice in a list of them or in what is kept of their trades, and those are few.
+use Rattle.std.proofs.Common.{ℕ, ◌<◌, Bool, List, length, map, nat_eq, arith}
+use Rattle.std.specs.List.{IsDistinct}
+use Rattle.std.proofs.lemmas.List.{length-append}
+use Rattle.lists.specs.declared.limits.TheConstants.{TRADE_LIMIT}
+use Rattle.order_table.specs.declared.row.OrderRow.{OrderRow}
+use Rattle.probe.specs.Pricing.{priced}
+use Rattle.probe.specs.declared.rows.Execution.{Execution}
+use Rattle.probe.specs.declared.rows.Sale.{Sale}
+use Rattle.probe.proofs.KeptSales.{length-kept}
+use Rattle.probe.proofs.PricedSales.{length-priced}
+use Rattle.answers.proofs.RowsByPlace.{executions_distinct, kept_apart, orders_distinct}
+use Rattle.morsel_rows.specs.Partitions.{AreRowsByPlace, PartitionView}
+use Rattle.buckets.specs.FoundRows.{sales_in, trades_in}
+
+module _ (rows : PartitionView) (are : AreRowsByPlace rows) where
+  pub orders_apart : IsDistinct nat_eq (map (λ (row : OrderRow). row.place) rows.orders)
+  orders_apart = rw are.orders (orders_distinct are.messages are.by_place)
+
+  pub executions_apart : IsDistinct nat_eq (map (λ (execution : Execution). execution.place) rows.executions)
+  executions_apart = rw are.executions (executions_distinct are.messages are.by_place)
+
+  pub sales_apart : (breaks : List ℕ) (selection : Sale → Bool) → IsDistinct nat_eq (map (λ (sale : Sale). sale.place) (sales_in breaks selection rows))
+  sales_apart breaks selection = rw (are.orders, are.executions, are.own_priced) (kept_apart breaks selection are.messages are.by_place)
+
+  pub few_sales : (breaks : List ℕ) (selection : Sale → Bool) → length (sales_in breaks selection rows) < TRADE_LIMIT
+  few_sales breaks selection =
+      omega (
+        arith,
+        length-kept breaks selection (trades_in rows),
+        length-append (priced rows.orders rows.executions) rows.own_priced,
+        length-priced rows.orders rows.executions,
+        are.few,
+      )

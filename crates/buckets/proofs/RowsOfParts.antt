@@ -1,0 +1,67 @@
+-- The rows of the partitions of morsels, with those of one morsel more.
+use Rattle.std.proofs.Common.{◌≡◌, ℕ, ◌+◌, ◌<◌, ◌≤◌, List, [], ◌∷◌, ◌++◌, Some, Bor, flat_map, get_or, length, map, take, sym, ap, ap₂, ◌∙◌}
+use Rattle.std.specs.Arc.{arc_value}
+use Rattle.std.specs.List.{slice_get}
+use Rattle.std.specs.declared.alloc.Global.{Global}
+use Rattle.std.specs.declared.sync.Arc.{Arc}
+use Rattle.std.proofs.lemmas.List.{append-nil, get_or_past, take_more}
+use Rattle.std.proofs.lemmas.List.Concat.{flat_map-append}
+use Rattle.std.proofs.lemmas.Option.{get_or_from_slice_get}
+use Rattle.lists.proofs.Lists.{map_more}
+use Rattle.morsel_rows.specs.Partitions.{MorselRowsView, PartitionView, joined_partitions, no_rows_in, partition_at}
+use Rattle.buckets.specs.BucketRows.{rows_at, rows_of_parts}
+
+-- rows, and others after them
+with_rows : PartitionView → PartitionView → PartitionView
+with_rows rows more = record {
+  orders = rows.orders ++ more.orders;
+  executions = rows.executions ++ more.executions;
+  own_priced = rows.own_priced ++ more.own_priced;
+}
+
+same_rows : {one other : PartitionView} → one.orders ≡ other.orders → one.executions ≡ other.executions → one.own_priced ≡ other.own_priced → one ≡ other
+same_rows orders executions own_priced = λ i. record { orders = orders i; executions = executions i; own_priced = own_priced i }
+
+one_more : {X Y : Type 0} (f : X → List Y) (xs : List X) (x : X) → flat_map f (xs ++ x ∷ []) ≡ flat_map f xs ++ f x
+one_more f xs x = flat_map-append f xs (x ∷ []) ∙ ap (λ l. flat_map f xs ++ l) (append-nil (f x))
+
+joined_more : (parts : List PartitionView) (part : PartitionView) → joined_partitions (parts ++ part ∷ []) ≡ with_rows (joined_partitions parts) part
+unfolding with_rows
+joined_more parts part =
+    same_rows
+    (one_more (λ (rows : PartitionView). rows.orders) parts part)
+    (one_more (λ (rows : PartitionView). rows.executions) parts part)
+    (one_more (λ (rows : PartitionView). rows.own_priced) parts part)
+
+joined_none : (rows : PartitionView) → with_rows rows no_rows_in ≡ rows
+unfolding with_rows
+joined_none rows = same_rows (append-nil rows.orders) (append-nil rows.executions) (append-nil rows.own_priced)
+
+-- ---- the partition of one morsel more
+
+module _ (number i : ℕ) (morsels : List (Arc MorselRowsView Global)) (d : Arc MorselRowsView Global) (within : i < length morsels) where
+  morsel_more : joined_partitions (rows_at number (take (i + 1) morsels))
+      ≡ with_rows (joined_partitions (rows_at number (take i morsels))) (partition_at number (arc_value (get_or morsels i d)))
+  morsel_more =
+      let at : Arc MorselRowsView Global → PartitionView = λ morsel. partition_at number (arc_value morsel) in
+      ap (λ l. joined_partitions (map at l)) (take_more morsels i d within)
+      ∙ ap joined_partitions (map_more at (take i morsels) (get_or morsels i d))
+      ∙ joined_more (rows_at number (take i morsels)) (at (get_or morsels i d))
+
+  -- it has one of the number
+  pub part_more : (parts new : List (Bor PartitionView)) (part : Bor PartitionView) → rows_of_parts parts ≡ joined_partitions (rows_at number (take i morsels))
+      → new ≡ parts ++ part ∷ [] → slice_get (arc_value (get_or morsels i d)).partitions number ≡ Some part.now
+      → rows_of_parts new ≡ joined_partitions (rows_at number (take (i + 1) morsels))
+  part_more parts new part before pushed there =
+      let now : Bor PartitionView → PartitionView = λ p. p.now in
+      ap (λ l. joined_partitions (map now l)) pushed ∙ ap joined_partitions (map_more now parts part) ∙ joined_more (map now parts) part.now
+      ∙ ap₂ with_rows before (sym (get_or_from_slice_get (arc_value (get_or morsels i d)).partitions number part.now no_rows_in there)) ∙ sym morsel_more
+
+  -- it has none
+  pub part_missing : (parts : List (Bor PartitionView)) → rows_of_parts parts ≡ joined_partitions (rows_at number (take i morsels))
+      → length (arc_value (get_or morsels i d)).partitions ≤ number → rows_of_parts parts ≡ joined_partitions (rows_at number (take (i + 1) morsels))
+  part_missing parts before past =
+      before
+      ∙ sym (morsel_more
+      ∙ ap (with_rows (joined_partitions (rows_at number (take i morsels)))) (get_or_past (arc_value (get_or morsels i d)).partitions number no_rows_in past)
+      ∙ joined_none (joined_partitions (rows_at number (take i morsels))))

@@ -1,0 +1,41 @@
+-- A bucket: the rows of one partition, morsel by morsel, and what is asked of them.
+-- Derived: the answer isn't said by buckets.
+use Rattle.std.specs.Prelude.{ℕ, List, map}
+use Rattle.std.specs.Arc.{arc_value}
+use Rattle.std.specs.Borrow.{Bor}
+use Rattle.std.specs.declared.alloc.Global.{Global}
+use Rattle.std.specs.declared.sync.Arc.{Arc}
+use Rattle.probe.specs.declared.selection.Selection.{Selection}
+use Rattle.query.specs.declared.query.What.{What}
+use Rattle.morsel_rows.specs.Partitions.{MorselRowsView, PartitionView, joined_partitions, partition_at}
+use Rattle.buckets.specs.declared.plan.Plan.{Plan}
+
+-- what contracts see of a bucket
+pub record BucketView : Type 0 where
+  pub number : ℕ
+  -- those of its partition, morsel by morsel
+  pub rows : List PartitionView
+  pub breaks : List ℕ
+  pub selection : Selection Global
+  pub what : What
+
+-- the rows of the partition of this number, morsel by morsel
+abbrev pub rows_at : ℕ → List (Arc MorselRowsView Global) → List PartitionView
+rows_at number morsels = map (λ morsel. partition_at number (arc_value morsel)) morsels
+
+abbrev pub planned_rows : ℕ → Plan → List PartitionView
+planned_rows number plan = rows_at number plan.rows.items
+
+-- the bucket of this number
+abbrev pub bucket_of : ℕ → Plan → BucketView
+bucket_of number plan = record {
+  number = number;
+  rows = planned_rows number plan;
+  breaks = plan.breaks;
+  selection = plan.selection;
+  what = plan.what;
+}
+
+-- the rows of borrowed partitions, one after the other
+abbrev pub rows_of_parts : List (Bor PartitionView) → PartitionView
+rows_of_parts parts = joined_partitions (map (λ part. part.now) parts)

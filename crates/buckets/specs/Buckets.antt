@@ -1,0 +1,77 @@
+-- What is found in buckets, which may be worked on together, and which are equal.
+-- Derived: the answer isn't said by buckets.
+use Rattle.std.specs.Prelude.{◌≡◌, Bool, true, ◌==◌, ◌&&◌, List, All, length, map, nat_eq}
+use Rattle.std.specs.Cmp.{IsEquivalence}
+use Rattle.std.specs.Cmp.Lexicographic.{lists_equiv, pointwise, same_text}
+use Rattle.std.proofs.Common.{ap, sym}
+use Rattle.std.proofs.lemmas.Cmp.{and_equiv, nat_eq_equiv, nat_list_eq_equiv}
+use Rattle.gathering.specs.Adding.{same_inputs}
+use Rattle.gathering.proofs.EqualInputs.{map_alike}
+use Rattle.lists.specs.Least.{numbers_below}
+use Rattle.probe.specs.Selection.{admits}
+use Rattle.query.specs.declared.query.What.{What}
+use Rattle.morsel_rows.specs.Partitions.{joined_partitions}
+use Rattle.morsel_rows.specs.SameRows.{is_same_partition, partition_equiv, same_partition}
+use Rattle.buckets.specs.BucketRows.{BucketView}
+use Rattle.buckets.specs.FoundRows.{FoundView, TotalView, all_found, found_of}
+use Rattle.buckets.specs.SameQuestions.{
+  and_left,
+  and_right,
+  is_same_selection,
+  is_same_what,
+  same_lists,
+  same_selection,
+  same_what,
+  selection_equiv,
+  through,
+  what_equiv,
+}
+
+-- the value of a bucket
+abbrev pub found : BucketView → FoundView
+found bucket = found_of bucket.what bucket.breaks (admits bucket.selection) (joined_partitions bucket.rows)
+
+-- the total of buckets
+abbrev pub total_found : List BucketView → TotalView
+total_found buckets = all_found (map found buckets)
+
+-- buckets that may be worked on together: numbered from 0 in order, and of one query
+pub record AreNumbered (buckets : List BucketView) : Type 0 where
+  pub numbers : map (λ bucket. bucket.number) buckets ≡ numbers_below (length buckets)
+  pub what : What
+  pub one : All (λ bucket. bucket.what ≡ what) buckets
+
+-- the same number, the same rows morsel by morsel, and the same asked of them
+abbrev pub is_same_bucket : BucketView → BucketView → Bool
+is_same_bucket a b =
+    (a.number == b.number)
+    && (pointwise is_same_partition a.rows b.rows
+    && (pointwise nat_eq a.breaks b.breaks
+    && (is_same_selection a.selection b.selection && is_same_what a.what b.what)))
+
+-- ---- the laws of a work
+
+-- equal buckets have one value
+pub same_found : (a b : BucketView) → is_same_bucket a b ≡ true → found a ≡ found b
+same_found a b same =
+    let h2 = and_right _ _ same in
+    let h3 = and_right _ _ h2 in
+    let h4 = and_right _ _ h3 in
+    let rows = same_lists is_same_partition same_partition a.rows b.rows (and_left _ _ h2) in
+    let breaks : a.breaks ≡ b.breaks = same_text _ _ (sym (and_left _ _ h3)) in
+    let selection = same_selection a.selection b.selection (and_left _ _ h4) in
+    let what = same_what a.what b.what (and_right _ _ h4) in
+    λ i. found_of (what i) (breaks i) (admits (selection i)) (joined_partitions (rows i))
+
+-- lists of equal buckets have one total
+pub same_total_found : (xs ys : List BucketView) → same_inputs is_same_bucket xs ys ≡ true
+    → total_found xs ≡ total_found ys
+same_total_found xs ys same = ap all_found (map_alike is_same_bucket found same_found xs ys same)
+
+pub bucket_equiv : IsEquivalence is_same_bucket
+bucket_equiv =
+    and_equiv (through (λ (a : BucketView). a.number) nat_eq_equiv)
+    (and_equiv (through (λ (a : BucketView). a.rows) (lists_equiv partition_equiv))
+    (and_equiv (through (λ (a : BucketView). a.breaks) nat_list_eq_equiv)
+    (and_equiv (through (λ (a : BucketView). a.selection) selection_equiv)
+    (through (λ (a : BucketView). a.what) what_equiv))))

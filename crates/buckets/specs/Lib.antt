@@ -1,0 +1,5 @@
+pub mod Products
+pub mod FoundRows
+pub mod SameQuestions
+pub mod BucketRows
+pub mod Buckets

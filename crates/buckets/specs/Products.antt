@@ -1,0 +1,31 @@
+-- What is made of sales: a listing by place, or a table of bars.
+-- Derived: a work's value is a function, so one listing and one table are written here; the answer isn't said by them.
+use Rattle.std.specs.Prelude.{ℕ, nat_lt, List, [], ◌∷◌, if◌then◌else◌}
+use Rattle.probe.specs.declared.rows.Sale.{Sale}
+use Rattle.bars.specs.Steps.{bar_of_one, merged_tables}
+use Rattle.bars.specs.declared.bar.Bar.{Bar}
+use Rattle.query.specs.declared.query.What.{What}
+use Rattle.query.specs.declared.query.What.TheVariants.{Sales, Bars}
+use Rattle.buckets.specs.declared.product.Product.{Product}
+use Rattle.buckets.specs.declared.product.Product.TheVariants.{Listed, Tabled}
+
+-- a sale put before the first of greater place
+abbrev pub put_by_place : Sale → List Sale → List Sale
+put_by_place sale [] = sale ∷ []
+put_by_place sale (first ∷ rest) =
+    if nat_lt sale.place first.place then sale ∷ first ∷ rest else first ∷ put_by_place sale rest
+
+-- the sales by place
+abbrev pub by_place : List Sale → List Sale
+by_place [] = []
+by_place (sale ∷ sales) = put_by_place sale (by_place sales)
+
+-- the table of the sales
+abbrev pub bars_of : ℕ → List Sale → List Bar
+bars_of width [] = []
+bars_of width (sale ∷ sales) = merged_tables (bar_of_one width sale ∷ []) (bars_of width sales)
+
+-- what a query lists of sales
+abbrev pub product_of : What → List Sale → Product
+product_of Sales sales = Listed (by_place sales)
+product_of (Bars width) sales = Tabled (bars_of width sales)

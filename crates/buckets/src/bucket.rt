@@ -1,0 +1,102 @@
+//! A bucket.
+ghost use Rattle.std.specs.Prelude.{◌≡◌, IfOk};
+ghost use Rattle.std.specs.Arc.{arc_value};
+ghost use Rattle.std.specs.Cmp.{partial_equiv_from_equiv};
+ghost use Rattle.query.specs.Meaning.{HasWidth};
+ghost use Rattle.morsel_rows.specs.Partitions.{AreRowsByPlace, joined_partitions};
+ghost use Rattle.buckets.specs.BucketRows.{bucket_of, planned_rows, rows_of_parts};
+ghost use Rattle.buckets.specs.Buckets.{bucket_equiv, is_same_bucket};
+
+use crate::OutOfMemory;
+use crate::plan::Plan;
+use crate::questions::{same_selection, same_what};
+use crate::rows::{parts_of, same_rows};
+use broken_trades::Breaks;
+use morsel_rows::Partition;
+use probe::Selection;
+use query::What;
+use std::alloc::Global;
+use std::marker::Model;
+use std::sync::Arc;
+
+/// The rows of one partition, in all morsels, and what is asked of them. Contracts see them as
+/// plain data.
+#[derive(Drop)]
+pub struct Bucket {
+    number: u32,
+    plan: Arc<Plan, Global>,
+}
+
+impl Model for Bucket {
+    ghost use Rattle.std.specs.Arc.{arc_value};
+    ghost use Rattle.query.specs.Meaning.{HasWidth};
+    ghost use Rattle.morsel_rows.specs.Partitions.{AreRowsByPlace, joined_partitions};
+    ghost use Rattle.buckets.specs.BucketRows.{BucketView, bucket_of, planned_rows};
+
+    ghost Value = { BucketView };
+
+    ghost view = { λ bucket. bucket_of bucket.number (arc_value bucket.plan) };
+
+    ghost invariant = { λ bucket.
+        AreRowsByPlace (joined_partitions (planned_rows bucket.number (arc_value bucket.plan)))
+        × HasWidth (arc_value bucket.plan).what };
+}
+
+impl Bucket {
+    /// The bucket of the partition of this number.
+    pub fn of(number: u32, plan: Arc<Plan, Global>) -> Bucket
+        requires rows { AreRowsByPlace (joined_partitions (planned_rows number (arc_value plan))) }
+        requires width { HasWidth (arc_value plan).what }
+        ensures { result ≡ bucket_of number (arc_value plan) }
+    {
+        Bucket { number, plan }
+    }
+
+    /// Its partition in each morsel that has one of its number, in the order of the file.
+    pub(crate) fn parts(&self, alloc: Global) -> Result<Vec<&Partition>, OutOfMemory>
+        ensures rows { IfOk result (λ parts. rows_of_parts parts.items ≡ joined_partitions self.now.rows) }
+        ensures by_place { IfOk result (λ parts. AreRowsByPlace (rows_of_parts parts.items)) }
+    {
+        parts_of(alloc, self.number, self.plan.rows.as_slice())
+    }
+
+    /// The breaks of the whole day.
+    pub(crate) fn breaks(&self) -> &Breaks
+        ensures { result.now ≡ self.now.breaks }
+    {
+        &self.plan.breaks
+    }
+
+    /// Which sales are asked for.
+    pub(crate) fn selection(&self) -> &Selection
+        ensures { result.now ≡ self.now.selection }
+    {
+        &self.plan.selection
+    }
+
+    /// What is listed of them.
+    pub(crate) fn what(&self) -> What
+        ensures what { result ≡ self.now.what }
+        ensures width { HasWidth result }
+    {
+        self.plan.what
+    }
+}
+
+impl PartialEq for Bucket {
+    ghost eq = { is_same_bucket };
+
+    ghost laws = { partial_equiv_from_equiv bucket_equiv };
+
+    fn eq(&self, other: &Bucket) -> bool {
+        self.number == other.number
+            && same_rows(self.number, &self.plan.rows, &other.plan.rows)
+            && self.plan.breaks == other.plan.breaks
+            && same_selection(&self.plan.selection, &other.plan.selection)
+            && same_what(self.plan.what, other.plan.what)
+    }
+}
+
+impl Eq for Bucket {
+    ghost laws = { bucket_equiv };
+}

@@ -1,0 +1,23 @@
+//! Buckets: of all rows of a day those of one partition, and what is found in them.
+//!
+//! An execution and the orders of its reference are in one partition, so each bucket prices its
+//! own executions. What is found in it is a fault, or what a query lists of its sales; what is found
+//! in all buckets is kept bucket by bucket, and merged by whoever takes the total.
+#![tactic(auto)]
+
+mod bucket;
+mod found;
+mod making;
+mod plan;
+mod product;
+mod questions;
+mod rows;
+mod trading;
+mod work;
+
+pub use bucket::Bucket;
+pub use found::{BucketTotal, Found};
+pub use lists::OutOfMemory;
+pub use plan::Plan;
+pub use product::Product;
+pub use work::BucketWork;

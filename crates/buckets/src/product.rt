@@ -1,0 +1,13 @@
+//! A listing or a table of bars.
+
+use bars::BarTable;
+use time_and_sales::Listing;
+
+/// What a query lists of some sales: a listing, or a table of bars.
+#[derive(Drop)]
+pub enum Product {
+    /// The sales by place.
+    Listed(Listing),
+    /// Their bars.
+    Tabled(BarTable),
+}

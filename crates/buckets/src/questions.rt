@@ -1,0 +1,53 @@
+//! Equality of what is asked of sales.
+ghost use Rattle.std.specs.Prelude.{◌≡◌};
+ghost use Rattle.buckets.specs.SameQuestions.{are_same_kinds, are_same_locates, is_same_bool};
+ghost use Rattle.buckets.specs.SameQuestions.{is_same_selection, is_same_span, is_same_what};
+
+use probe::{Kinds, Locates, Selection, Span};
+use query::What;
+
+pub(crate) fn same_what(a: What, b: What) -> bool
+    ensures { result ≡ is_same_what a b }
+{
+    a == b
+}
+
+fn same_locates(a: &Locates, b: &Locates) -> bool
+    ensures { result ≡ are_same_locates a.now b.now }
+{
+    match (a, b) {
+        (Locates::All, Locates::All) => true,
+        (Locates::Listed(one), Locates::Listed(other)) => *one.items() == *other.items(),
+        _ => false,
+    }
+}
+
+fn same_span(a: Option<Span>, b: Option<Span>) -> bool
+    ensures { result ≡ is_same_span a b }
+{
+    match (a, b) {
+        (None, None) => true,
+        (Some(one), Some(other)) => one.since == other.since && one.until == other.until,
+        _ => false,
+    }
+}
+
+fn same_bool(a: bool, b: bool) -> bool
+    ensures { result ≡ is_same_bool a b }
+{
+    if a { b } else { !b }
+}
+
+fn same_kinds(a: Kinds, b: Kinds) -> bool
+    ensures { result ≡ are_same_kinds a b }
+{
+    same_bool(a.e, b.e) && same_bool(a.c, b.c) && same_bool(a.p, b.p) && same_bool(a.q, b.q)
+}
+
+pub(crate) fn same_selection(a: &Selection, b: &Selection) -> bool
+    ensures { result ≡ is_same_selection a.now b.now }
+{
+    same_locates(&a.locates, &b.locates)
+        && same_span(a.span, b.span)
+        && same_kinds(a.kinds, b.kinds)
+}

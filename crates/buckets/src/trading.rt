@@ -1,0 +1,114 @@
+//! The sales of partitions.
+ghost use Rattle.std.specs.Prelude.{◌≡◌, ◌++◌, IfOk, OnOk, List, map, nat_eq, option_map};
+ghost use Rattle.std.specs.List.{IsDistinct};
+ghost use Rattle.order_table.specs.Orders.{IsTableOf, first_repeated, repeated_of};
+ghost use Rattle.order_table.specs.declared.row.OrderRow.{OrderRow as TheRow};
+ghost use Rattle.probe.specs.Pricing.{first_unknown, priced, unknown_of};
+ghost use Rattle.morsel_rows.specs.Partitions.{AreRowsByPlace};
+ghost use Rattle.buckets.specs.BucketRows.{rows_of_parts};
+ghost use Rattle.buckets.specs.FoundRows.{repeated_in, trades_in, unknown_in};
+
+use crate::OutOfMemory;
+use morsel_rows::Partition;
+use order_table::{Built, OrderRow, OrderTable, Repeated};
+use probe::{Execution, Priced, Sale, Unknown, price_all};
+use std::alloc::Global;
+
+/// The trades of some rows, and the first rows that are at fault.
+#[derive(Drop)]
+pub(crate) struct Traded {
+    pub(crate) repeated: Option<Repeated>,
+    pub(crate) unknown: Option<Unknown>,
+    pub(crate) sales: Vec<Sale>,
+}
+
+/// Prices the executions of the partitions by their orders, and adds the sales that have a price of
+/// their own.
+pub(crate) fn trade(alloc: Global, parts: &[&Partition]) -> Result<Traded, OutOfMemory>
+    requires { AreRowsByPlace (rows_of_parts parts.now) }
+    ensures repeated { IfOk result (λ traded. traded.repeated ≡ repeated_in (rows_of_parts parts.now)) }
+    ensures unknown { IfOk result (λ traded. traded.unknown ≡ unknown_in (rows_of_parts parts.now)) }
+    ensures sales { IfOk result (λ traded. traded.sales.items ≡ trades_in (rows_of_parts parts.now)) }
+{
+    let Built { table, repeated } = table_of(alloc, parts)?;
+    let Priced { mut sales, unknown } = price(alloc, &table, parts)?;
+    add_own_priced(&mut sales, parts)?;
+    Ok(Traded {
+        repeated,
+        unknown,
+        sales,
+    })
+}
+
+/// The table of the partitions' orders.
+fn table_of(alloc: Global, parts: &[&Partition]) -> Result<Built, OutOfMemory>
+    requires { IsDistinct nat_eq (map (λ row. row.place) (rows_of_parts parts.now).orders) }
+    ensures table { IfOk result (λ built. IsTableOf (rows_of_parts parts.now).orders built.table) }
+    ensures repeated { IfOk result (λ built. built.repeated ≡ repeated_in (rows_of_parts parts.now)) }
+{
+    let orders = orders_of(alloc, parts)?;
+    OrderTable::build(alloc, orders.as_slice())
+}
+
+/// The sales of the partitions' executions.
+fn price(alloc: Global, table: &OrderTable, parts: &[&Partition]) -> Result<Priced, OutOfMemory>
+    requires { IsDistinct nat_eq (map (λ execution. execution.place) (rows_of_parts parts.now).executions) }
+    ensures sales { IfOk result (λ outcome. (rows : List TheRow) → IsTableOf rows table.now →
+        outcome.sales.items ≡ priced rows (rows_of_parts parts.now).executions) }
+    ensures unknown { IfOk result (λ outcome. (rows : List TheRow) → IsTableOf rows table.now →
+        outcome.unknown ≡ option_map unknown_of (first_unknown rows (rows_of_parts parts.now).executions)) }
+{
+    let executions = executions_of(alloc, parts)?;
+    price_all(alloc, table, executions.as_slice())
+}
+
+/// Adds the sales of the partitions that have a price of their own.
+fn add_own_priced(sales: &mut Vec<Sale>, parts: &[&Partition]) -> Result<(), OutOfMemory>
+    ensures { OnOk result
+        (sales.new.items ≡ sales.old.items ++ (rows_of_parts parts.now).own_priced) }
+{
+    for part in parts {
+        sales.extend_from_slice(part.own_priced())?;
+    }
+    Ok(())
+}
+
+/// The order rows of the partitions, in memory that is taken once.
+fn orders_of(alloc: Global, parts: &[&Partition]) -> Result<Vec<OrderRow>, OutOfMemory>
+    ensures { IfOk result (λ rows. rows.items ≡ (rows_of_parts parts.now).orders) }
+{
+    let mut rows = Vec::with_capacity(alloc, count_orders(parts))?;
+    for part in parts {
+        part.orders().append_to(&mut rows)?;
+    }
+    Ok(rows)
+}
+
+/// How many order rows the partitions have, for room for them to be made.
+fn count_orders(parts: &[&Partition]) -> usize {
+    let mut count = 0usize;
+    for part in parts {
+        count = count.saturating_add(part.orders().len());
+    }
+    count
+}
+
+/// The executions of the partitions, in memory that is taken once.
+fn executions_of(alloc: Global, parts: &[&Partition]) -> Result<Vec<Execution>, OutOfMemory>
+    ensures { IfOk result (λ rows. rows.items ≡ (rows_of_parts parts.now).executions) }
+{
+    let mut rows = Vec::with_capacity(alloc, count_executions(parts))?;
+    for part in parts {
+        rows.extend_from_slice(part.executions())?;
+    }
+    Ok(rows)
+}
+
+/// How many executions the partitions have, for room for them to be made.
+fn count_executions(parts: &[&Partition]) -> usize {
+    let mut count = 0usize;
+    for part in parts {
+        count = count.saturating_add(part.executions().len());
+    }
+    count
+}

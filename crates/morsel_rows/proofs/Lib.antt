@@ -1,0 +1,3 @@
+pub mod JoinedPartitions
+pub mod MessagesOfPartition
+pub mod JoinedInPartitions

@@ -1,0 +1,14 @@
+use Rattle.std.proofs.Common.{◌≡◌, ◌%◌, ◌∙◌, ap, length}
+use Rattle.std.proofs.lemmas.Result.{on_ok_weaker}
+use Rattle.morsel_rows.proofs.JoinedInPartitions.{execution_joins}
+use Rattle.morsel_rows.proofs.rows.MorselRows.push_execution.Goals as goal
+
+pub returns-clause-added : goal.returns-clause-added
+returns-clause-added g c =
+    let fields = c.self.inside in
+    let number_is : c.partition-number.result ≡ c.args.row.order_no % length fields.partitions.items =
+    c.partition-number.ensures ∙ ap (λ n. c.args.row.order_no % n) (c.len.ensures ∙ fields.partitions.ok.0) in
+    rw (← c.self.view_is) (on_ok_weaker c.push_execution.result
+    (λ next_is. execution_joins c.args.row fields.partitions.items fields.breaks.items fields.directory.items c.partition-number.result
+    c.index_mut-part.result.now c.push_execution.new.self number_is c.index_mut-part.ensures.value next_is)
+    c.push_execution.ensures.added)

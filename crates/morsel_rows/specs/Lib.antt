@@ -1,0 +1,4 @@
+pub mod Partitions
+pub mod NarrowRows
+pub mod MoreRows
+pub mod SameRows

@@ -1,0 +1,37 @@
+-- One row more.
+-- Derived: the answer isn't said by partitions.
+use Rattle.std.specs.Prelude.{◌≡◌, ℕ, ◌<◌, ◌≤◌, [], ◌∷◌, ◌++◌}
+use Rattle.lists.specs.declared.limits.TheConstants.{MOST_PARTITIONS}
+use Rattle.order_table.specs.declared.row.OrderRow.{OrderRow}
+use Rattle.probe.specs.declared.rows.Execution.{Execution}
+use Rattle.probe.specs.declared.rows.Sale.{Sale}
+use Rattle.answers.specs.DayRows.{DayRows, joined}
+use Rattle.morsel_rows.specs.Partitions.{MorselRowsView, PartitionView, in_partitions}
+
+-- a partition with one row more at its end, of each kind
+abbrev pub with_order : OrderRow → PartitionView → PartitionView
+with_order row rows = record {
+  orders = rows.orders ++ row ∷ [];
+  executions = rows.executions;
+  own_priced = rows.own_priced;
+}
+
+abbrev pub with_execution : Execution → PartitionView → PartitionView
+with_execution row rows = record {
+  orders = rows.orders;
+  executions = rows.executions ++ row ∷ [];
+  own_priced = rows.own_priced;
+}
+
+abbrev pub with_sale : Sale → PartitionView → PartitionView
+with_sale row rows = record {
+  orders = rows.orders;
+  executions = rows.executions;
+  own_priced = rows.own_priced ++ row ∷ [];
+}
+
+-- where the old rows are some in n partitions, the new are those and others after them, in n partitions
+abbrev pub BecomesJoined : DayRows → MorselRowsView → MorselRowsView → Type 0
+BecomesJoined more old new =
+    (n : ℕ) (rows : DayRows) → 0 < n → n ≤ MOST_PARTITIONS →
+    old ≡ in_partitions n rows → new ≡ in_partitions n (joined rows more)

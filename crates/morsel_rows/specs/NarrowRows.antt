@@ -1,0 +1,9 @@
+-- An order row in narrow memory.
+-- Derived: callers see a list of order rows.
+use Rattle.std.specs.Prelude.{ℕ, ◌+◌}
+use Rattle.order_table.specs.declared.row.OrderRow.{OrderRow}
+use Rattle.morsel_rows.specs.declared.orders.Narrow.{Narrow}
+
+-- the row with its place
+abbrev pub widened : ℕ → Narrow → OrderRow
+widened start row = record { place = start + row.offset; order_no = row.order_no; price = row.price }

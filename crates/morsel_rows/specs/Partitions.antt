@@ -1,0 +1,66 @@
+-- The rows of messages in partitions: by order references, and sales that have a price of their own by places.
+-- Derived: the answer isn't said by partitions.
+use Rattle.std.specs.Prelude.{◌≡◌, ℕ, ◌<◌, ◌+◌, List, [], map, length, slice_index_or}
+use Rattle.std.specs.List.{flat_map}
+use Rattle.lists.specs.Least.{numbers_below, part}
+use Rattle.lists.specs.declared.limits.TheConstants.{TRADE_LIMIT}
+use Rattle.order_table.specs.declared.row.OrderRow.{OrderRow}
+use Rattle.probe.specs.declared.rows.Execution.{Execution}
+use Rattle.probe.specs.declared.rows.Sale.{Sale}
+use Rattle.time_and_sales.specs.declared.directory.DirectoryRow.{DirectoryRow}
+use Rattle.answers.specs.DayRows.{AreByPlace, DayRows}
+use Rattle.answers.specs.Messages.{Placed, executions, order_rows, own_priced_sales}
+
+-- the rows of one partition, each list in the order of places
+pub record PartitionView : Type 0 where
+  pub orders : List OrderRow
+  pub executions : List Execution
+  pub own_priced : List Sale
+
+-- no rows
+abbrev pub no_rows_in : PartitionView
+no_rows_in = record { orders = []; executions = []; own_priced = [] }
+
+-- partition b of n: orders and executions by their references modulo n, sales by their places modulo n
+abbrev pub partition_of : ℕ → DayRows → ℕ → PartitionView
+partition_of n rows b = record {
+  orders = part n (λ row. row.order_no) rows.orders b;
+  executions = part n (λ execution. execution.order_no) rows.executions b;
+  own_priced = part n (λ sale. sale.place) rows.own_priced b;
+}
+
+-- the rows of a morsel: those of orders and trades in partitions, and all breaks and directory rows
+pub record MorselRowsView : Type 0 where
+  pub partitions : List PartitionView
+  pub breaks : List ℕ
+  pub directory : List DirectoryRow
+
+-- rows in n partitions
+abbrev pub in_partitions : ℕ → DayRows → MorselRowsView
+in_partitions n rows = record {
+  partitions = map (partition_of n rows) (numbers_below n);
+  breaks = rows.breaks;
+  directory = rows.directory;
+}
+
+-- the partition of this number; no rows where there is none
+abbrev pub partition_at : ℕ → MorselRowsView → PartitionView
+partition_at b rows = slice_index_or rows.partitions b no_rows_in
+
+-- the rows of partitions, one after the other
+abbrev pub joined_partitions : List PartitionView → PartitionView
+joined_partitions parts = record {
+  orders = flat_map (λ rows. rows.orders) parts;
+  executions = flat_map (λ rows. rows.executions) parts;
+  own_priced = flat_map (λ rows. rows.own_priced) parts;
+}
+
+-- they are the rows of some messages, by place: no place stands twice in a list, and there are fewer trades than a file
+-- has room for
+pub record AreRowsByPlace (rows : PartitionView) : Type 0 where
+  pub messages : List Placed
+  pub by_place : AreByPlace messages
+  pub orders : rows.orders ≡ order_rows messages
+  pub executions : rows.executions ≡ executions messages
+  pub own_priced : rows.own_priced ≡ own_priced_sales messages
+  pub few : length rows.executions + length rows.own_priced < TRADE_LIMIT

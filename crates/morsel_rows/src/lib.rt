@@ -1,0 +1,14 @@
+//! The rows of one morsel of a day file, in partitions.
+//!
+//! Orders and executions stand in the partition of their reference, sales that have a price of their
+//! own in that of their place; breaks and directory rows are few, and stand together.
+#![tactic(auto)]
+
+mod orders;
+mod partition;
+mod rows;
+
+pub use lists::OutOfMemory;
+pub use orders::OrderList;
+pub use partition::Partition;
+pub use rows::MorselRows;

@@ -1,0 +1,169 @@
+//! Order rows in narrow memory.
+ghost use Rattle.std.specs.Prelude.{◌≡◌, ◌+◌, ◌^◌, ◌<◌, ◌≤◌, [], ◌∷◌, ◌++◌, length, map};
+ghost use Rattle.std.specs.Prelude.{OnErr, OnOk, slice_index_or, vec_capacity, vec_len};
+ghost use Rattle.std.specs.Cmp.{partial_equiv_from_equiv};
+ghost use Rattle.std.specs.Cmp.Lexicographic.{pointwise};
+ghost use Rattle.morsel_rows.specs.NarrowRows.{widened};
+ghost use Rattle.morsel_rows.specs.SameRows.{is_same_order, orders_equiv};
+
+use crate::OutOfMemory;
+use order_table::OrderRow;
+use std::alloc::{Allocator, Global};
+use std::marker::Model;
+
+/// How far a narrow row's place may lie past the first, in bytes.
+const RANGE: u64 = 1 << 32;
+
+/// The last place that a list of narrow rows starts at, so that none of their places is past the last
+/// number.
+const LAST_START: u64 = u64::MAX - (RANGE - 1);
+
+/// An order row in 16 bytes. Its place is `offset` bytes past the start of its list.
+#[derive(Clone, Copy, Debug)]
+struct Narrow {
+    order_no: u64,
+    price: u32,
+    offset: u32,
+}
+
+/// Order rows, in the order in which they were pushed.
+///
+/// A row takes 16 bytes as long as each place lies less than 4 GiB past that of the first row, which
+/// is so in a morsel. The first row that lies before it or farther, and all that follow, take 24.
+#[derive(Drop)]
+pub struct OrderList<A: Allocator = Global> {
+    /// The place of the first narrow row.
+    start: u64,
+    narrow: Vec<Narrow, A>,
+    /// The first row that isn't narrow, and all that follow it.
+    wide: Vec<OrderRow, A>,
+}
+
+impl<A: Allocator> Model for OrderList<A> {
+    ghost use Rattle.std.specs.Prelude.{List, ◌++◌, ◌+◌, ◌^◌, ◌≤◌, map};
+    ghost use Rattle.order_table.specs.declared.row.OrderRow.{OrderRow};
+    ghost use Rattle.morsel_rows.specs.NarrowRows.{widened};
+
+    ghost Value = { List OrderRow };
+
+    ghost view = { λ list. map (widened list.start) list.narrow.items ++ list.wide.items };
+
+    ghost invariant = { λ list. list.start + 2 ^ 32 ≤ 2 ^ 64 };
+}
+
+impl<A: Allocator + Copy> OrderList<A> {
+    /// No rows. It takes no memory.
+    pub fn new(alloc: A) -> Self
+        ensures { result ≡ [] }
+    {
+        OrderList {
+            start: 0,
+            narrow: Vec::new(alloc),
+            wide: Vec::new(alloc),
+        }
+    }
+}
+
+impl<A: Allocator> OrderList<A> {
+    /// Adds a row at the end. Where there is no memory for it, the list stays as it was.
+    #[inline(always)]
+    pub fn push(&mut self, row: OrderRow) -> Result<(), OutOfMemory>
+        ensures added { OnOk result (self.new ≡ self.old ++ row ∷ []) }
+        ensures unchanged { OnErr result (self.new ≡ self.old) }
+    {
+        if self.narrow.is_empty() && row.place <= LAST_START {
+            self.start = row.place;
+        }
+        if self.wide.is_empty() && self.start <= row.place && row.place - self.start < RANGE {
+            self.narrow.push(Narrow {
+                order_no: row.order_no,
+                price: row.price,
+                offset: (row.place - self.start) as u32,
+            })?;
+        } else {
+            self.wide.push(row)?;
+        }
+        Ok(())
+    }
+
+    /// How many rows there are.
+    #[inline(always)]
+    pub fn len(&self) -> usize
+        ensures { result ≡ length self.now }
+    {
+        self.narrow.len() + self.wide.len()
+    }
+
+    /// Adds the rows to a vector. Where there is no memory for them, the vector stays as it was.
+    pub fn append_to<B: Allocator>(&self, out: &mut Vec<OrderRow, B>) -> Result<(), OutOfMemory>
+        ensures appended { OnOk result (out.new.items ≡ out.old.items ++ self.now) }
+        ensures unchanged { OnErr result (out.new.items ≡ out.old.items) }
+    {
+        out.try_reserve(self.len())?;
+        push_widened(self.start, &self.narrow, out);
+        out.extend_from_slice(&self.wide)?;
+        Ok(())
+    }
+
+    /// The row at this index.
+    #[inline(always)]
+    fn at(&self, index: usize) -> OrderRow
+        requires { index < length self.now }
+        ensures { result ≡ slice_index_or self.now index result }
+    {
+        if index < self.narrow.len() {
+            widen(self.start, self.narrow[index])
+        } else {
+            self.wide[index - self.narrow.len()]
+        }
+    }
+}
+
+/// The row with its place.
+#[inline(always)]
+fn widen(start: u64, row: Narrow) -> OrderRow
+    requires { start + 2 ^ 32 ≤ 2 ^ 64 }
+    ensures { result ≡ widened start row }
+{
+    OrderRow {
+        place: start + u64::from(row.offset),
+        order_no: row.order_no,
+        price: row.price,
+    }
+}
+
+/// Adds narrow rows, with their places, to a vector that has room for them.
+fn push_widened<B: Allocator>(start: u64, rows: &[Narrow], out: &mut Vec<OrderRow, B>)
+    requires start { start + 2 ^ 32 ≤ 2 ^ 64 }
+    requires room { vec_len out.old + length rows.now ≤ vec_capacity out.old }
+    ensures items { out.new.items ≡ out.old.items ++ map (widened start) rows.now }
+    ensures len { vec_len out.new ≡ vec_len out.old + length rows.now }
+    ensures capacity { vec_capacity out.new ≡ vec_capacity out.old }
+{
+    for row in rows {
+        out.push_reserved(widen(start, *row));
+    }
+}
+
+/// Lists are equal if they have the same rows in the same order.
+impl<A: Allocator> PartialEq for OrderList<A> {
+    ghost eq = { pointwise is_same_order };
+
+    ghost laws = { partial_equiv_from_equiv orders_equiv };
+
+    fn eq(&self, other: &OrderList<A>) -> bool {
+        if self.len() != other.len() {
+            return false;
+        }
+        for index in 0..self.len() {
+            if self.at(index) != other.at(index) {
+                return false;
+            }
+        }
+        true
+    }
+}
+
+impl<A: Allocator> Eq for OrderList<A> {
+    ghost laws = { orders_equiv };
+}

@@ -1,0 +1,119 @@
+//! The rows of one partition.
+ghost use Rattle.std.specs.Prelude.{◌≡◌, OnErr, OnOk};
+ghost use Rattle.std.specs.Cmp.{partial_equiv_from_equiv};
+ghost use Rattle.morsel_rows.specs.MoreRows.{with_execution, with_order, with_sale};
+ghost use Rattle.morsel_rows.specs.Partitions.{no_rows_in};
+ghost use Rattle.morsel_rows.specs.SameRows.{is_same_partition, partition_equiv};
+
+use crate::OutOfMemory;
+use crate::orders::OrderList;
+use order_table::OrderRow;
+use probe::{Execution, Sale};
+use std::alloc::{Allocator, Global};
+use std::marker::Model;
+
+/// The rows of one partition, each list in the order of the messages that gave them.
+#[derive(Drop)]
+pub struct Partition<A: Allocator = Global> {
+    orders: OrderList<A>,
+    executions: Vec<Execution, A>,
+    own_priced: Vec<Sale, A>,
+}
+
+impl<A: Allocator> Model for Partition<A> {
+    ghost use Rattle.morsel_rows.specs.Partitions.{PartitionView};
+
+    ghost Value = { PartitionView };
+
+    ghost view = { λ partition. record {
+      orders = partition.orders;
+      executions = partition.executions.items;
+      own_priced = partition.own_priced.items;
+    } };
+}
+
+impl<A: Allocator + Copy> Partition<A> {
+    /// No rows. It takes no memory.
+    pub(crate) fn new(alloc: A) -> Self
+        ensures { result ≡ no_rows_in }
+    {
+        Partition {
+            orders: OrderList::new(alloc),
+            executions: Vec::new(alloc),
+            own_priced: Vec::new(alloc),
+        }
+    }
+}
+
+impl<A: Allocator> Partition<A> {
+    /// The order reference numbers that are given, with their prices.
+    #[inline(always)]
+    pub fn orders(&self) -> &OrderList<A>
+        ensures { result.now ≡ self.now.orders }
+    {
+        &self.orders
+    }
+
+    /// The executions that their orders price.
+    #[inline(always)]
+    pub fn executions(&self) -> &[Execution]
+        ensures { result.now ≡ self.now.executions }
+    {
+        self.executions.as_slice()
+    }
+
+    /// The sales that have a price of their own: printable executions with a price, trades and
+    /// crosses.
+    #[inline(always)]
+    pub fn own_priced(&self) -> &[Sale]
+        ensures { result.now ≡ self.now.own_priced }
+    {
+        self.own_priced.as_slice()
+    }
+
+    /// Adds an order reference. Where there is no memory for it, the partition stays as it was.
+    #[inline(always)]
+    pub(crate) fn push_order(&mut self, row: OrderRow) -> Result<(), OutOfMemory>
+        ensures added { OnOk result (self.new ≡ with_order row self.old) }
+        ensures unchanged { OnErr result (self.new ≡ self.old) }
+    {
+        self.orders.push(row)
+    }
+
+    /// Adds an execution. Where there is no memory for it, the partition stays as it was.
+    #[inline(always)]
+    pub(crate) fn push_execution(&mut self, row: Execution) -> Result<(), OutOfMemory>
+        ensures added { OnOk result (self.new ≡ with_execution row self.old) }
+        ensures unchanged { OnErr result (self.new ≡ self.old) }
+    {
+        self.executions.push(row)?;
+        Ok(())
+    }
+
+    /// Adds a sale. Where there is no memory for it, the partition stays as it was.
+    #[inline(always)]
+    pub(crate) fn push_sale(&mut self, row: Sale) -> Result<(), OutOfMemory>
+        ensures added { OnOk result (self.new ≡ with_sale row self.old) }
+        ensures unchanged { OnErr result (self.new ≡ self.old) }
+    {
+        self.own_priced.push(row)?;
+        Ok(())
+    }
+}
+
+/// Partitions are equal if they have the same rows in the same order.
+impl<A: Allocator> PartialEq for Partition<A> {
+    ghost eq = { is_same_partition };
+
+    ghost laws = { partial_equiv_from_equiv partition_equiv };
+
+    fn eq(&self, other: &Partition<A>) -> bool {
+        self.orders == other.orders
+            && self.executions == other.executions
+            && self.own_priced == other.own_priced
+    }
+}
+
+impl<A: Allocator> Eq for Partition<A> {
+    ghost laws = { partition_equiv };
+}

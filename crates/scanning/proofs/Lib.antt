@@ -1,0 +1,2 @@
+pub mod ScanOfFrames
+pub mod TotalOfScans

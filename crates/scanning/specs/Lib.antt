@@ -1,0 +1,2 @@
+pub mod EqualScans
+pub mod Scans

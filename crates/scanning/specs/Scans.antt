@@ -1,0 +1,91 @@
+-- What is found in a morsel, and in the morsels of one cut.
+-- Derived: the answer isn't said by morsels.
+use Rattle.std.specs.Prelude.{◌≡◌, ℕ, ◌<◌, ◌≤◌, ◌==◌, ◌&&◌, Bool, List, [], ◌∷◌, ◌++◌, All, length, map, nat_eq, Option, Some, None, filter_map}
+use Rattle.std.specs.Prelude.{option_to_list, if◌then◌else◌}
+use Rattle.std.specs.List.{concat}
+use Rattle.std.specs.Option.{option_eq}
+use Rattle.lists.specs.Least.{least_by}
+use Rattle.lists.specs.declared.limits.TheConstants.{LONGEST_FILE}
+use Rattle.itch_messages.specs.Body.{has_wrong_length, length_fault_of}
+use Rattle.day_file.specs.Cuts.{IsRun, MorselView, is_same_morsel}
+use Rattle.day_file.specs.Frames.{PlacedBody}
+use Rattle.day_file.specs.Kept.{numbered}
+use Rattle.day_file.specs.Walk.{frames_of}
+use Rattle.answers.specs.DayRows.{rows_of}
+use Rattle.answers.specs.Messages.{counted, messages_of}
+use Rattle.morsel_rows.specs.Partitions.{MorselRowsView, in_partitions}
+use Rattle.scanning.specs.declared.wrong.WrongLength.{WrongLength}
+
+-- a morsel, the moment up to which its messages count, and the number of partitions
+pub record ScanInputView : Type 0 where
+  pub morsel : MorselView
+  pub as_of : Option ℕ
+  pub parts : ℕ
+
+-- they have equal morsels, one moment or both none, and one number of partitions
+abbrev pub is_same_input : ScanInputView → ScanInputView → Bool
+is_same_input a b = is_same_morsel a.morsel b.morsel && option_eq nat_eq a.as_of b.as_of && (a.parts == b.parts)
+
+-- ---- what is found in one morsel
+
+-- what is told of a frame of a wrong length
+abbrev pub wrong_at : PlacedBody → Option WrongLength
+wrong_at frame =
+    if has_wrong_length frame.body
+    then Some (record { place = frame.place; fault = length_fault_of frame.body })
+    else None
+
+-- the one of least place of what is told of frames
+abbrev pub wrong_in : List PlacedBody → Option WrongLength
+wrong_in frames = least_by (λ wrong. wrong.place) (filter_map wrong_at frames)
+
+-- rows in partitions, and the least wrong length
+pub record ScanView : Type 0 where
+  pub rows : MorselRowsView
+  pub wrong : Option WrongLength
+
+-- what frames give: the rows of their messages that count, in n partitions
+abbrev pub scan_of : ℕ → Option ℕ → List PlacedBody → ScanView
+scan_of n as_of frames = record {
+  rows = in_partitions n (rows_of (counted as_of (messages_of frames)));
+  wrong = wrong_in frames;
+}
+
+-- the value of an input
+abbrev pub scanned : ScanInputView → ScanView
+scanned input = scan_of input.parts input.as_of (frames_of input.morsel)
+
+-- ---- what is found in morsels
+
+-- the rows of each morsel, and the least wrong length of all
+pub record ScanTotalView : Type 0 where
+  pub morsels : List MorselRowsView
+  pub wrong : Option WrongLength
+
+-- the total of no morsels
+abbrev pub no_scans : ScanTotalView
+no_scans = record { morsels = []; wrong = None }
+
+-- a total, and what one morsel more gives
+abbrev pub with_scan : ScanTotalView → ScanView → ScanTotalView
+with_scan total scan = record {
+  morsels = total.morsels ++ scan.rows ∷ [];
+  wrong = least_by (λ wrong. wrong.place) (option_to_list total.wrong ++ option_to_list scan.wrong);
+}
+
+-- the total of inputs
+abbrev pub total_of : List ScanInputView → ScanTotalView
+total_of inputs = record {
+  morsels = map (λ input. (scanned input).rows) inputs;
+  wrong = least_by (λ wrong. wrong.place) (filter_map (λ input. (scanned input).wrong) inputs);
+}
+
+-- they are the morsels of one cut, in order, with one moment and one number of partitions
+pub record AreOfOneCut (inputs : List ScanInputView) : Type 0 where
+  pub runs : List (List ℕ)
+  pub each : All IsRun runs
+  pub within : length (concat runs) ≤ LONGEST_FILE
+  pub as_of : Option ℕ
+  pub parts : ℕ
+  pub some : 0 < parts
+  pub are : inputs ≡ map (λ morsel. record { morsel = morsel; as_of = as_of; parts = parts }) (numbered 0 0 runs)

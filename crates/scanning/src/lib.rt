@@ -1,0 +1,16 @@
+//! The first step of a query in morsels: what the counted messages of each morsel give, in
+//! partitions, and the least wrong length. Morsels are scanned in any order, on any thread.
+#![tactic(auto)]
+
+mod input;
+mod output;
+mod total;
+mod work;
+mod wrong;
+
+pub use input::ScanInput;
+pub use lists::OutOfMemory;
+pub use output::Scanned;
+pub use total::ScanTotal;
+pub use work::ScanWork;
+pub use wrong::WrongLength;

@@ -1,0 +1,61 @@
+//! The work whose tasks are the scans of morsels.
+ghost use Rattle.std.specs.Prelude.{◌≡◌};
+ghost use Rattle.scanning.specs.Scans.{AreOfOneCut, scanned, total_of};
+ghost use Rattle.scanning.specs.EqualScans.{equal_scans, equal_totals};
+
+use crate::OutOfMemory;
+use crate::input::ScanInput;
+use crate::output::Scanned;
+use crate::total::ScanTotal;
+use crate::wrong::{WrongLength, earlier};
+use gathering::Work;
+use itch_messages::read;
+use morsel_rows::MorselRows;
+use std::alloc::Global;
+
+/// Scans morsels. The morsels of one cut may be scanned, with one moment and one number of
+/// partitions.
+#[derive(Drop)]
+pub struct ScanWork;
+
+impl Work for ScanWork {
+    type Input = ScanInput;
+
+    type Output = Scanned;
+
+    type Total = ScanTotal;
+
+    ghost value_of = { scanned };
+
+    ghost total_of = { total_of };
+
+    ghost IsAdmissible = { AreOfOneCut };
+
+    ghost equal_values = { equal_scans };
+
+    ghost equal_totals = { equal_totals };
+
+    fn run(alloc: Global, input: &ScanInput) -> Result<Scanned, OutOfMemory> {
+        let as_of = input.as_of();
+        let mut rows = MorselRows::new(alloc, input.parts())?;
+        let mut wrong = None;
+        for frame in input.morsel().frames() {
+            match read(frame.body) {
+                Ok(message) => rows.add_counted(as_of, frame.place, &message)?,
+                Err(fault) => {
+                    let place = frame.place;
+                    wrong = earlier(wrong, Some(WrongLength { place, fault }));
+                }
+            }
+        }
+        Scanned::of(alloc, rows, wrong)
+    }
+
+    fn empty(alloc: Global) -> ScanTotal {
+        ScanTotal::empty(alloc)
+    }
+
+    fn add(total: &mut ScanTotal, output: &Scanned) -> Result<(), OutOfMemory> {
+        total.add(output)
+    }
+}
