@@ -1,2 +1,5 @@
 pub mod Steps
 pub mod Written
+pub mod MorselInputs
+pub mod Rehearsed
+pub mod EachOnce

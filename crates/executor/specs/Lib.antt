@@ -1,3 +1,4 @@
 pub mod Counted
 pub mod Runs
 pub mod Steps
+pub mod Rehearsals

@@ -1,8 +1,9 @@
--- What the steps of `plain` give each other.
+-- What the steps of `plain` give each other, and those of `rehearse`.
 -- Derived: no public clause cites it.
-use Rattle.std.specs.Prelude.{◌≡◌, ℕ, ◌<◌, ◌+◌, List, Option, None, MatchOption, IsSomeAnd, length}
+use Rattle.std.specs.Prelude.{◌≡◌, ℕ, ◌<◌, ◌+◌, List, Option, None, MatchOption, IsSomeAnd, length, map}
 use Rattle.lists.specs.declared.limits.TheConstants.{TRADE_LIMIT}
 use Rattle.day_file.specs.Frames.{PlacedBody, StandsFor}
+use Rattle.day_file.specs.Kept.{numbered}
 use Rattle.order_table.specs.declared.row.OrderRow.{OrderRow}
 use Rattle.order_table.specs.Orders.{first_repeated}
 use Rattle.probe.specs.declared.rows.Execution.{Execution}
@@ -10,7 +11,9 @@ use Rattle.probe.specs.Pricing.{first_unknown}
 use Rattle.answers.specs.DayRows.{AreByPlace, DayRows, rows_of}
 use Rattle.answers.specs.Messages.{Placed, messages_of, counted, first_wrong}
 use Rattle.answers.specs.declared.day_fault.DayFault.{DayFault}
-use Rattle.answers.specs.declared.day_fault.DayFault.TheVariants.{RepeatedReference, UnknownReference}
+use Rattle.answers.specs.declared.day_fault.DayFault.TheVariants.{RepeatedReference, UnknownReference, WrongLength}
+use Rattle.scanning.specs.Scans.{ScanInputView}
+use Rattle.scanning.specs.declared.wrong.WrongLength.{WrongLength as FoundWrong}
 use Rattle.executor.specs.declared.refused.Refused.{Refused}
 use Rattle.executor.specs.declared.refused.Refused.TheVariants.{Day, OutOfMemory}
 
@@ -48,3 +51,12 @@ IsReferenceFault orders executions fault =
     MatchOption (first_repeated orders)
     (IsSomeAnd (first_unknown orders executions) (λ unknown. fault ≡ UnknownReference unknown.place unknown.order_no))
     (λ repeated. fault ≡ RepeatedReference repeated.place repeated.order_no)
+
+-- the inputs of the first pipeline
+abbrev pub inputs_of : Option ℕ → ℕ → List (List ℕ) → List ScanInputView
+inputs_of as_of parts runs =
+    map (λ morsel. record { morsel = morsel; as_of = as_of; parts = parts }) (numbered 0 0 runs)
+
+-- the fault of a wrong length
+abbrev pub wrong_fault : FoundWrong → DayFault
+wrong_fault wrong = WrongLength wrong.place wrong.fault.kind wrong.fault.length wrong.fault.wanted

@@ -2,6 +2,7 @@
 #![tactic(auto)]
 
 mod calls;
+mod laws;
 mod refused;
 mod run_fault;
 mod settings;
@@ -9,10 +10,12 @@ mod sink;
 
 pub use answers::{Answer, DayFault, Text, one_answer};
 pub use calls::plain::plain;
+pub use calls::rehearse::{Rehearsal, rehearse};
 pub use calls::run::run;
-pub use day_file::{Counted, DayFile, DeviceFailed, LONGEST_FILE, Source};
+pub use day_file::{Counted, Cut, DayFile, DeviceFailed, LONGEST_FILE, Source};
+pub use laws::each_once_answers;
 pub use lists::OutOfMemory;
-pub use pipelines::Crew;
+pub use pipelines::{Crew, Event};
 pub use query::{Query, QueryFault, What, parse};
 pub use run_fault::RunFault;
 pub use settings::Settings;

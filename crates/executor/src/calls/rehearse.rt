@@ -1,0 +1,92 @@
+ghost use Rattle.std.specs.Prelude.{◌≡◌, ◌<◌, ◌≤◌, All, Err, IfOk, OnOk, length};
+ghost use Rattle.lists.specs.declared.limits.TheConstants.{LONGEST_FILE, MOST_PARTITIONS};
+ghost use Rattle.std.specs.List.{concat};
+ghost use Rattle.day_file.specs.Cuts.{AreBytes, IsRun};
+ghost use Rattle.answers.specs.Answers.{told_by};
+ghost use Rattle.executor.specs.Rehearsals.{IsRehearsed};
+ghost use Rattle.executor.specs.Steps.{inputs_of, wrong_fault};
+
+use crate::OutOfMemory;
+use answers::{Answer, DayFault};
+use day_file::Cut;
+use pipelines::{Event, Inputs, Rehearsed, rehearse_pair};
+use planning::{PlanLink, answer_of};
+use query::Query;
+use scanning::{ScanInput, ScanWork, WrongLength};
+use std::alloc::Global;
+use std::sync::Arc;
+
+/// What a rehearsal gives.
+#[derive(Drop)]
+pub enum Rehearsal {
+    /// The answer to the query over the file that was cut.
+    Finished(Answer),
+    /// The first task of the pipeline, which is 1 or 2, that has not arrived.
+    Missing { pipeline: u8, task: u32 },
+}
+
+/// Answers a query over a cut day file as threads would, on this thread alone: by two pipelines with so
+/// many gatherers each, from 1 to 64, in which pieces arrive, are repeated, lost and merged as the
+/// events say. The first pipeline has a task for each morsel; the second, which doesn't run if a wrong
+/// length was found, one for each of so many partitions, from 1 to 256.
+///
+/// It is refused if memory was refused to it.
+pub fn rehearse(
+    alloc: Global,
+    cut: &Cut,
+    query: &Query,
+    parts: u32,
+    gatherers: u32,
+    events1: &[Event],
+    events2: &[Event],
+) -> Result<Rehearsal, OutOfMemory>
+    requires parts { (0 < parts) × (parts ≤ MOST_PARTITIONS) }
+    requires gatherers { (0 < gatherers) × (gatherers ≤ 64) }
+    ensures { IfOk result (λ rehearsal.
+        IsRehearsed cut.now query.now parts gatherers events1.now events2.now rehearsal) }
+{
+    let inputs = Arc::new(alloc, scan_inputs(alloc, cut, query.as_of, parts)?)?;
+    let link = PlanLink::new(query, parts);
+    match rehearse_pair(alloc, inputs, &link, gatherers, events1, events2)? {
+        Rehearsed::Finished { total, kept } => {
+            let answer = answer_of(alloc, query, total, &kept)?;
+            Ok(Rehearsal::Finished(answer))
+        }
+        Rehearsed::Stopped { stop } => Ok(Rehearsal::Finished(told_of(stop))),
+        Rehearsed::Missing { pipeline, task } => Ok(Rehearsal::Missing { pipeline, task }),
+    }
+}
+
+/// The inputs of the first pipeline: each morsel of the cut.
+fn scan_inputs(
+    alloc: Global,
+    cut: &Cut,
+    as_of: Option<u32>,
+    parts: u32,
+) -> Result<Inputs<ScanWork>, OutOfMemory>
+    requires { (0 < parts) × (parts ≤ MOST_PARTITIONS) }
+    ensures inputs { IfOk result (λ inputs. inputs ≡ inputs_of as_of parts cut.now) }
+    ensures runs { OnOk result (All IsRun cut.now) }
+    ensures bytes { OnOk result (All AreBytes cut.now) }
+    ensures within { OnOk result (length (concat cut.now) ≤ LONGEST_FILE) }
+{
+    let count = cut.count();
+    let mut inputs = Vec::with_capacity(alloc, count as usize)?;
+    for number in 0..count {
+        let morsel = Arc::try_clone(cut.morsel(number))?;
+        inputs.push(Arc::new(alloc, ScanInput::of(morsel, as_of, parts))?)?;
+    }
+    Ok(Inputs::of(inputs))
+}
+
+/// What is told of a wrong length.
+fn told_of(wrong: WrongLength) -> Answer
+    ensures { told_by result ≡ Err (wrong_fault wrong) }
+{
+    Answer::Faulty(DayFault::WrongLength {
+        place: wrong.place,
+        kind: wrong.fault.kind,
+        length: wrong.fault.length,
+        wanted: wrong.fault.wanted,
+    })
+}

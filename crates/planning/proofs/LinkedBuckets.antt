@@ -1,0 +1,121 @@
+-- The buckets that a plan has are those that the total is linked to.
+use Rattle.std.proofs.Common.{◌≡◌, ℕ, ◌≤◌, All, List, [], ◌∷◌, ◌++◌, Option, flat_map, map, refl, sym, ap, ap₂, ◌∙◌, subst, ⊎_elim}
+use Rattle.std.specs.Arc.{arc_value}
+use Rattle.std.specs.List.{concat}
+use Rattle.std.specs.declared.alloc.Global.{Global}
+use Rattle.std.specs.declared.sync.Arc.{Arc}
+use Rattle.std.proofs.lemmas.Bool.{cases_lt}
+use Rattle.std.proofs.lemmas.List.Elements.{All-cons, All-nil}
+use Rattle.std.proofs.lemmas.List.FromFn.{length-map-range_with_len}
+use Rattle.lists.specs.Least.{numbers_below}
+use Rattle.day_file.specs.Cuts.{MorselView}
+use Rattle.day_file.specs.Frames.{PlacedBody, StandsFor}
+use Rattle.day_file.specs.Kept.{numbered}
+use Rattle.day_file.specs.Walk.{frames_of}
+use Rattle.day_file.proofs.CutFrames.{frames_of_cut}
+use Rattle.day_file.proofs.Laws.{places_rise}
+use Rattle.query.specs.Meaning.{Meaning}
+use Rattle.answers.specs.DayRows.{rows_of}
+use Rattle.answers.specs.Messages.{counted, messages_of}
+use Rattle.answers.proofs.CountedMessages.{counted_by_place}
+use Rattle.answers.proofs.FewTrades.{few_trades}
+use Rattle.answers.proofs.RowsByPlace.{messages_by_place}
+use Rattle.morsel_rows.specs.Partitions.{AreRowsByPlace, MorselRowsView, PartitionView, joined_partitions, no_rows_in, partition_at, partition_of}
+use Rattle.morsel_rows.proofs.JoinedPartitions.{partition_past}
+use Rattle.morsel_rows.proofs.MessagesOfPartition.{no_rows_by_place, partition_by_place}
+use Rattle.scanning.specs.Scans.{AreOfOneCut, ScanInputView, ScanTotalView, scanned, total_of}
+use Rattle.pipelines.specs.Outcomes.{IsTotal}
+use Rattle.buckets.specs.BucketRows.{BucketView, bucket_of, planned_rows, rows_at}
+use Rattle.buckets.specs.Buckets.{AreNumbered}
+use Rattle.buckets.specs.declared.plan.Plan.{Plan}
+use Rattle.planning.specs.Planned.{all_breaks, all_directory, planned_bucket, rising, selection_of}
+use Rattle.planning.proofs.MorselsOfCuts.{counted_in, input_of, partition_is}
+
+-- ---- a plan's buckets
+
+pub rows_at_is : (number : ℕ) (morsels : List (Arc MorselRowsView Global)) → rows_at number morsels ≡ map (partition_at number) (map arc_value morsels)
+rows_at_is number [] = refl
+rows_at_is number (m ∷ ms) = ap (λ l. partition_at number (arc_value m) ∷ l) (rows_at_is number ms)
+
+-- a plan is made of these rows, for this query
+pub record IsPlanOf (query : Meaning) (morsels : List MorselRowsView) (plan : Plan) : Type 0 where
+  pub rows : map arc_value plan.rows.items ≡ morsels
+  pub breaks : plan.breaks ≡ rising (all_breaks morsels)
+  pub selection : plan.selection ≡ selection_of query (all_directory morsels)
+  pub what : plan.what ≡ query.what
+
+pub planned_rows_are : (query : Meaning) (morsels : List MorselRowsView) (plan : Plan) (number : ℕ) → IsPlanOf query morsels plan
+    → planned_rows number plan ≡ map (partition_at number) morsels
+planned_rows_are query morsels plan number is = rows_at_is number plan.rows.items ∙ ap (map (partition_at number)) is.rows
+
+pub buckets_are : (query : Meaning) (morsels : List MorselRowsView) (plan : Plan) (numbers : List ℕ) → IsPlanOf query morsels plan
+    → map (λ number. bucket_of number plan) numbers ≡ map (planned_bucket query morsels) numbers
+buckets_are query morsels plan [] is = refl
+buckets_are query morsels plan (n ∷ ns) is =
+    let rows = planned_rows_are query morsels plan n is in
+    let one : bucket_of n plan ≡ planned_bucket query morsels n =
+    λ i. record { number = n; rows = rows i; breaks = is.breaks i; selection = is.selection i; what = is.what i } in
+    ap₂ ◌∷◌ one (buckets_are query morsels plan ns is)
+
+numbers_are : (plan : Plan) (ns : List ℕ) → map (λ (bucket : BucketView). bucket.number) (map (λ number. bucket_of number plan) ns) ≡ ns
+numbers_are plan [] = refl
+numbers_are plan (n ∷ ns) = ap (λ l. n ∷ l) (numbers_are plan ns)
+
+one_what : (plan : Plan) (ns : List ℕ) → All (λ (bucket : BucketView). bucket.what ≡ plan.what) (map (λ number. bucket_of number plan) ns)
+one_what plan [] = All-nil _
+one_what plan (n ∷ ns) = All-cons (λ (bucket : BucketView). bucket.what ≡ plan.what) (bucket_of n plan) _ refl (one_what plan ns)
+
+pub buckets_numbered : (plan : Plan) (n : ℕ) → AreNumbered (map (λ number. bucket_of number plan) (numbers_below n))
+buckets_numbered plan n = record {
+  numbers = numbers_are plan (numbers_below n) ∙ ap numbers_below (sym (length-map-range_with_len (λ number. bucket_of number plan) 0 n));
+  what = plan.what;
+  one = one_what plan (numbers_below n);
+}
+
+-- ---- the rows of one cut are by place
+
+none_of : {Y : Type 0} (f : PartitionView → List Y) → f no_rows_in ≡ [] → (ms : List MorselView) → flat_map f (map (λ m. no_rows_in) ms) ≡ []
+none_of f e [] = refl
+none_of f e (m ∷ ms) = ap₂ ◌++◌ e (none_of f e ms)
+
+module _ (as_of : Option ℕ) (n number : ℕ) where
+  no_rows : n ≤ number → (morsels : List MorselView)
+      → joined_partitions (map (partition_at number) (total_of (map (input_of as_of n) morsels)).morsels) ≡ no_rows_in
+  no_rows past morsels =
+      let orders = none_of (λ rows. rows.orders) refl morsels in
+      let executions = none_of (λ rows. rows.executions) refl morsels in
+      let own_priced = none_of (λ rows. rows.own_priced) refl morsels in
+      ap joined_partitions (maps morsels) ∙ (λ i. record { orders = orders i; executions = executions i; own_priced = own_priced i })
+    where
+      maps : (ms : List MorselView) → map (partition_at number) (map (λ (i : ScanInputView). (scanned i).rows) (map (input_of as_of n) ms))
+          ≡ map (λ m. no_rows_in) ms
+      maps [] = refl
+      maps (m ∷ ms) = ap₂ ◌∷◌ (partition_past n (rows_of (counted as_of (messages_of (frames_of m)))) number past) (maps ms)
+
+-- each partition of the total of a cut has its rows by place
+pub total_by_place : (inputs : List ScanInputView) (number : ℕ) → AreOfOneCut inputs
+    → AreRowsByPlace (joined_partitions (map (partition_at number) (total_of inputs).morsels))
+total_by_place inputs number cut =
+    subst (λ (l : List ScanInputView). AreRowsByPlace (joined_partitions (map (partition_at number) (total_of l).morsels))) (sym cut.are)
+    (⊎_elim (λ below. subst AreRowsByPlace (sym (partition_is cut.as_of cut.parts number below morsels)) some)
+    (λ past. subst AreRowsByPlace (sym (no_rows cut.as_of cut.parts number past morsels)) no_rows_by_place) (cases_lt number cut.parts))
+  where
+    morsels : List MorselView
+    morsels = numbered 0 0 cut.runs
+
+    frames : List PlacedBody
+    frames = flat_map frames_of morsels
+
+    stands : StandsFor frames (concat cut.runs)
+    stands = frames_of_cut cut.runs cut.each
+
+    some : AreRowsByPlace (partition_of cut.parts (rows_of (counted_in cut.as_of cut.parts morsels)) number)
+    some = partition_by_place cut.parts number (counted_in cut.as_of cut.parts morsels)
+        (counted_by_place cut.as_of (messages_of frames) (messages_by_place frames (places_rise 0 frames stands.places)))
+        (few_trades cut.as_of (concat cut.runs) frames stands cut.within)
+
+-- so has that of a total of one cut
+pub rows_by_place : (total : ScanTotalView) (number : ℕ) → IsTotal total_of AreOfOneCut total
+    → AreRowsByPlace (joined_partitions (map (partition_at number) total.morsels))
+rows_by_place total number (inputs, cut, is) =
+    subst (λ (t : ScanTotalView). AreRowsByPlace (joined_partitions (map (partition_at number) t.morsels))) (sym is) (total_by_place inputs number cut)

@@ -1,0 +1,90 @@
+//! From the total of all morsels to the buckets.
+ghost use Rattle.std.specs.Prelude.{◌≡◌, ℕ, ◌≤◌, IfOk, map};
+ghost use Rattle.std.specs.Arc.{arc_value};
+ghost use Rattle.lists.specs.Least.{numbers_below};
+ghost use Rattle.lists.specs.declared.limits.TheConstants.{MOST_PARTITIONS};
+ghost use Rattle.morsel_rows.specs.Partitions.{AreRowsByPlace, joined_partitions, partition_at};
+ghost use Rattle.pipelines.specs.declared.outcome.Linked.TheVariants.{Next};
+ghost use Rattle.planning.specs.Planned.{all_directory, linked_to, planned_bucket};
+
+use crate::OutOfMemory;
+use crate::names::DayNames;
+use crate::plan::{buckets_of, directory_of, plan};
+use buckets::BucketWork;
+use morsel_rows::MorselRows;
+use pipelines::{Inputs, Link, Linked};
+use query::Query;
+use scanning::{ScanTotal, ScanWork, WrongLength};
+use std::alloc::Global;
+use std::marker::Model;
+use std::sync::Arc;
+
+/// Halts at a wrong length, and otherwise makes so many buckets of the rows of all morsels, which they
+/// share. The names, the breaks and the selection of the query are made here, once.
+#[derive(Drop)]
+pub struct PlanLink<'a> {
+    query: &'a Query,
+    parts: u32,
+}
+
+impl<'a> Model for PlanLink<'a> {
+    ghost use Rattle.std.specs.Prelude.{◌≤◌};
+    ghost use Rattle.lists.specs.declared.limits.TheConstants.{MOST_PARTITIONS};
+    ghost use Rattle.planning.specs.Planned.{LinkView};
+
+    ghost Value = { LinkView };
+
+    ghost view = { λ link. record { query = link.query.now; parts = link.parts } };
+
+    ghost invariant = { λ link. link.parts ≤ MOST_PARTITIONS };
+}
+
+impl<'a> PlanLink<'a> {
+    /// The link of a query to so many buckets.
+    pub fn new(query: &'a Query, parts: u32) -> Self
+        requires { parts ≤ MOST_PARTITIONS }
+        ensures { result ≡ record { query = query.now; parts = parts } }
+    {
+        PlanLink { query, parts }
+    }
+
+    /// The buckets of the rows of all morsels, and the names.
+    fn go_on(
+        &self,
+        alloc: Global,
+        morsels: Vec<Arc<MorselRows, Global>>,
+    ) -> Result<Linked<Inputs<BucketWork>, DayNames, WrongLength>, OutOfMemory>
+        requires { (number : ℕ) → AreRowsByPlace
+            (joined_partitions (map (partition_at number) (map arc_value morsels.items))) }
+        ensures { IfOk result (λ l. l ≡ Next
+            (map (planned_bucket self.now.query (map arc_value morsels.items)) (numbers_below self.now.parts))
+            (all_directory (map arc_value morsels.items))) }
+    {
+        let names = DayNames::build(alloc, directory_of(alloc, &morsels)?)?;
+        let plan = Arc::new(alloc, plan(alloc, morsels, &names, self.query)?)?;
+        let inputs = Inputs::of(buckets_of(alloc, &plan, self.parts)?);
+        Ok(Linked::Next {
+            inputs,
+            kept: names,
+        })
+    }
+}
+
+impl<'a> Link<ScanWork, BucketWork> for PlanLink<'a> {
+    type Kept = DayNames;
+
+    type Stop = WrongLength;
+
+    ghost linked = { linked_to };
+
+    fn link(
+        &self,
+        alloc: Global,
+        total: ScanTotal,
+    ) -> Result<Linked<Inputs<BucketWork>, DayNames, WrongLength>, OutOfMemory> {
+        match total.wrong() {
+            Some(stop) => Ok(Linked::Halt { stop }),
+            None => self.go_on(alloc, total.into_rows()),
+        }
+    }
+}

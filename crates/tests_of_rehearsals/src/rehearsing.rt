@@ -1,0 +1,74 @@
+//! What `rehearse` and `plain` tell in the tests.
+use day_file::frames;
+use executor::{
+    Answer, Cut, DayFault, DayFile, Event, OutOfMemory, Query, Rehearsal, plain, rehearse,
+};
+use lists::limits::MOST_PARTITIONS;
+use std::alloc::Global;
+use std::test::Fail;
+
+/// The text or the fault, or the pipeline and the task that are told to be missing.
+pub type Told = Result<Result<Vec<u8>, DayFault>, (u8, u32)>;
+
+/// How many partitions there are, and how many gatherers.
+#[derive(Clone, Copy, Debug)]
+pub struct Shape {
+    pub parts: u32,
+    pub gatherers: u32,
+}
+
+fn told_of(answer: Answer) -> Result<Vec<u8>, DayFault> {
+    match answer {
+        Answer::Printed(text) => Ok(text.into_vec()),
+        Answer::Faulty(fault) => Err(fault),
+    }
+}
+
+/// What `plain` tells.
+pub fn told_by_plain(alloc: Global, file: &DayFile, query: &Query) -> Result<Told, OutOfMemory> {
+    Ok(Ok(told_of(plain(alloc, file, query)?)))
+}
+
+/// What `rehearse` tells.
+pub fn told_by(
+    alloc: Global,
+    cut: &Cut,
+    query: &Query,
+    shape: Shape,
+    events1: &[Event],
+    events2: &[Event],
+) -> Result<Told, Fail> {
+    let Shape { parts, gatherers } = shape;
+    if parts == 0 || parts > MOST_PARTITIONS || gatherers == 0 || gatherers > 64 {
+        return Err(Fail::from("a test has a shape that no rehearsal has"));
+    }
+    match rehearse(alloc, cut, query, parts, gatherers, events1, events2)? {
+        Rehearsal::Finished(answer) => Ok(Ok(told_of(answer))),
+        Rehearsal::Missing { pipeline, task } => Ok(Err((pipeline, task))),
+    }
+}
+
+/// The places where all frames but the first stand.
+pub fn boundaries(alloc: Global, file: &DayFile) -> Result<Vec<u64>, OutOfMemory> {
+    let mut places = Vec::new(alloc);
+    for frame in frames(file) {
+        if frame.place > 0 {
+            places.push(frame.place)?;
+        }
+    }
+    Ok(places)
+}
+
+/// The places that a number's bits choose, the lowest bit the first place; none if the number has bits
+/// for further places.
+pub fn chosen(alloc: Global, places: &[u64], number: u32) -> Result<Option<Vec<u64>>, OutOfMemory> {
+    let mut ends = Vec::new(alloc);
+    let mut left = number;
+    for place in places {
+        if left % 2 == 1 {
+            ends.push(*place)?;
+        }
+        left /= 2;
+    }
+    Ok((left == 0).then_some(ends))
+}
