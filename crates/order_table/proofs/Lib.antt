@@ -1,2 +1,4 @@
 pub mod OneMoreRow
+pub mod Repeats
+pub mod RowsInOrder
 pub mod PartRows

@@ -1,11 +1,9 @@
 -- Order rows: which row prices a reference, which row repeats one, and what a table keeps.
 -- To be believed.
-use Rattle.std.specs.Prelude.{◌≡◌, ℕ, ◌==◌, nat_lt, nat_eq, Bool, ◌&&◌, if◌then◌else◌}
-use Rattle.std.specs.Prelude.{List, Option, Some, None, filter, option_map}
-use Rattle.std.specs.List.{list_any}
-use Rattle.std.specs.HashMap.{get}
+use Rattle.std.specs.Prelude.{◌≡◌, ℕ, ◌==◌, nat_lt, Bool, ◌&&◌, if◌then◌else◌}
+use Rattle.std.specs.Prelude.{List, Option, Some, None, filter}
+use Rattle.std.specs.List.{find, list_any}
 pub use Rattle.order_table.specs.declared.row.OrderRow.{OrderRow}
-use Rattle.order_table.specs.declared.table.Kept.{Kept}
 pub use Rattle.order_table.specs.declared.table.OrderTable.{OrderTable}
 pub use Rattle.order_table.specs.declared.table.Repeated.{Repeated}
 use Rattle.lists.specs.Least.{least_by}
@@ -37,13 +35,9 @@ first_repeated rows = least_by (λ row. row.place) (filter (is_repeated rows) ro
 abbrev pub repeated_of : OrderRow → Repeated
 repeated_of row = record { place = row.place; order_no = row.order_no }
 
--- the row that is kept under the reference
-abbrev pub row_of : ℕ → Kept → OrderRow
-row_of order_no kept = record { place = kept.place; order_no = order_no; price = kept.price }
-
--- the row that a table keeps under a reference
+-- the row that a table keeps under a reference: of its rows the first that gives it
 abbrev pub kept_row : {A : Type 0} → OrderTable A → ℕ → Option OrderRow
-kept_row table order_no = option_map (row_of order_no) (get nat_eq table.rows order_no)
+kept_row table order_no = find (λ row. row.order_no == order_no) table.rows
 
 -- the table keeps the first row of each reference
 abbrev pub IsTableOf : {A : Type 0} → List OrderRow → OrderTable A → Type 0

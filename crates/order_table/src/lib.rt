@@ -2,11 +2,14 @@
 //! order reference.
 //!
 //! Rows come in any order. A row stands at its place, the byte offset of its message in the file,
-//! and "first" goes by place. A table keeps the first row of each reference, and building one tells
-//! of the first row that repeats a reference.
+//! and "first" goes by place. A table has the rows in the order of their references, so that the
+//! first row of each is found by a binary search, and building one tells of the first row that
+//! repeats a reference.
 #![tactic(auto)]
 
 pub mod row;
+mod sorted;
+mod sorting;
 pub mod table;
 
 pub use lists::OutOfMemory;

@@ -1,32 +1,62 @@
-use Rattle.std.proofs.Common.{arith}
-use Rattle.std.proofs.lemmas.Grind.{common_steps}
-use Rattle.order_table.specs.Orders.{OrderRow}
-use Rattle.order_table.proofs.OneMoreRow.{table_more, repeated_stays, repeated_new}
-use Rattle.order_table.proofs.table.OrderTable.build.Goals.{in-Some, in_default}
+use Rattle.std.proofs.Common.{◌≡◌, ◌∙◌, ◌++◌, ap, eqb, option_map, rules, subst, sym}
+use Rattle.std.specs.List.{find}
+use Rattle.std.specs.List.Sorted.{IsPermutation}
+use Rattle.order_table.specs.Orders.{OrderRow, first_row, first_repeated, repeated_of}
+use Rattle.order_table.specs.RowsInOrder.{IsInOrder}
+use Rattle.order_table.proofs.Repeats.{distinct_as_given, none_repeated, repeated_as_given}
+use Rattle.order_table.proofs.RowsInOrder.{in_order_from_rising, references_do_not_fall, first_is_least, first_as_given}
+use Rattle.order_table.proofs.table.OrderTable.build.Goals.{then-rises, else-rises+in_ok-put_in_order}
 use Rattle.order_table.proofs.table.OrderTable.build.Goals as goal
 
-pub loop-row-preserved : goal.loop-row-preserved
-loop-row-preserved g c =
+pub first_repeated-repeated-requires-clause-distinct : goal.first_repeated-repeated-requires-clause-distinct
+first_repeated-repeated-requires-clause-distinct g c =
     let rows = c.args.rows.now in
-    let i = c.loop-row.row-index in
-    let d : OrderRow = record { place = 0; order_no = 0; price = 0 } in
-    let within = c.loop-row-test.true in
-    let old = c.loop-row.table in
-    let repeated = c.loop-row.repeated in
-    let before = c.loop-row.invariant in
-    let added = c.in_ok-later.ensures in
-    let later = c.in_ok-later.field-0 in
-    record {
-      table = table_more rows i d within old c.add.new.self before.table added.table;
-      repeated = elim c.match-branch-3.branch [
-        | in-Some w ↦
-            (rw w.repeated-is
-            (repeated_new rows i d within old repeated c.requires before.table before.repeated later w.in-Some.later w.earlier.result added.later w.in-Some.is
-            w.earlier.ensures))
-        | in_default w ↦
-            (rw w.repeated-is (repeated_stays rows i d within old repeated c.requires before.table before.repeated later added.later w.in_default.is))
-      ];
-    }
+    let copied = c.in_ok-extend_from_slice.ensures.items ∙ ap (λ l. l ++ rows) c.in_ok-kept.ensures.items in
+    let sorted = c.put_in_order.new.rows.items in
+    let given = subst (λ l. IsPermutation l sorted) copied c.in_ok-put_in_order.ensures.permutation in
+    rw c.deref.ensures.value (distinct_as_given rows sorted given c.requires)
+
+pub first_repeated-repeated-requires-clause-in_order : goal.first_repeated-repeated-requires-clause-in_order
+first_repeated-repeated-requires-clause-in_order g c = subst IsInOrder (sym c.deref.ensures.value) c.in_ok-put_in_order.ensures.in_order
+
+pub new-requires : goal.new-requires
+new-requires g c =
+    let rows = c.args.rows.now in
+    let copied = c.in_ok-extend_from_slice.ensures.items ∙ ap (λ l. l ++ rows) c.in_ok-kept.ensures.items in
+    elim c.if-rises.branch [
+      | then-rises w ↦
+          (rw (w.kept-is, copied) (references_do_not_fall rows (in_order_from_rising rows (c.rises.ensures w.if-rises.true))))
+      | else-rises+in_ok-put_in_order w ↦
+          (rw w.kept-is (references_do_not_fall w.put_in_order.new.rows.items w.in_ok-put_in_order.ensures.in_order))
+    ]
+
+pub returns-clause-table : goal.returns-clause-table
+returns-clause-table g c = λ q.
+    let rows = c.args.rows.now in
+    let copied = c.in_ok-extend_from_slice.ensures.items ∙ ap (λ l. l ++ rows) c.in_ok-kept.ensures.items in
+    let kept : find (λ (row : OrderRow). eqb row.order_no q) c.if-rises.kept.items ≡ first_row rows q =
+    elim c.if-rises.branch [
+      | then-rises w ↦
+          (rw (w.kept-is, copied) (first_is_least rows q (in_order_from_rising rows (c.rises.ensures w.if-rises.true))))
+      | else-rises+in_ok-put_in_order w ↦
+          (let sorted = w.put_in_order.new.rows.items in
+          let given = subst (λ l. IsPermutation l sorted) copied w.in_ok-put_in_order.ensures.permutation in
+          rw w.kept-is (first_as_given rows sorted q c.requires given w.in_ok-put_in_order.ensures.in_order))
+    ] in
+    ap (find (λ (row : OrderRow). eqb row.order_no q)) c.new.ensures ∙ kept
 
 pub returns-clause-repeated : goal.returns-clause-repeated
-returns-clause-repeated g c = grind (arith, common_steps)
+returns-clause-repeated g c =
+    let rows = c.args.rows.now in
+    let copied = c.in_ok-extend_from_slice.ensures.items ∙ ap (λ l. l ++ rows) c.in_ok-kept.ensures.items in
+    let told : c.map.result ≡ option_map repeated_of c.if-rises.repeated = search rules in
+    let which : c.if-rises.repeated ≡ first_repeated rows =
+    elim c.if-rises.branch [
+      | then-rises w ↦ (rw w.repeated-is (sym (none_repeated rows (c.rises.ensures w.if-rises.true))))
+      | else-rises+in_ok-put_in_order w ↦
+          (let sorted = w.put_in_order.new.rows.items in
+          let given = subst (λ l. IsPermutation l sorted) copied w.in_ok-put_in_order.ensures.permutation in
+          rw w.repeated-is
+          (w.first_repeated-repeated.ensures ∙ ap first_repeated w.deref.ensures.value ∙ repeated_as_given rows sorted c.requires given))
+    ] in
+    told ∙ ap (option_map repeated_of) which

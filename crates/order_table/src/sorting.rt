@@ -1,0 +1,88 @@
+//! Rows in the order of their references.
+ghost use Rattle.std.specs.Prelude.{◌≡◌, ◌<◌, IsTrue, OnOk, length, map, nat_eq};
+ghost use Rattle.std.specs.List.{AllPairs, IsDistinct};
+ghost use Rattle.std.specs.List.Sorted.{IsPermutation};
+ghost use Rattle.order_table.specs.OneMoreRow.{earlier_row};
+ghost use Rattle.order_table.specs.Orders.{first_repeated};
+ghost use Rattle.order_table.specs.RowsInOrder.{IsInOrder};
+
+use crate::OutOfMemory;
+use crate::row::OrderRow;
+use std::alloc::Allocator;
+
+/// Whether each reference is above those before it.
+pub(crate) fn rises(rows: &[OrderRow]) -> bool
+    ensures { IsTrue result → AllPairs (λ x y. x.order_no < y.order_no) rows.now }
+{
+    rows.is_sorted_by(|row, next| row.order_no < next.order_no)
+}
+
+/// Puts the rows in order: by their references, and those of one reference by their places. Where
+/// they nearly stand so, that takes a few steps a row and no memory, and else those of a sort.
+pub(crate) fn put_in_order<A: Allocator>(rows: &mut Vec<OrderRow, A>) -> Result<(), OutOfMemory>
+    ensures permutation { OnOk result (IsPermutation rows.old.items rows.new.items) }
+    ensures in_order { OnOk result (IsInOrder rows.new.items) }
+{
+    move_near(rows.as_mut_slice());
+    rows.sort_by_key(|row: &OrderRow| (row.order_no, row.place))?;
+    Ok(())
+}
+
+/// How many rows before its own place a row of a list that nearly rises may belong.
+const NEAR: usize = 32;
+
+/// Moves each row before those just before it that have greater references, up to the first that
+/// belongs farther away.
+fn move_near(rows: &mut [OrderRow])
+    ensures { IsPermutation rows.old rows.new }
+{
+    for at in 1..rows.len() {
+        if !move_down(rows, at) {
+            return;
+        }
+    }
+}
+
+/// Moves the row before those just before it that have greater references, and gives whether it
+/// has come past all of them.
+#[inline(always)]
+fn move_down(rows: &mut [OrderRow], at: usize) -> bool
+    requires { at < length rows.old }
+    ensures { IsPermutation rows.old rows.new }
+{
+    let mut to = at;
+    for _ in 0..NEAR {
+        if to == 0 || rows[to - 1].order_no <= rows[to].order_no {
+            return true;
+        }
+        rows.swap(to - 1, to);
+        to -= 1;
+    }
+    false
+}
+
+/// Of rows in order, the one of least place that repeats a reference: each repeats that of the row
+/// before it.
+pub(crate) fn first_repeated(rows: &[OrderRow]) -> Option<OrderRow>
+    requires distinct { IsDistinct nat_eq (map (λ row. row.place) rows.now) }
+    requires in_order { IsInOrder rows.now }
+    ensures { result ≡ first_repeated rows.now }
+{
+    let mut repeated = None;
+    for at in 1..rows.len() {
+        if rows[at - 1].order_no == rows[at].order_no {
+            repeated = Some(earlier(repeated, rows[at]));
+        }
+    }
+    repeated
+}
+
+/// The earlier of the row so far, if there is one, and one more.
+fn earlier(kept: Option<OrderRow>, row: OrderRow) -> OrderRow
+    ensures { result ≡ earlier_row kept row }
+{
+    match kept {
+        Some(kept) if kept.place <= row.place => kept,
+        _ => row,
+    }
+}
