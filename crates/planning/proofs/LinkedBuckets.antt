@@ -15,6 +15,7 @@ use Rattle.day_file.specs.Walk.{frames_of}
 use Rattle.day_file.proofs.CutFrames.{frames_of_cut}
 use Rattle.day_file.proofs.Laws.{places_rise}
 use Rattle.query.specs.Meaning.{Meaning}
+use Rattle.time_and_sales.specs.declared.directory.DirectoryRow.{DirectoryRow}
 use Rattle.answers.specs.DayRows.{rows_of}
 use Rattle.answers.specs.Messages.{counted, messages_of}
 use Rattle.answers.proofs.CountedMessages.{counted_by_place}
@@ -43,6 +44,17 @@ pub record IsPlanOf (query : Meaning) (morsels : List MorselRowsView) (plan : Pl
   pub breaks : plan.breaks ≡ rising (all_breaks morsels)
   pub selection : plan.selection ≡ selection_of query (all_directory morsels)
   pub what : plan.what ≡ query.what
+
+-- so is a plan that is shared, where one was made of the rows and of the names that they give
+pub shared_plan : (query asked : Meaning) (morsels : List (Arc MorselRowsView Global)) (names : List DirectoryRow) (made shared : Plan) → shared ≡ made
+    → asked ≡ query → names ≡ all_directory (map arc_value morsels) → made.rows.items ≡ morsels → made.breaks ≡ rising (all_breaks (map arc_value morsels))
+    → made.selection ≡ selection_of asked names → made.what ≡ asked.what → IsPlanOf query (map arc_value morsels) shared
+shared_plan query asked morsels names made shared same this named rows breaks selection what = record {
+  rows = ap (λ (p : Plan). map arc_value p.rows.items) same ∙ ap (map arc_value) rows;
+  breaks = ap (λ (p : Plan). p.breaks) same ∙ breaks;
+  selection = ap (λ (p : Plan). p.selection) same ∙ selection ∙ ap₂ selection_of this named;
+  what = ap (λ (p : Plan). p.what) same ∙ what ∙ ap (λ (q : Meaning). q.what) this;
+}
 
 pub planned_rows_are : (query : Meaning) (morsels : List MorselRowsView) (plan : Plan) (number : ℕ) → IsPlanOf query morsels plan
     → planned_rows number plan ≡ map (partition_at number) morsels

@@ -40,7 +40,8 @@ impl<'a> Model for PlanLink<'a> {
 }
 
 impl<'a> PlanLink<'a> {
-    /// The link of a query to so many buckets.
+    /// The link of a query to so many buckets: as many as the morsels' rows have partitions. Rows of a
+    /// partition past the last bucket would be in none.
     pub fn new(query: &'a Query, parts: u32) -> Self
         requires { parts ≤ MOST_PARTITIONS }
         ensures { result ≡ record { query = query.now; parts = parts } }

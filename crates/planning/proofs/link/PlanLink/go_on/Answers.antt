@@ -9,23 +9,19 @@ use Rattle.buckets.specs.BucketRows.{bucket_of}
 use Rattle.buckets.specs.Buckets.{AreNumbered}
 use Rattle.buckets.specs.declared.plan.Plan.{Plan}
 use Rattle.pipelines.specs.declared.outcome.Linked.TheVariants.{Next}
-use Rattle.planning.specs.Planned.{LinkView, all_directory, planned_bucket, selection_of}
-use Rattle.planning.proofs.LinkedBuckets.{IsPlanOf, buckets_are, buckets_numbered, planned_rows_are}
+use Rattle.planning.specs.Planned.{LinkView, all_directory, planned_bucket}
+use Rattle.planning.proofs.LinkedBuckets.{buckets_are, buckets_numbered, planned_rows_are, shared_plan}
 use Rattle.planning.proofs.link.PlanLink.go_on.Goals as goal
 
 pub buckets_of-requires-clause-rows : goal.buckets_of-requires-clause-rows
 buckets_of-requires-clause-rows c number =
     let query = c.args.self.now.query in
     let morsels = map arc_value c.args.morsels.items in
-    let same = c.in_ok-plan-2.ensures.ok in
     let names = c.in_ok-names.ensures ∙ c.in_ok-directory_of.ensures ∙ ap (λ l. all_directory (map arc_value l)) c.deref.ensures.value in
-    let of : IsPlanOf query morsels (arc_value c.in_ok-plan-2.plan) = record {
-      rows = ap (λ (p : Plan). map arc_value p.rows.items) same ∙ ap (map arc_value) c.in_ok-plan.ensures.rows;
-      breaks = ap (λ (p : Plan). p.breaks) same ∙ c.in_ok-plan.ensures.breaks;
-      selection = ap (λ (p : Plan). p.selection) same ∙ c.in_ok-plan.ensures.selection
-          ∙ ap₂ selection_of (ap (λ (v : LinkView). v.query) c.self.view_is) names;
-      what = ap (λ (p : Plan). p.what) same ∙ c.in_ok-plan.ensures.what ∙ ap (λ (v : LinkView). v.query.what) c.self.view_is;
-    } in
+    let made = c.in_ok-plan.ensures in
+    let of = shared_plan query _ c.args.morsels.items _ _ _ c.in_ok-plan-2.ensures.ok (ap (λ (v : LinkView). v.query) c.self.view_is)
+    names made.rows made.breaks
+    made.selection made.what in
     subst (λ l. AreRowsByPlace (joined_partitions l)) (sym (planned_rows_are query morsels (arc_value c.in_ok-plan-2.plan) number of)) (c.requires number)
 
 pub buckets_of-requires-clause-width : goal.buckets_of-requires-clause-width
@@ -49,15 +45,11 @@ pub returns : goal.returns
 returns c =
     let query = c.args.self.now.query in
     let morsels = map arc_value c.args.morsels.items in
-    let same = c.in_ok-plan-2.ensures.ok in
     let names = c.in_ok-names.ensures ∙ c.in_ok-directory_of.ensures ∙ ap (λ l. all_directory (map arc_value l)) c.deref.ensures.value in
-    let of : IsPlanOf query morsels (arc_value c.in_ok-plan-2.plan) = record {
-      rows = ap (λ (p : Plan). map arc_value p.rows.items) same ∙ ap (map arc_value) c.in_ok-plan.ensures.rows;
-      breaks = ap (λ (p : Plan). p.breaks) same ∙ c.in_ok-plan.ensures.breaks;
-      selection = ap (λ (p : Plan). p.selection) same ∙ c.in_ok-plan.ensures.selection
-          ∙ ap₂ selection_of (ap (λ (v : LinkView). v.query) c.self.view_is) names;
-      what = ap (λ (p : Plan). p.what) same ∙ c.in_ok-plan.ensures.what ∙ ap (λ (v : LinkView). v.query.what) c.self.view_is;
-    } in
+    let made = c.in_ok-plan.ensures in
+    let of = shared_plan query _ c.args.morsels.items _ _ _ c.in_ok-plan-2.ensures.ok (ap (λ (v : LinkView). v.query) c.self.view_is)
+    names made.rows made.breaks
+    made.selection made.what in
     ap₂ Next
     (c.of-inputs.ensures ∙ c.in_ok-buckets_of.ensures
     ∙ buckets_are query morsels (arc_value c.in_ok-plan-2.plan) (numbers_below c.self.inside.parts) of

@@ -1,4 +1,4 @@
-use Rattle.std.proofs.Common.{map, subst, sym}
+use Rattle.std.proofs.Common.{map, subst, sym, rules}
 use Rattle.morsel_rows.specs.Partitions.{AreRowsByPlace, joined_partitions, partition_at}
 use Rattle.planning.proofs.LinkedBuckets.{rows_by_place}
 use Rattle.planning.proofs.link.PlanLinkLinkScanWorkBucketWork.link.Goals as goal
@@ -6,3 +6,9 @@ use Rattle.planning.proofs.link.PlanLinkLinkScanWorkBucketWork.link.Goals as goa
 pub go_on-requires : goal.go_on-requires
 go_on-requires c number =
     subst (λ l. AreRowsByPlace (joined_partitions (map (partition_at number) l))) (sym c.into_rows.ensures) (rows_by_place c.args.total number c.requires)
+
+pub returns-in-Some : goal.returns-in-Some
+returns-in-Some c = search rules
+
+pub returns-in-None : goal.returns-in-None
+returns-in-None c = search rules
