@@ -1,5 +1,5 @@
 -- Lists of equal inputs have equal inputs at each index and the same values, and a list is equal to itself. For who implements a work or stands on a gathering.
-use Rattle.std.specs.Prelude.{◌≡◌, ℕ, zero, suc, Bool, true, false, ◌&&◌, List, [], ◌∷◌, Some, map, slice_get, refl}
+use Rattle.std.specs.Prelude.{◌≡◌, ℕ, zero, suc, Bool, true, false, ◌&&◌, List, [], ◌∷◌, Some, map, slice_get, take, refl}
 use Rattle.std.specs.Cmp.{IsEquivalence}
 use Rattle.std.specs.Cmp.Lexicographic.{lists_equiv}
 use Rattle.gathering.specs.Adding.{same_inputs}
@@ -21,6 +21,21 @@ module _ {A : Type 0} (eq : A → A → Bool) where
   same_at (a ∷ xs) [] i x y h p q = cc
   same_at (a ∷ xs) (b ∷ ys) zero x y h p q = let k : eq a b ≡ true = and_left (eq a b) _ h in cc
   same_at (a ∷ xs) (b ∷ ys) (suc i) x y h p q = same_at xs ys i x y (and_right (eq a b) _ h) p q
+
+  -- the first n of lists of equal inputs are equal
+  pub same-take : (n : ℕ) (xs ys : List A) → same_inputs eq xs ys ≡ true → same_inputs eq (take n xs) (take n ys) ≡ true
+  same-take n [] [] h = take_none n
+    where
+      take_none : (n : ℕ) → same_inputs eq (take n []) (take n []) ≡ true
+      take_none zero = refl
+      take_none (suc n) = refl
+  same-take n [] (y ∷ ys) h = cc
+  same-take n (x ∷ xs) [] h = cc
+  same-take zero (x ∷ xs) (y ∷ ys) h = refl
+  same-take (suc n) (x ∷ xs) (y ∷ ys) h =
+      let first : eq x y ≡ true = and_left (eq x y) _ h in
+      let rest = same-take n xs ys (and_right (eq x y) _ h) in
+      rw first rest
 
   -- what is made of each input alone is the same for equal inputs
   pub map_alike : {B : Type 0} (f : A → B) → ((a b : A) → eq a b ≡ true → f a ≡ f b)

@@ -1,6 +1,6 @@
 -- Pieces that belong to a list of inputs.
 use Rattle.std.proofs.Common.{◌≡◌, ℕ, ◌<◌, ◌≤◌, Bool, true, false, List, Option, Some, None, length, slice_get, get_or, set, refl, sym, ◌∙◌, arith, ◌⊎◌, inl}
-use Rattle.std.proofs.Common.{inr, ⊎_elim, subst, is_some, ◌||◌}
+use Rattle.std.proofs.Common.{inr, ⊎_elim, subst, is_some, ◌||◌, nat_lt}
 use Rattle.std.proofs.lemmas.Grind.{get_or-set_at}
 use Rattle.std.proofs.lemmas.List.{get_or-set_other}
 use Rattle.std.proofs.lemmas.Bool.Decides.{eqb_tells}
@@ -9,13 +9,17 @@ use Rattle.std.proofs.Math.ListN.{length-set}
 use Rattle.std.specs.Cmp.{IsEquivalence}
 use Rattle.std.specs.Cmp.Lexicographic.{as_long, lists_equiv}
 use Rattle.gathering.specs.Adding.{same_inputs}
-use Rattle.gathering.specs.Kept.{IsKept, either}
+use Rattle.gathering.specs.Kept.{IsKept, either, unless}
 use Rattle.gathering.specs.Views.{PieceView, belongs, is_equal_to}
 use Rattle.gathering.proofs.EqualInputs.{same_at}
 
 either_is : {X : Type 0} (a b : Option X) (x : X) → either a b ≡ Some x → (a ≡ Some x) ⊎ (b ≡ Some x)
 either_is None b x h = inr h
 either_is (Some a) b x h = inl h
+
+pub unless_is : {X : Type 0} (b : Bool) (o : Option X) (x : X) → unless b o ≡ Some x → o ≡ Some x
+unless_is true o x h = cc
+unless_is false o x h = h
 
 pub is_some-either : {X : Type 0} (a b : Option X) → is_some (either a b) ≡ (is_some a || is_some b)
 is_some-either None b = refl
@@ -86,12 +90,29 @@ module _ {A : Type 0} (eq : A → A → Bool) where
       (belongs_alike laws others inputs p ((lists_equiv laws).symm others inputs ∙ same))
       (belongs_alike laws inputs others p same)
 
+  -- a place is emptied
+  pub IsKept-drop : (inputs : List A) (places : List (Option (PieceView A))) (t : ℕ) → t < length places → IsKept eq inputs places
+      → IsKept eq inputs (set places t None)
+  IsKept-drop inputs places t h kept = record {
+    one_each = length-set {A = Option (PieceView A)} places t None ∙ kept.one_each;
+    number = λ k q e. kept.number k q (there k q e);
+    own = λ k q e. kept.own k q (there k q e);
+  }
+    where
+      there : (k : ℕ) (q : PieceView A) → get_or (set places t None) k None ≡ Some q → get_or places k None ≡ Some q
+      there k q e = elim (eqb_tells k t) [
+        | inl same ↦ let n = get_or-set_at {X = Option (PieceView A)} places t k None None same.1 h in cc
+        | inr other ↦ sym (get_or-set_other {A = Option (PieceView A)} places t k None None other.1) ∙ e
+      ]
+
   -- merged pieces are kept
-  pub IsKept-merge : IsEquivalence eq → (inputs others : List A) (own their both : List (Option (PieceView A))) → IsKept eq inputs own
-      → IsKept eq others their → same_inputs eq inputs others ≡ true → length both ≡ length own
-      → ((k : ℕ) → get_or both k None ≡ either (get_or own k None) (get_or their k None)) → IsKept eq inputs both
-  IsKept-merge laws inputs others own their both kept theirs same count united = record {
+  pub IsKept-merge : IsEquivalence eq → (inputs others : List A) (r : ℕ) (own their both : List (Option (PieceView A)))
+      → IsKept eq inputs own → IsKept eq others their → same_inputs eq inputs others ≡ true → length both ≡ length own
+      → ((k : ℕ) → get_or both k None ≡ unless (nat_lt k r) (either (get_or own k None) (get_or their k None)))
+      → IsKept eq inputs both
+  IsKept-merge laws inputs others r own their both kept theirs same count united = record {
     one_each = count ∙ kept.one_each;
-    number = λ k q h. ⊎_elim (λ e. kept.number k q e) (λ e. theirs.number k q e) (either_is _ _ q (sym (united k) ∙ h));
-    own = λ k q h. ⊎_elim (λ e. kept.own k q e) (λ e. belongs_alike laws inputs others q same (theirs.own k q e)) (either_is _ _ q (sym (united k) ∙ h));
+    number = λ k q h. ⊎_elim (λ e. kept.number k q e) (λ e. theirs.number k q e) (either_is _ _ q (unless_is _ _ q (sym (united k) ∙ h)));
+    own = λ k q h. ⊎_elim (λ e. kept.own k q e) (λ e. belongs_alike laws inputs others q same (theirs.own k q e))
+        (either_is _ _ q (unless_is _ _ q (sym (united k) ∙ h)));
   }

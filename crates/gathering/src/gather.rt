@@ -1,10 +1,10 @@
 //! The pieces of some tasks, and their total.
-ghost use Rattle.std.specs.Prelude.{◌≡◌, ◌↔◌, ◌<◌, Bool, true, false, IsTrue, IsErr, IfOk, IfErr};
+ghost use Rattle.std.specs.Prelude.{◌≡◌, ◌↔◌, ◌<◌, ◌≤◌, Bool, true, false, IsTrue, IsErr, IfOk, IfErr};
 ghost use Rattle.std.specs.Prelude.{OnOk, OnErr, MatchOption, length, if◌then◌else◌};
 ghost use Rattle.std.specs.Arc.{arc_value};
 ghost use Rattle.std.specs.FinSet as set;
 ghost use Rattle.gathering.specs.Adding.{same_inputs};
-ghost use Rattle.gathering.specs.Kept.{IsKept};
+ghost use Rattle.gathering.specs.Kept.{IsFolded};
 ghost use Rattle.gathering.specs.Refused.{IsRefusedFor, handed_back};
 ghost use Rattle.gathering.specs.Views.{belongs, merged, IsComplete, IsFirstMissing};
 
@@ -21,25 +21,35 @@ use std::sync::Arc;
 ///
 /// Contracts see the inputs and the set of the tasks that are covered. The room for the pieces is
 /// taken of an allocator, which is `Global` if none is named.
+///
+/// The pieces below the first gap are folded: added to one total and dropped. If an addition is
+/// refused, its piece stays, and is added at a later `file`, `merge` or `total`. Folding saves a
+/// piece and its share in the input. If totals keep what outputs hold, that is little memory; but
+/// once all tasks are covered, `total` has nothing left to add.
 #[derive(Drop)]
 pub struct Gathering<W: Work, A: Allocator = Global> {
-    alloc: Global,
     inputs: Arc<Inputs<W>, Global>,
+    folded: u32,
+    total: W::Total,
     places: Vec<Option<Piece<W>>, A>,
 }
 
 impl<W: Work, A: Allocator> Model for Gathering<W, A> {
     ghost use Rattle.std.specs.Arc.{arc_value};
     ghost use Rattle.gathering.specs.Views.{GatheringView, gathering_code};
-    ghost use Rattle.gathering.specs.Kept.{filled_places, IsKept};
+    ghost use Rattle.gathering.specs.Kept.{covered_tasks, IsFolded};
 
     ghost Value = { GatheringView W.Input };
 
     ghost coded = { gathering_code W.Input.code };
 
-    ghost view = { λ a. record { inputs = arc_value a.inputs; covered = filled_places a.places.items } };
+    ghost view = { λ a. record {
+      inputs = arc_value a.inputs;
+      covered = covered_tasks a.folded a.places.items;
+    } };
 
-    ghost invariant = { λ a. IsKept W.Input.eq (arc_value a.inputs) a.places.items };
+    ghost invariant = { λ a.
+        IsFolded W.Input.eq W.total_of (arc_value a.inputs) a.folded a.total a.places.items };
 }
 
 /// How a piece was filed.
@@ -73,7 +83,7 @@ pub enum TotalRefused<W: Work, A: Allocator = Global> {
 }
 
 impl<W: Work> Gathering<W> {
-    /// No task is covered, and there is room for each piece: filing and merging take no memory.
+    /// No task is covered, and there is room for each piece: filing and merging need no memory.
     pub fn new(alloc: Global, inputs: Arc<Inputs<W>, Global>) -> Result<Self, OutOfMemory>
         ensures inputs { IfOk result (λ made. made.inputs ≡ arc_value inputs) }
         ensures covered { IfOk result (λ made. made.covered ≡ set.empty) }
@@ -83,7 +93,7 @@ impl<W: Work> Gathering<W> {
 }
 
 impl<W: Work, A: Allocator> Gathering<W, A> {
-    /// No task is covered, and there is room for each piece: filing and merging take no memory.
+    /// No task is covered, and there is room for each piece: filing and merging need no memory.
     ///
     /// The room for the pieces is taken of `memory`, and the work's own growths of `alloc`. It is
     /// refused if `memory` has no room for a place for each task.
@@ -98,8 +108,9 @@ impl<W: Work, A: Allocator> Gathering<W, A> {
         let count = inputs.count();
         let places = empty_places(memory, count)?;
         Ok(Gathering {
-            alloc,
             inputs,
+            folded: 0,
+            total: W::empty(alloc),
             places,
         })
     }
@@ -124,9 +135,11 @@ impl<W: Work, A: Allocator> Gathering<W, A> {
         }
         let number = piece.number();
         if self.covers(number) {
+            self.fold_more();
             return Ok(Filed::Again);
         }
         self.places[number as usize] = Some(piece);
+        self.fold_more();
         Ok(Filed::New)
     }
 
@@ -146,12 +159,15 @@ impl<W: Work, A: Allocator> Gathering<W, A> {
             return Err(OtherInputs { other });
         }
         let Gathering {
-            alloc: _,
             inputs,
+            folded,
+            total,
             places,
         } = other;
         drop(inputs);
-        merge_places(&mut self.places, places);
+        keep_longer(&mut self.folded, &mut self.total, folded, total);
+        merge_places(&mut self.places, places, self.folded);
+        self.fold_more();
         Ok(())
     }
 
@@ -161,17 +177,17 @@ impl<W: Work, A: Allocator> Gathering<W, A> {
         ensures in_range { IsTrue result → task < length self.now.inputs }
     {
         let at = task as usize;
-        at < self.places.len() && self.places[at].is_some()
+        task < self.folded || at < self.places.len() && self.places[at].is_some()
     }
 
     /// The least task that is not covered.
     pub fn first_missing(&self) -> Option<u32>
         ensures { MatchOption result (IsComplete self.now) (λ task. IsFirstMissing self.now task) }
     {
-        first_empty(&self.places, self.inputs.count())
+        first_empty(&self.places, self.folded, self.inputs.count())
     }
 
-    /// The total of all inputs, in order. It adds what the pieces brought, and runs no task.
+    /// The total of all inputs, in order. It adds what is not folded yet, and runs no task.
     ///
     /// It is refused if a task is missing, and otherwise if a growth was refused. The gathering is
     /// handed back.
@@ -185,10 +201,32 @@ impl<W: Work, A: Allocator> Gathering<W, A> {
         if self.first_missing().is_some() {
             return Err(TotalRefused::Missing { gathering: self });
         }
-        match self.inputs.add_up(self.alloc, &self.places) {
-            Ok(total) => Ok(total),
-            Err(_) => Err(TotalRefused::Memory { gathering: self }),
+        let Gathering {
+            inputs,
+            mut folded,
+            mut total,
+            mut places,
+        } = self;
+        match inputs.fold(&mut folded, &mut total, &mut places) {
+            Ok(()) => Ok(total),
+            Err(_) => Err(TotalRefused::Memory {
+                gathering: Gathering {
+                    inputs,
+                    folded,
+                    total,
+                    places,
+                },
+            }),
         }
+    }
+
+    /// Folds the pieces below the first gap, as far as memory is found.
+    fn fold_more(&mut self)
+        ensures { self.new ≡ self.old }
+    {
+        let _ = self
+            .inputs
+            .fold(&mut self.folded, &mut self.total, &mut self.places);
     }
 }
 
@@ -199,4 +237,17 @@ fn is_own<W: Work>(inputs: &Inputs<W>, piece: &Piece<W>) -> bool
 {
     let number = piece.number();
     number < inputs.count() && **piece.input() == **inputs.input(number)
+}
+
+/// Of two numbers of folded inputs, each with their total, keeps the greater.
+fn keep_longer<T: Drop>(own_folded: &mut u32, own_total: &mut T, folded: u32, total: T)
+    ensures longer { own_folded.old < folded
+        → (own_folded.new ≡ folded) × (own_total.new ≡ total) }
+    ensures own { folded ≤ own_folded.old
+        → (own_folded.new ≡ own_folded.old) × (own_total.new ≡ own_total.old) }
+{
+    if *own_folded < folded {
+        *own_folded = folded;
+        *own_total = total;
+    }
 }

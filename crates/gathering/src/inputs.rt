@@ -1,10 +1,10 @@
 //! The inputs of all tasks.
-ghost use Rattle.std.specs.Prelude.{◌≡◌, ℕ, ◌<◌, ◌≤◌, true, IfOk, OnOk, length, map, get_or};
-ghost use Rattle.std.specs.Prelude.{is_some, slice_get, None, Some};
+ghost use Rattle.std.specs.Prelude.{◌≡◌, ◌<◌, ◌≤◌, OnOk, length, map, get_or, slice_get};
+ghost use Rattle.std.specs.Prelude.{None, Some};
 ghost use Rattle.std.specs.Arc.{arc_value};
 ghost use Rattle.lists.specs.declared.limits.TheConstants.{MOST_TASKS};
 ghost use Rattle.gathering.specs.Adding.{same_inputs};
-ghost use Rattle.gathering.specs.Kept.{IsKept};
+ghost use Rattle.gathering.specs.Kept.{covered_tasks, IsFolded};
 
 use crate::OutOfMemory;
 use crate::piece::Piece;
@@ -68,25 +68,31 @@ impl<W: Work> Inputs<W> {
         self.items == other.items
     }
 
-    /// Adds the outputs of the pieces, one for each input, in order.
-    pub(crate) fn add_up<A: Allocator>(
+    /// Adds the outputs of the pieces below the first gap to the total of the first `folded` inputs, in
+    /// order, and drops the pieces. A refused addition leaves its piece and those after it.
+    pub(crate) fn fold<A: Allocator>(
         &self,
-        alloc: Global,
-        places: &Vec<Option<Piece<W>>, A>,
-    ) -> Result<W::Total, OutOfMemory>
-        requires kept { IsKept W.Input.eq self.now places.now.items }
-        requires complete { (k : ℕ) → k < length places.now.items
-            → is_some (get_or places.now.items k None) ≡ true }
-        ensures total { IfOk result (λ total. total ≡ W.total_of self.now) }
-        ensures admissible { OnOk result (W.IsAdmissible self.now) }
+        folded: &mut u32,
+        total: &mut W::Total,
+        places: &mut Vec<Option<Piece<W>>, A>,
+    ) -> Result<(), OutOfMemory>
+        requires { IsFolded W.Input.eq W.total_of self.now folded.old total.old places.old.items }
+        ensures folded { IsFolded W.Input.eq W.total_of self.now folded.new total.new places.new.items }
+        ensures covered { covered_tasks folded.new places.new.items
+            ≡ covered_tasks folded.old places.old.items }
+        ensures gap { OnOk result (get_or places.new.items folded.new None ≡ None) }
+        ensures admissible { W.IsAdmissible self.now }
     {
-        let mut total = W::empty(alloc);
-        for number in 0..self.items.len() as u32 {
-            let Some(piece) = &places[number as usize] else {
-                unreachable!()
+        let count = self.items.len() as u32;
+        while *folded < count {
+            let at = *folded as usize;
+            let Some(piece) = &places[at] else {
+                return Ok(());
             };
-            W::add(&mut total, piece.output())?;
+            W::add(total, piece.output())?;
+            places[at] = None;
+            *folded += 1;
         }
-        Ok(total)
+        Ok(())
     }
 }

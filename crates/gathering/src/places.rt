@@ -1,7 +1,7 @@
 //! Places that hold something or nothing.
 ghost use Rattle.std.specs.Prelude.{◌≡◌, ◌<◌, ◌≤◌, ℕ, true, List, IfOk, MatchOption, length};
-ghost use Rattle.std.specs.Prelude.{get_or, is_some, replicate, None};
-ghost use Rattle.gathering.specs.Kept.{either};
+ghost use Rattle.std.specs.Prelude.{get_or, is_some, nat_lt, replicate, None};
+ghost use Rattle.gathering.specs.Kept.{either, unless};
 
 use crate::OutOfMemory;
 use std::alloc::Allocator;
@@ -20,16 +20,23 @@ pub(crate) fn empty_places<T: Drop, A: Allocator>(
     Ok(places)
 }
 
-/// The first place that is empty.
-pub(crate) fn first_empty<T, A: Allocator>(places: &Vec<Option<T>, A>, count: u32) -> Option<u32>
-    requires { length places.now.items ≡ count }
+/// The first place from a given one on that is empty.
+pub(crate) fn first_empty<T, A: Allocator>(
+    places: &Vec<Option<T>, A>,
+    from: u32,
+    count: u32,
+) -> Option<u32>
+    requires count { length places.now.items ≡ count }
+    requires in_range { from ≤ count }
     ensures { MatchOption result
-        ((k : ℕ) → k < length places.now.items → is_some (get_or places.now.items k None) ≡ true)
+        ((k : ℕ) → from ≤ k → k < length places.now.items
+        → is_some (get_or places.now.items k None) ≡ true)
         (λ at. (at < length places.now.items)
+        × (from ≤ at)
         × (get_or places.now.items at None ≡ None)
-        × ((k : ℕ) → k < at → is_some (get_or places.now.items k None) ≡ true)) }
+        × ((k : ℕ) → from ≤ k → k < at → is_some (get_or places.now.items k None) ≡ true)) }
 {
-    for at in 0..count {
+    for at in from..count {
         if places[at as usize].is_none() {
             return Some(at);
         }
@@ -37,19 +44,23 @@ pub(crate) fn first_empty<T, A: Allocator>(places: &Vec<Option<T>, A>, count: u3
     None
 }
 
-/// Moves what the others hold into the places that are empty.
+/// Moves what the others hold into the places that are empty, and empties the places below `from`.
 pub(crate) fn merge_places<T: Drop, A: Allocator>(
     own: &mut Vec<Option<T>, A>,
     mut others: Vec<Option<T>, A>,
+    from: u32,
 )
     requires { length own.old.items ≡ length others.items }
     ensures count { length own.new.items ≡ length own.old.items }
     ensures places { (k : ℕ) → get_or own.new.items k None
-        ≡ either (get_or own.old.items k None) (get_or others.items k None) }
+        ≡ unless (nat_lt k from)
+        (either (get_or own.old.items k None) (get_or others.items k None)) }
 {
     while let Some(other) = others.pop() {
         let at = others.len();
-        if own[at].is_none() {
+        if at < from as usize {
+            own[at] = None;
+        } else if own[at].is_none() {
             own[at] = other;
         }
     }

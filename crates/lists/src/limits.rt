@@ -54,3 +54,8 @@ const _: () = prove!(MOST_SEATS == 1 << 8);
 pub const MOST_WORKERS: u32 = 64;
 
 const _: () = prove!(MOST_WORKERS == 1 << 6);
+
+/// The most gatherers of a pipeline.
+pub const MOST_GATHERERS: u32 = 8;
+
+const _: () = prove!(MOST_GATHERERS == 1 << 3);

@@ -1,13 +1,15 @@
 //! Two pipelines of work, of which the second works on what a link makes of the first one's total.
 //!
 //! `run_pair` runs them on threads: workers claim tasks of a dispatcher, run them and send the
-//! pieces to the caller's thread, which gathers them. Neither the crew nor the schedule of its
-//! threads changes the answer.
+//! pieces to gatherers, of which the caller's thread is the first. Neither the crew nor the schedule of
+//! its threads changes the answer.
 #![tactic(auto)]
 
 mod crew;
+mod employ;
 mod event;
 mod gate;
+mod gatherers;
 pub mod laws;
 mod link;
 mod outcome;

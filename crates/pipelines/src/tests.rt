@@ -6,7 +6,8 @@ ghost use Rattle.std.proofs.Common.{refl};
 ghost use Rattle.std.proofs.lemmas.Bool.{eqb-true};
 ghost use Rattle.lists.specs.declared.limits.TheConstants.{MOST_TASKS};
 
-use crate::pair::{gather, run_missing};
+use crate::gatherers::{channel_of, gather_all, gather_until_covered, merge_all, start_gatherers};
+use crate::pair::run_missing;
 use crate::port::ChannelPort;
 use crate::rehearse::rehearse_pipeline;
 use crate::{Event, FreeGate, Gate, Gathering, Inputs, OutOfMemory, Piece, Work, work};
@@ -16,6 +17,7 @@ use std::alloc::Global;
 use std::sync::Arc;
 use std::sync::atomic::{AtomicU64, Ordering};
 use std::test::Fail;
+use std::thread;
 
 /// The work that makes nothing of its inputs, which are numbers.
 #[derive(Drop)]
@@ -80,10 +82,38 @@ fn gathering_ends_with_the_last_task(rt: HostRuntime) -> Result<(), Fail> {
             assert!(rt; to.send(&rt, piece).is_ok());
         }
         drop(to);
-        gather(&rt, &mut gathering, &from, 2);
+        gather_until_covered(&rt, &mut gathering, &from, 2);
         assert!(rt; gathering.first_missing().is_none());
     }
     Ok(())
+}
+
+/// Whether the tasks that a gathering covers are these, of six.
+fn covers_these(gathering: &Gathering<Nothing>, tasks: [bool; 6]) -> bool {
+    (0..6).map(|task| gathering.covers(task)).eq(tasks)
+}
+
+#[test]
+fn each_worker_has_its_gatherer(rt: HostRuntime) -> Result<(), Fail> {
+    let alloc = rt.alloc();
+    let inputs = inputs_of(alloc, 6)?;
+    let mut gathering = Gathering::new(alloc, Arc::try_clone(&inputs)?)?;
+    let (own, from) = crossbeam_channel::unbounded::<Piece<Nothing>, Global>(alloc)?;
+    thread::scope(thread::scope_env(), &rt, |scope| -> Result<(), Fail> {
+        let others = start_gatherers(scope, &rt, alloc, &inputs, 3);
+        // Of six workers each brings the task of its number.
+        for task in 0..6 {
+            let piece = Piece::make(alloc, task, Arc::new(alloc, u64::from(task))?)?;
+            let to = channel_of(task as usize, &own, &others);
+            assert!(rt; to.send(&rt, piece).is_ok());
+        }
+        drop(own);
+        gather_all(&rt, &mut gathering, &from);
+        assert!(rt; covers_these(&gathering, [true, false, false, true, false, false]));
+        merge_all(&rt, &mut gathering, others);
+        assert!(rt; covers_these(&gathering, [true; 6]));
+        Ok(())
+    })
 }
 
 /// Counts the caller's own runs, and all others.
@@ -114,7 +144,7 @@ fn no_worker_is_left(rt: HostRuntime) -> Result<(), Fail> {
     let mut gathering = Gathering::new(alloc, Arc::try_clone(&inputs)?)?;
     let (to, from) = crossbeam_channel::unbounded::<Piece<Nothing>, Global>(alloc)?;
     drop(to);
-    gather(&rt, &mut gathering, &from, 8);
+    gather_until_covered(&rt, &mut gathering, &from, 8);
     assert!(rt; gathering.first_missing() == Some(0));
     run_missing(alloc, &mut gathering, &inputs, 1, &gate)?;
     assert!(rt; gate.own.load(Ordering::SeqCst) == 8);

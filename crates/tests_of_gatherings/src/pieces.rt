@@ -70,6 +70,24 @@ fn gatherings_that_overlap_add_each_task_once(rt: HostRuntime) -> Result<(), Fai
 }
 
 #[test]
+fn pieces_below_the_first_gap_are_added_once(rt: HostRuntime) -> Result<(), Fail> {
+    let alloc = rt.alloc();
+    let first = [0, 1, 2, 3, 4, 7];
+    let second = [0, 1, 2, 3, 5, 6];
+    for (own, other, additions) in [(&first, &second, 5), (&second, &first, 4)] {
+        let watch = Watch::shared(alloc)?;
+        let inputs = shared_inputs_of(alloc, &watch, &NUMBERS)?;
+        let mut both = gathered(alloc, &inputs, own)?;
+        assert!(rt; watch.additions() == additions);
+        assert!(rt; both.merge(gathered(alloc, &inputs, other)?).is_ok());
+        assert!(rt; watch.additions() == 12, "the longer prefix stays");
+        assert!(rt; total_of(both) == Ok(255));
+        assert!(rt; watch.additions() == 12, "total added again");
+    }
+    Ok(())
+}
+
+#[test]
 fn any_order_and_grouping_gives_one_total(rt: HostRuntime) -> Result<(), Fail> {
     let alloc = rt.alloc();
     let inputs = shared_inputs_of(alloc, &Watch::shared(alloc)?, &NUMBERS)?;

@@ -55,18 +55,6 @@ fn file_all<A: Allocator, R: Abort>(
     Ok(())
 }
 
-/// The total. If it was refused, it is taken again of the gathering that came back.
-fn total_at_last<R: Abort>(rt: &R, gathering: Gathering<Sum>) -> Result<u128, &'static str> {
-    match gathering.total() {
-        Ok(total) => Ok(total),
-        Err(TotalRefused::Missing { gathering: _ }) => Err("missing"),
-        Err(TotalRefused::Memory { gathering }) => {
-            assert!(rt; stands_for(&gathering, &ORDER));
-            total_of(gathering)
-        }
-    }
-}
-
 /// Whether the heap has no room left, not even for a block of one byte.
 fn is_full(heap: &LocalHeap) -> bool {
     heap.free() == 0 && Vec::<u8, &LocalHeap>::with_capacity(heap, 1).is_err()
@@ -130,7 +118,8 @@ fn each_growth_of_the_work_can_be_refused(rt: HostRuntime) -> Result<(), Fail> {
         watch.refuse_growths(pass..pass + 1);
         let mut gathering = Gathering::new(alloc, Arc::try_clone(&inputs)?)?;
         file_all(&rt, alloc, &inputs, &mut gathering, &ORDER)?;
-        assert!(rt; total_at_last(&rt, gathering) == Ok(255), "pass {pass}");
+        // An addition that was refused is tried again, by the total at the latest.
+        assert!(rt; total_of(gathering) == Ok(255), "pass {pass}");
         if watch.refusals() == 0 {
             unrefused = Some(pass);
             break;
@@ -163,9 +152,31 @@ fn refusals_lose_nothing(rt: HostRuntime) -> Result<(), Fail> {
         let Err(TotalRefused::Memory { gathering }) = gathering.total() else {
             return Err(Fail::new("a total without memory"));
         };
-        assert!(rt; gathering.first_missing().is_none());
+        assert!(rt; stands_for(&gathering, &ORDER));
         watch.refuse_additions(false);
         assert!(rt; total_of(gathering) == Ok(255));
+    }
+    Ok(())
+}
+
+#[test]
+fn refused_additions_are_tried_again(rt: HostRuntime) -> Result<(), Fail> {
+    let alloc = rt.alloc();
+    for merges in [false, true] {
+        let watch = Watch::shared(alloc)?;
+        let inputs = shared_inputs_of(alloc, &watch, &NUMBERS)?;
+        watch.refuse_additions(true);
+        let mut gathering = gathered(alloc, &inputs, &[0, 1, 2, 3, 4, 5, 6, 7])?;
+        assert!(rt; watch.additions() == 8, "each piece tried the first");
+        watch.refuse_additions(false);
+        if merges {
+            assert!(rt; gathering.merge(gathered(alloc, &inputs, &[])?).is_ok());
+        } else {
+            let again = Piece::make(alloc, 5, Arc::try_clone(inputs.input(5))?)?;
+            assert!(rt; gathering.file(again).ok() == Some(Filed::Again));
+        }
+        assert!(rt; watch.additions() == 16);
+        assert!(rt; total_of(gathering) == Ok(255) && watch.additions() == 16);
     }
     Ok(())
 }

@@ -3,6 +3,10 @@
 #![tactic(auto)]
 
 #[cfg(test)]
+mod additions;
+#[cfg(test)]
+mod gatherers;
+#[cfg(test)]
 mod link;
 #[cfg(test)]
 mod refusals;

@@ -69,25 +69,34 @@ fn rehearse(alloc: Global, watch: &Arc<Watch, Global>) -> Result<Sums, OutOfMemo
     }
 }
 
+/// What one worker gives, or a rehearsal.
+fn sums<R: Threads + Wait + Sync>(
+    rt: &R,
+    alloc: Global,
+    watch: &Arc<Watch, Global>,
+    rehearses: bool,
+) -> Option<Sums> {
+    let crew = Crew {
+        workers: 1,
+        gatherers: 1,
+    };
+    if rehearses {
+        rehearse(alloc, watch).ok()
+    } else {
+        run(rt, alloc, watch, crew).ok()
+    }
+}
+
 /// What comes if the first growth is refused, the second, and so on, and at last if none is.
 fn one_refused_each<R: Threads + Wait + Sync>(
     rt: &R,
     alloc: Global,
     rehearses: bool,
 ) -> Result<Vec<Option<Sums>>, OutOfMemory> {
-    let crew = Crew {
-        workers: 1,
-        gatherers: 1,
-    };
     let mut answers = Vec::new(alloc);
     for growth in 0..100 {
         let watch = Watch::refusing(alloc, growth..growth + 1)?;
-        let sums = if rehearses {
-            rehearse(alloc, &watch)
-        } else {
-            run(rt, alloc, &watch, crew)
-        };
-        answers.push(sums.ok())?;
+        answers.push(sums(rt, alloc, &watch, rehearses))?;
         if watch.growths() <= growth {
             break;
         }
@@ -97,13 +106,28 @@ fn one_refused_each<R: Threads + Wait + Sync>(
 
 #[test]
 fn each_growth_can_be_refused(rt: HostRuntime) -> Result<(), Fail> {
-    // Three runs and their additions, the link, two runs and theirs. A run that is refused to a worker
-    // is a lost piece, and a rehearsal has none.
-    for (rehearses, lost) in [(false, RIGHT), (true, None)] {
-        let wanted = [
-            lost, lost, lost, None, None, None, None, lost, lost, None, None, RIGHT,
-        ];
+    // Three runs and their additions, the link, two runs and theirs. An addition that is refused is
+    // tried again, and a run that is refused to a worker is a lost piece. A rehearsal has none.
+    let lost = [
+        None, None, RIGHT, None, RIGHT, RIGHT, None, None, RIGHT, None, RIGHT, RIGHT,
+    ];
+    let mut run_again = [RIGHT; 12];
+    run_again[6] = None;
+    for (rehearses, wanted) in [(false, run_again), (true, lost)] {
         assert!(rt; one_refused_each(&rt, rt.alloc(), rehearses)?.as_slice() == &wanted[..]);
+    }
+    Ok(())
+}
+
+#[test]
+fn all_additions_can_be_refused(rt: HostRuntime) -> Result<(), Fail> {
+    let alloc = rt.alloc();
+    let watch = Watch::shared(alloc)?;
+    for (refuses, wanted) in [(true, None), (false, RIGHT)] {
+        watch.refuse_additions(refuses);
+        for rehearses in [false, true] {
+            assert!(rt; sums(&rt, alloc, &watch, rehearses) == wanted);
+        }
     }
     Ok(())
 }

@@ -1,6 +1,6 @@
 //! Pipelines on threads: which runs are made, when, and what the gate hears.
 ghost use Rattle.std.specs.Prelude.{◌≡◌, ◌<◌, ◌≤◌, length};
-ghost use Rattle.lists.specs.declared.limits.TheConstants.{MOST_TASKS, MOST_WORKERS};
+ghost use Rattle.lists.specs.declared.limits.TheConstants.{MOST_TASKS};
 
 use crate::link::OneAndTwo;
 use pipelines::{Crew, FreeGate, Gate, OutOfMemory, Outcome, run_pair};
@@ -85,37 +85,62 @@ impl Gate for Warden {
     }
 }
 
+/// One worker and one gatherer.
+const ONE: Crew = Crew {
+    workers: 1,
+    gatherers: 1,
+};
+
+/// Two workers and one gatherer.
+const TWO: Crew = Crew {
+    workers: 2,
+    gatherers: 1,
+};
+
 /// What the runs over the first numbers give, where the link goes on with 1 and 2 or halts. Each
 /// pipeline has a watch of its own.
-fn outcome<G: Gate, R: Threads + Wait + Sync>(
+pub(crate) fn outcome<G: Gate, R: Threads + Wait + Sync>(
     rt: &R,
     alloc: Global,
     watch: &Arc<Watch, Global>,
     second_watch: Arc<Watch, Global>,
     numbers: &[u64],
     halts: bool,
-    workers: u32,
+    crew: Crew,
     gate: &G,
 ) -> Result<Outcome<u128, u128, u128>, OutOfMemory>
-    requires numbers { length numbers.now ≤ MOST_TASKS }
-    requires workers { (0 < workers) × (workers ≤ MOST_WORKERS) }
+    requires { length numbers.now ≤ MOST_TASKS }
 {
     let inputs = shared_inputs_of(alloc, watch, numbers)?;
     let link = OneAndTwo {
         watch: second_watch,
         halts,
     };
-    let crew = Crew {
-        workers,
-        gatherers: 1,
-    };
     run_pair(rt, alloc, inputs, &link, crew, gate)
+}
+
+/// Whether the crew gives the sum of these numbers, and where the link doesn't halt that of 1 and 2.
+fn is_right<R: Threads + Wait + Sync>(
+    rt: &R,
+    alloc: Global,
+    numbers: &[u64],
+    sum: u128,
+    halts: bool,
+    crew: Crew,
+) -> Result<bool, OutOfMemory>
+    requires { length numbers.now ≤ MOST_TASKS }
+{
+    let watch = Watch::shared(alloc)?;
+    let second = Arc::try_clone(&watch)?;
+    match outcome(rt, alloc, &watch, second, numbers, halts, crew, &FreeGate)? {
+        Outcome::Finished { total, kept } => Ok((total, kept, halts) == (3, sum, false)),
+        Outcome::Stopped { stop } => Ok((stop, halts) == (sum, true)),
+    }
 }
 
 #[test]
 fn every_crew_gives_one_answer(rt: HostRuntime) -> Result<(), Fail> {
     let alloc = rt.alloc();
-    let watch = Watch::shared(alloc)?;
     for (count, halts, workers) in [
         (8, false, 1),
         (8, false, 2),
@@ -124,17 +149,23 @@ fn every_crew_gives_one_answer(rt: HostRuntime) -> Result<(), Fail> {
         (0, false, 2),
         (0, true, 1),
     ] {
+        let crew = Crew {
+            workers,
+            gatherers: 1,
+        };
         let numbers = &NUMBERS[..count];
-        let wanted = (1u128 << count) - 1;
-        let second = Arc::try_clone(&watch)?;
-        match outcome(
-            &rt, alloc, &watch, second, numbers, halts, workers, &FreeGate,
-        )? {
-            Outcome::Finished { total, kept } => {
-                assert!(rt; (total, kept, halts) == (3, wanted, false));
-            }
-            Outcome::Stopped { stop } => assert!(rt; (stop, halts) == (wanted, true)),
-        }
+        let sum = (1u128 << count) - 1;
+        assert!(rt; is_right(&rt, alloc, numbers, sum, halts, crew)?);
+    }
+    for (halts, workers, gatherers) in [
+        (false, 1, 8),
+        (false, 2, 2),
+        (true, 3, 2),
+        (false, 64, 8),
+    ] {
+        let crew = Crew { workers, gatherers };
+        assert!(rt; is_right(&rt, alloc, &NUMBERS, 255, halts, crew)?);
+        assert!(rt; is_right(&rt, alloc, &[], 0, halts, crew)?);
     }
     Ok(())
 }
@@ -226,7 +257,7 @@ fn marked_tasks_are_passed_over(rt: HostRuntime) -> Result<(), Fail> {
         let watch = Watch::shared(alloc)?;
         let gate = Ledger::new(alloc, &watch)?;
         let linked = Arc::try_clone(&watch)?;
-        let _ = outcome(&rt, alloc, &watch, linked, &NUMBERS, halts, 1, &gate)?;
+        let _ = outcome(&rt, alloc, &watch, linked, &NUMBERS, halts, ONE, &gate)?;
         assert!(rt; !gate.is_wrong.load(Ordering::SeqCst));
         assert!(rt; gate.tasks(1, 0) == [1; 8]);
         assert!(rt; gate.tasks(2, 0) == second);
@@ -253,7 +284,7 @@ fn lost_pieces_are_run_again(rt: HostRuntime) -> Result<(), Fail> {
         let watch = Watch::refusing(alloc, 0..refuses)?;
         let gate = Ledger::new(alloc, &watch)?;
         let linked = Arc::try_clone(&watch)?;
-        match outcome(&rt, alloc, &watch, linked, &NUMBERS[..4], true, 1, &gate) {
+        match outcome(&rt, alloc, &watch, linked, &NUMBERS[..4], true, ONE, &gate) {
             Ok(Outcome::Stopped { stop }) => assert!(rt; (stop, answers) == (15, true)),
             Ok(Outcome::Finished { total: _, kept: _ }) => assert!(rt; false),
             Err(_) => assert!(rt; !answers),
@@ -278,7 +309,7 @@ fn finishes_when<R: Threads + Wait + Sync>(
     let watch = Watch::shared(alloc)?;
     let gate = Warden::new(held);
     let second = Arc::try_clone(&watch)?;
-    let finished = match outcome(rt, alloc, &watch, second, &NUMBERS, false, 2, &gate)? {
+    let finished = match outcome(rt, alloc, &watch, second, &NUMBERS, false, TWO, &gate)? {
         Outcome::Finished { total, kept } => total == 3 && kept == 255,
         Outcome::Stopped { stop: _ } => false,
     };
@@ -310,7 +341,7 @@ fn runs_at_once(rt: HostRuntime) -> Result<(), Fail> {
     let watch = Watch::meeting(alloc)?;
     let second = Watch::meeting(alloc)?;
     let linked = Arc::try_clone(&second)?;
-    match outcome(&rt, alloc, &watch, linked, &[1, 2], false, 2, &FreeGate)? {
+    match outcome(&rt, alloc, &watch, linked, &[1, 2], false, TWO, &FreeGate)? {
         Outcome::Finished { total, kept } => assert!(rt; (total, kept) == (3, 3)),
         Outcome::Stopped { stop: _ } => assert!(rt; false),
     }

@@ -24,6 +24,7 @@ pub fn hold(flag: &AtomicBool, gave_up: &AtomicBool) {
 #[derive(Drop)]
 pub struct Watch {
     runs: AtomicU64,
+    additions: AtomicU64,
     growths: AtomicU64,
     refusals: AtomicU64,
     first_refused: AtomicU64,
@@ -45,6 +46,7 @@ impl Watch {
             alloc,
             Watch {
                 runs: AtomicU64::new(0),
+                additions: AtomicU64::new(0),
                 growths: AtomicU64::new(0),
                 refusals: AtomicU64::new(0),
                 first_refused: AtomicU64::new(refused.start),
@@ -110,6 +112,11 @@ impl Watch {
         self.runs.load(Ordering::SeqCst)
     }
 
+    /// How many additions began, with those that were refused.
+    pub fn additions(&self) -> u64 {
+        self.additions.load(Ordering::SeqCst)
+    }
+
     /// How many growths were asked for since they were counted from 0.
     pub fn growths(&self) -> u64 {
         self.growths.load(Ordering::SeqCst)
@@ -141,6 +148,7 @@ impl Watch {
 
     /// An addition begins.
     pub(crate) fn begin_addition(&self) -> Result<(), OutOfMemory> {
+        self.additions.fetch_add(1, Ordering::SeqCst);
         if self.refuses_additions.load(Ordering::SeqCst) {
             return Err(AllocError);
         }

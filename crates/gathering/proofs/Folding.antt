@@ -1,0 +1,131 @@
+-- The steps of a gathering that keeps a total of its first inputs.
+use Rattle.std.proofs.Common.{◌≡◌, ℕ, ◌+◌, ◌<◌, ◌≤◌, Bool, true, false, ◌||◌, nat_lt, List, Option, Some, None, length, take, get_or, set, is_some, sym}
+use Rattle.std.proofs.Common.{◌∙◌, ap, arith, inl, inr, ⊎_elim}
+use Rattle.std.proofs.lemmas.Grind.{get_or-set_at}
+use Rattle.std.proofs.lemmas.List.{get_or-set_other, take_all}
+use Rattle.std.proofs.lemmas.Bool.{cases_lt}
+use Rattle.std.proofs.lemmas.Bool.Decides.{eqb_tells}
+use Rattle.std.specs.Cmp.{IsEquivalence}
+use Rattle.std.specs.Cmp.Lexicographic.{as_long}
+use Rattle.std.specs.FinSet.{union}
+use Rattle.gathering.specs.Adding.{same_inputs}
+use Rattle.gathering.specs.Kept.{IsFolded, covered_tasks, either, unless}
+use Rattle.gathering.specs.Views.{PieceView, IsComplete, belongs}
+use Rattle.gathering.proofs.CoveredTasks.{covered-union, either_way, or_left, lt_past, lt_within}
+use Rattle.gathering.proofs.EqualInputs.{same-take}
+use Rattle.gathering.proofs.FirstMissing.{view, complete_from}
+use Rattle.gathering.proofs.KeptPieces.{IsKept-file, IsKept-drop, IsKept-merge, is_some-either}
+
+-- the greater of two numbers p and q is r, and c is what goes with it
+pub record IsLonger {C : Type 0} (p q r : ℕ) (a b c : C) : Type 0 where
+  pub longer : p < q → (r ≡ q) × (c ≡ b)
+  pub own : q ≤ p → (r ≡ p) × (c ≡ a)
+
+module _ {A C : Type 0} (eq : A → A → Bool) (total_of : List A → C) (inputs : List A) where
+  -- the piece of the place p is added and dropped
+  pub IsFolded-step : (p : ℕ) (total new : C) (places : List (Option (PieceView A))) → IsFolded eq total_of inputs p total places
+      → p < length inputs → new ≡ total_of (take (p + 1) inputs) → IsFolded eq total_of inputs (p + 1) new (set places p None)
+  IsFolded-step p total new places folded h new_is =
+      let here : p < length places = let e = folded.kept.one_each in omega arith in
+      record {
+        kept = IsKept-drop eq inputs places p here folded.kept;
+        within = omega arith;
+        total_is = new_is;
+        dropped = λ k below. elim (eqb_tells k p) [
+          | inl same ↦ get_or-set_at {X = Option (PieceView A)} places p k None None same.1 here
+          | inr other ↦
+              get_or-set_other {A = Option (PieceView A)} places p k None None other.1
+              ∙ folded.dropped k (let o = other.1 in omega arith)
+        ];
+      }
+
+  -- a piece is filed from p on
+  pub IsFolded-file : (p : ℕ) (total : C) (places : List (Option (PieceView A))) (piece : PieceView A)
+      → IsFolded eq total_of inputs p total places → p ≤ piece.number → belongs eq inputs piece ≡ true
+      → IsFolded eq total_of inputs p total (set places piece.number (Some piece))
+  IsFolded-file p total places piece folded from own = record {
+    kept = IsKept-file eq inputs places piece folded.kept own;
+    within = folded.within;
+    total_is = folded.total_is;
+    dropped = λ k below. get_or-set_other places piece.number k (Some piece) None (λ e. omega arith) ∙ folded.dropped k below;
+  }
+
+  no_some : {X : Type 0} (o : Option X) → is_some o ≡ true → o ≡ None → ⊥
+  no_some None some gap = cc
+  no_some (Some x) some gap = cc
+
+  -- where no task is missing and the place p is empty, the total is whole
+  pub whole : (p : ℕ) (total : C) (places : List (Option (PieceView A))) (folded : IsFolded eq total_of inputs p total places)
+      → IsComplete (view inputs p places folded.kept.one_each folded.within) → get_or places p None ≡ None → total ≡ total_of inputs
+  whole p total places folded all gap =
+      ⊎_elim
+      (λ below.
+      let some = complete_from inputs p places folded.kept.one_each folded.within all p (omega arith) below in
+      absurd (no_some _ some gap))
+      (λ past. folded.total_is ∙ ap total_of (take_all p inputs past))
+      (cases_lt p (length inputs))
+
+-- two are merged: `r` is the longer prefix of `p` and `q`, and `both` are the pieces of either from there on
+module _
+    {A C : Type 0} (eq : A → A → Bool) (total_of : List A → C) (inputs others : List A) (same : same_inputs eq inputs others ≡ true)
+    (p q r : ℕ) (a b c : C) (own their both : List (Option (PieceView A)))
+    (folded : IsFolded eq total_of inputs p a own) (theirs : IsFolded eq total_of others q b their)
+    (chosen : IsLonger p q r a b c) (count : length both ≡ length own)
+    (united : (k : ℕ) → get_or both k None ≡ unless (nat_lt k r) (either (get_or own k None) (get_or their k None)))
+  where
+    least : (p ≤ r) × (q ≤ r)
+    least =
+        ⊎_elim
+        (λ less. let e = (chosen.longer less).0 in (omega arith, omega arith))
+        (λ more. let e = (chosen.own more).0 in (omega arith, omega arith))
+        (cases_lt p q)
+
+    pub IsFolded-merge : IsEquivalence eq → ((xs ys : List A) → same_inputs eq xs ys ≡ true → total_of xs ≡ total_of ys)
+        → IsFolded eq total_of inputs r c both
+    IsFolded-merge laws equal_totals = record {
+      kept = IsKept-merge eq laws inputs others r own their both folded.kept theirs.kept same count united;
+      within = ⊎_elim
+          (λ less. let e = chosen.longer less in let n = as_long eq inputs others same in let w = theirs.within in omega arith)
+          (λ more. let e = chosen.own more in let w = folded.within in omega arith)
+          (cases_lt p q);
+      total_is = ⊎_elim
+          (λ less.
+          (chosen.longer less).1 ∙ theirs.total_is ∙ sym (equal_totals (take q inputs) (take q others) (same-take eq q inputs others same))
+          ∙ ap (λ n. total_of (take n inputs)) (sym (chosen.longer less).0))
+          (λ more. (chosen.own more).1 ∙ folded.total_is ∙ ap (λ n. total_of (take n inputs)) (sym (chosen.own more).0))
+          (cases_lt p q);
+      dropped = λ k below. united k ∙ ap (λ t. unless t (either (get_or own k None) (get_or their k None))) (lt_within k r below);
+    }
+
+    by_place : (x y z : Bool) (o s t : Option (PieceView A)) → x ≡ false → y ≡ false → z ≡ false → o ≡ unless x (either s t)
+        → (x || is_some o) ≡ ((y || is_some s) || (z || is_some t))
+    by_place false false false o s t a b c h = ap is_some h ∙ is_some-either s t
+    by_place true y z o s t a b c h = cc
+    by_place false true z o s t a b c h = cc
+    by_place false false true o s t a b c h = cc
+
+    either_covers : (k : ℕ) → (nat_lt k r || is_some (get_or both k None))
+        ≡ ((nat_lt k p || is_some (get_or own k None)) || (nat_lt k q || is_some (get_or their k None)))
+    either_covers k =
+        ⊎_elim
+        (λ below. or_left _ _ (lt_within k r below) ∙ sym (⊎_elim
+        (λ less. either_way _ _ (or_left _ _ (lt_within k q (let e = (chosen.longer less).0 in omega arith))))
+        (λ more. or_left _ _ (or_left _ _ (lt_within k p (let e = (chosen.own more).0 in omega arith))))
+        (cases_lt p q)))
+        (λ past.
+        let l = least in
+        by_place _ _ _ _ _ _ (lt_past k r past) (lt_past k p (omega arith)) (lt_past k q (omega arith)) (united k))
+        (cases_lt k r)
+
+    pub covered-merge : covered_tasks r both ≡ union (covered_tasks p own) (covered_tasks q their)
+    covered-merge =
+        covered-union p q r own their both
+        (omega (arith, folded.kept.one_each, folded.within))
+        (omega (arith, theirs.kept.one_each, theirs.within))
+        (⊎_elim
+        (λ less.
+        let e = (chosen.longer less).0 in let n = as_long eq inputs others same in
+        omega (arith, count, folded.kept.one_each, theirs.within))
+        (λ more. let e = (chosen.own more).0 in omega (arith, count, folded.kept.one_each, folded.within))
+        (cases_lt p q))
+        either_covers

@@ -1,0 +1,44 @@
+use Rattle.std.proofs.Common.{◌≡◌, ◌<◌, arith, ◌∙◌, ap, subst, length, Some, None, get_or}
+use Rattle.std.proofs.lemmas.List.{length-map}
+use Rattle.std.specs.Arc.{arc_value}
+use Rattle.gathering.proofs.CoveredTasks.{get_or_read, covered-fold}
+use Rattle.gathering.proofs.Folding.{IsFolded-step}
+use Rattle.gathering.proofs.OneInputMore.{can_add, added}
+use Rattle.gathering.proofs.inputs.Inputs.fold.Goals as goal
+
+pub add-requires : goal.add-requires
+add-requires g c =
+    let work = g.W.Work in
+    let laws = g.met.W.Work g.world.𝓛 g.world.𝓜 g.world.𝓡 ((λ s x. x), (λ x. x), (λ x. x), λ x. x) in
+    let p = c.loop-folded.folded in
+    let places = c.loop-folded.places.items in
+    let folded = c.loop-folded.invariant.folded in
+    let admissible = subst work.IsAdmissible c.self.view_is c.self.invariant.0 in
+    let within : p < length places =
+    let t = c.loop-folded-test.true in
+    omega (arith, folded.kept.one_each, ap length c.self.view_is, length-map c.self.inside.items.items arc_value)
+    in
+    let here : get_or places p None ≡ Some c.in-Some.piece = get_or_read places p c.index.result.now None within c.index.ensures ∙ c.in-Some.is in
+    can_add work.value_of work.total_of work.IsAdmissible g.W.Input.PartialEq.eq laws.equal_values c.args.self.now places folded.kept
+    admissible p c.in-Some.piece here _ _ folded.total_is c.output.ensures
+
+pub loop-folded-preserved : goal.loop-folded-preserved
+loop-folded-preserved g c =
+    let work = g.W.Work in
+    let eq = g.W.Input.PartialEq.eq in
+    let laws = g.met.W.Work g.world.𝓛 g.world.𝓜 g.world.𝓡 ((λ s x. x), (λ x. x), (λ x. x), λ x. x) in
+    let p = c.loop-folded.folded in
+    let places = c.loop-folded.places.items in
+    let folded = c.loop-folded.invariant.folded in
+    let admissible = subst work.IsAdmissible c.self.view_is c.self.invariant.0 in
+    let within : p < length places =
+    let t = c.loop-folded-test.true in
+    omega (arith, folded.kept.one_each, ap length c.self.view_is, length-map c.self.inside.items.items arc_value)
+    in
+    let here : get_or places p None ≡ Some c.in-Some.piece = get_or_read places p c.index.result.now None within c.index.ensures ∙ c.in-Some.is in
+    let sum = added work.value_of work.total_of work.IsAdmissible eq laws.equal_values c.args.self.now places folded.kept
+    admissible p c.in-Some.piece here _ _ folded.total_is c.output.ensures _ c.in_ok-add.ensures.ok in
+    record {
+      folded = IsFolded-step eq work.total_of c.args.self.now p _ _ places folded (omega (arith, within, folded.kept.one_each)) sum;
+      covered = covered-fold p places c.in-Some.piece within here ∙ c.loop-folded.invariant.covered;
+    }
