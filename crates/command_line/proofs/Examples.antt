@@ -9,7 +9,8 @@ abbrev plain : List Text
 plain = codes "itch_bars" ∷ codes "day" ∷ codes "sales" ∷ []
 
 abbrev full : List Text
-full = codes "itch_bars" ∷ codes "--workers" ∷ codes "8" ∷ codes "day" ∷ codes "--morsel=64" ∷ codes "sales" ∷ codes "--partitions" ∷ codes "7" ∷ []
+full = codes "itch_bars" ∷ codes "--workers" ∷ codes "8" ∷ codes "day" ∷ codes "--morsel=64" ∷ codes "sales" ∷ codes "--partitions" ∷ codes "7"
+    ∷ codes "--gatherers=3" ∷ []
 
 file_and_query : (first_of (codes "FILE") (matches_of the_app plain) ≡ Some (codes "day"))
     × (first_of (codes "QUERY") (matches_of the_app plain) ≡ Some (codes "sales")) × (fault_of the_app plain ≡ [])
@@ -19,14 +20,16 @@ file_and_query = (refl, refl, refl)
 defaults : (one_of (codes "workers") (matches_of the_app plain) ≡ Some (codes "4"))
     × (one_of (codes "morsel") (matches_of the_app plain) ≡ Some (codes "1048576"))
     × (one_of (codes "partitions") (matches_of the_app plain) ≡ Some (codes "64"))
+    × (one_of (codes "gatherers") (matches_of the_app plain) ≡ Some (codes "1"))
 unfolding clap_on_literals
-defaults = (refl, refl, refl)
+defaults = (refl, refl, refl, refl)
 
 given : (one_of (codes "workers") (matches_of the_app full) ≡ Some (codes "8")) × (one_of (codes "morsel") (matches_of the_app full) ≡ Some (codes "64"))
     × (one_of (codes "partitions") (matches_of the_app full) ≡ Some (codes "7"))
+    × (one_of (codes "gatherers") (matches_of the_app full) ≡ Some (codes "3"))
     × (first_of (codes "QUERY") (matches_of the_app full) ≡ Some (codes "sales")) × (fault_of the_app full ≡ [])
 unfolding clap_on_literals
-given = (refl, refl, refl, refl, refl)
+given = (refl, refl, refl, refl, refl, refl)
 
 asks_for_help : fault_of the_app (codes "itch_bars" ∷ codes "--help" ∷ []) ≡ kind.DisplayHelp ∷ []
 unfolding clap_on_literals

@@ -25,13 +25,13 @@ use Rattle.clap.proofs.CallerLemmas.{default_present, required_has_value}
 use Rattle.clap.proofs.SimpleLemmas.{is_false, is_nil}
 use Rattle.clap.proofs.TakesLemmas.{each_rule}
 use Rattle.clap.proofs.WalkLemmas.{both, first_value-rows, one_text-rows}
-use Rattle.command_line.specs.Arguments.{file_rule, morsel_rule, partitions_rule, query_rule, the_app, workers_rule}
+use Rattle.command_line.specs.Arguments.{file_rule, gatherers_rule, morsel_rule, partitions_rule, query_rule, the_app, workers_rule}
 use Rattle.command_line.specs.Jobs.{IsWhole}
 use Rattle.command_line.proofs.Found.{IsNamed, IsValued, valued_reads}
 use Rattle.command_line.proofs.Numbers.{signed_writes, unsigned_writes}
 
 abbrev the_rules : List Rule
-the_rules = file_rule ∷ query_rule ∷ workers_rule ∷ morsel_rule ∷ partitions_rule ∷ []
+the_rules = file_rule ∷ query_rule ∷ workers_rule ∷ morsel_rule ∷ partitions_rule ∷ gatherers_rule ∷ []
 
 is_none : {X : Type 0} (o : Option X) → not (is_some o) ≡ true → o ≡ None
 is_none None e = refl
@@ -99,17 +99,17 @@ module _ (c : Command) (line : app_of c ≡ the_app) where
   rules_are : map rule_of (args_of c) ≡ the_rules
   rules_are = ap (λ (a : App). a.top.rules) line
 
-  five : length (args_of c) ≡ 5
-  five = sym (length-map (args_of c) rule_of) ∙ ap length rules_are
+  six : length (args_of c) ≡ 6
+  six = sym (length-map (args_of c) rule_of) ∙ ap length rules_are
 
-  rule_at : (k : ℕ) (d : Arg) → k < 5 → rule_of (slice_index_or (args_of c) k d) ≡ slice_index_or the_rules k (rule_of d)
+  rule_at : (k : ℕ) (d : Arg) → k < 6 → rule_of (slice_index_or (args_of c) k d) ≡ slice_index_or the_rules k (rule_of d)
   rule_at k d lt =
-      sym (get_or-map rule_of (args_of c) k d (rule_of d) (rw five lt)) ∙ ap (λ (rs : List Rule). slice_index_or rs k (rule_of d)) rules_are
+      sym (get_or-map rule_of (args_of c) k d (rule_of d) (rw six lt)) ∙ ap (λ (rs : List Rule). slice_index_or rs k (rule_of d)) rules_are
 
-  each : (p : Rule → Bool) → list_all p the_rules ≡ true → (k : ℕ) (d : Arg) → k < 5 → p (rule_of (slice_index_or (args_of c) k d)) ≡ true
-  each p passes k d lt = each_rule p (args_of c) (ap (list_all p) rules_are ∙ passes) k d (rw five lt)
+  each : (p : Rule → Bool) → list_all p the_rules ≡ true → (k : ℕ) (d : Arg) → k < 6 → p (rule_of (slice_index_or (args_of c) k d)) ≡ true
+  each p passes k d lt = each_rule p (args_of c) (ap (list_all p) rules_are ∙ passes) k d (rw six lt)
 
-  plain_at : (k : ℕ) (d : Arg) → k < 5 → IsPlainly (slice_index_or (args_of c) k d)
+  plain_at : (k : ℕ) (d : Arg) → k < 6 → IsPlainly (slice_index_or (args_of c) k d)
   plain_at k d lt = plainly (slice_index_or (args_of c) k d) (each (λ r. r.is_simple) refl k d lt) (each (λ r. r.is_free) refl k d lt)
 
   plain_fields : has_plain_fields (out-Command c) ≡ true
@@ -118,7 +118,7 @@ module _ (c : Command) (line : app_of c ≡ the_app) where
   is_plain : IsPlain c
   is_plain =
       let groups = both _ _ plain_fields in
-      ((λ k d lt. (plain_at k d (rw (← five) lt)).plain), is_nil _ groups.0)
+      ((λ k d lt. (plain_at k d (rw (← six) lt)).plain), is_nil _ groups.0)
 
   no_globals : (out-Command c).has_globals ≡ false
   no_globals =
@@ -130,7 +130,7 @@ module _ (c : Command) (line : app_of c ≡ the_app) where
   no_negates : (out-Command c).subcommand_negates_reqs ≡ false
   no_negates = ap (λ (a : App). a.top.subcommand_negates_reqs) line
 
-  named : (k : ℕ) (d : Arg) → k < 5 → IsNamed c k d
+  named : (k : ℕ) (d : Arg) → k < 6 → IsNamed c k d
   named k d lt =
       let id = (slice_index_or (args_of c) k d).id.now in
       let alone : stands_alone id ≡ true = each (λ r. stands_alone r.id) refl k d lt in
@@ -138,7 +138,7 @@ module _ (c : Command) (line : app_of c ≡ the_app) where
       let flags = both _ _ filled.1 in
       record {
         unique = λ j e low same.
-            let in_rules : j < 5 = rw (← five) low in
+            let in_rules : j < 6 = rw (← six) low in
             let there : (slice_index_or (args_of c) j e).id.now ≡ (slice_index_or the_rules j (rule_of e)).id = ap (λ (r : Rule). r.id)
             (rule_at j e in_rules) in
             let here : id ≡ (slice_index_or the_rules k (rule_of d)).id = ap (λ (r : Rule). r.id) (rule_at k d lt) in
@@ -148,7 +148,7 @@ module _ (c : Command) (line : app_of c ≡ the_app) where
         own = λ auto. elim auto [ inl h ↦ is_not _ _ flags.0 h | inr h ↦ is_not _ _ flags.1 h ];
       }
 
-  least_one : (k : ℕ) (d : Arg) → k < 5 → 1 ≤ least_values (slice_index_or (args_of c) k d)
+  least_one : (k : ℕ) (d : Arg) → k < 6 → 1 ≤ least_values (slice_index_or (args_of c) k d)
   least_one k d lt =
       let none : not (is_some (slice_index_or (args_of c) k d).num_vals) ≡ true = each (λ r. not (is_some r.range)) refl k d lt in
       let one : (slice_index_or (args_of c) k d).num_vals ≡ None = is_none _ none in
@@ -159,19 +159,19 @@ module _ (c : Command) (line : app_of c ≡ the_app) where
     no_groups = (p.from.plain is_plain).1
 
     -- a required argument has a value
-    has_value : (k : ℕ) (d : Arg) → k < 5 → (slice_index_or the_rules k (rule_of d)).required ≡ true
+    has_value : (k : ℕ) (d : Arg) → k < 6 → (slice_index_or the_rules k (rule_of d)).required ≡ true
         → (slice_index_or the_rules k (rule_of d)).action ≡ Some Set
         → is_some (first_of (slice_index_or the_rules k (rule_of d)).id (rows_of (found_of m))) ≡ true
     has_value k d lt required set =
         let name = named k d lt in
         let at = rule_at k d lt in
-        let given = required_has_value c m p is_plain no_globals no_negates k d (rw five lt) (ap (λ (r : Rule). r.required) at ∙ required)
+        let given = required_has_value c m p is_plain no_globals no_negates k d (rw six lt) (ap (λ (r : Rule). r.required) at ∙ required)
         (ap (λ (r : Rule). r.action) at ∙ set) (plain_at k d lt).delim (least_one k d lt) name.unique name.named name.own in
         subst (λ (id : Text). is_some (first_of id (rows_of (found_of m))) ≡ true) (ap (λ (r : Rule). r.id) at)
         (rw (← first_value-rows (found_of m) (slice_index_or (args_of c) k d).id.now) given)
 
     -- an argument with a default has a text that its parser takes
-    has_text : (k : ℕ) (d : Arg) (q : ValueParser) → k < 5 → 0 < length (slice_index_or the_rules k (rule_of d)).defaults
+    has_text : (k : ℕ) (d : Arg) (q : ValueParser) → k < 6 → 0 < length (slice_index_or the_rules k (rule_of d)).defaults
         → (slice_index_or the_rules k (rule_of d)).action ≡ Some Set → (slice_index_or the_rules k (rule_of d)).parser ≡ Some q
         → (t : Text) × (one_of (slice_index_or the_rules k (rule_of d)).id (rows_of (found_of m)) ≡ Some (read_as (reading_of q) t))
         × Accepts (slice_index_or (args_of c) k d).ignore_case q t
@@ -179,7 +179,7 @@ module _ (c : Command) (line : app_of c ≡ the_app) where
         let a = slice_index_or (args_of c) k d in
         let at = rule_at k d lt in
         let valued : IsValued c k d q = record {
-          here = rw five lt;
+          here = rw six lt;
           set = ap (λ (r : Rule). r.action) at ∙ set;
           delim = (plain_at k d lt).delim;
           least = least_one k d lt;
@@ -187,7 +187,7 @@ module _ (c : Command) (line : app_of c ≡ the_app) where
         } in
         let lengths : length (items_of a.default_vals) ≡ length (slice_index_or the_rules k (rule_of d)).defaults =
         sym (length-map (items_of a.default_vals) (λ s. s.now)) ∙ ap (λ (r : Rule). length r.defaults) at in
-        let there = default_present c m p no_globals k d (rw five lt) ((plain_at k d lt).ifs, rw lengths some) in
+        let there = default_present c m p no_globals k d (rw six lt) ((plain_at k d lt).ifs, rw lengths some) in
         let read = valued_reads c m p no_groups k d q valued (named k d lt) (p.from.globals ∙ no_globals) there in (
           read.0,
           subst (λ (id : Text). one_of id (rows_of (found_of m)) ≡ Some (read_as (reading_of q) read.0)) (ap (λ (r : Rule). r.id) at)
@@ -198,14 +198,16 @@ module _ (c : Command) (line : app_of c ≡ the_app) where
     -- so all that a job has is there
     pub whole_of : IsWhole (rows_of (found_of m))
     whole_of =
-        let d = some_arg (args_of c) (rw five (omega arith)) in
+        let d = some_arg (args_of c) (rw six (omega arith)) in
         let workers = has_text 2 d (Signed (pos 1) (pos 64)) (omega arith) (omega arith) refl refl in
         let morsel = has_text 3 d (Unsigned 1 1073741824) (omega arith) (omega arith) refl refl in
         let partitions = has_text 4 d (Signed (pos 1) (pos 256)) (omega arith) (omega arith) refl refl in
+        let gatherers = has_text 5 d (Signed (pos 1) (pos 8)) (omega arith) (omega arith) refl refl in
         record {
           file = has_value 0 d (omega arith) refl refl;
           query = has_value 1 d (omega arith) refl refl;
           workers = (_, workers.1, signed_writes 1 64 workers.0 (omega arith) workers.2);
           morsel = (_, morsel.1, unsigned_writes 1 1073741824 morsel.0 morsel.2);
           partitions = (_, partitions.1, signed_writes 1 256 partitions.0 (omega arith) partitions.2);
+          gatherers = (_, gatherers.1, signed_writes 1 8 gatherers.0 (omega arith) gatherers.2);
         }

@@ -1,7 +1,7 @@
 -- The program's command line, as what clap reads of it.
 -- To be believed.
 use Rattle.std.specs.Prelude.{[], ◌∷◌, Some, codes, pos, true}
-use Rattle.lists.specs.declared.limits.TheConstants.{LARGEST_MORSEL, MOST_PARTITIONS, MOST_WORKERS}
+use Rattle.lists.specs.declared.limits.TheConstants.{LARGEST_MORSEL, MOST_GATHERERS, MOST_PARTITIONS, MOST_WORKERS}
 use Rattle.clap.specs.Words.{App, Rule, new_app, new_rule, with_rule}
 use Rattle.clap.specs.declared.builder.action.ArgAction.TheVariants.{Set}
 use Rattle.clap.specs.declared.builder.value_parser.ValueParser.TheVariants.{Signed, Unsigned}
@@ -44,7 +44,17 @@ partitions_rule = record (new_rule (codes "partitions")) {
   defaults = codes "64" ∷ [];
 }
 
+-- `--gatherers N`, from 1 to the most gatherers, and 1 where it is left out
+abbrev pub gatherers_rule : Rule
+gatherers_rule = record (new_rule (codes "gatherers")) {
+  long = Some (codes "gatherers");
+  value_names = 1;
+  action = Some Set;
+  parser = Some (Signed (pos 1) (pos MOST_GATHERERS));
+  defaults = codes "1" ∷ [];
+}
+
 -- the program's command line
 abbrev pub the_app : App
-the_app = with_rule (with_rule (with_rule (with_rule (with_rule (new_app (codes "itch_bars"))
-    file_rule) query_rule) workers_rule) morsel_rule) partitions_rule
+the_app = with_rule (with_rule (with_rule (with_rule (with_rule (with_rule (new_app (codes "itch_bars"))
+    file_rule) query_rule) workers_rule) morsel_rule) partitions_rule) gatherers_rule

@@ -7,8 +7,8 @@ use Rattle.clap.specs.Words.{IsAmong, Kinds, Row, Text, first_of, one_of}
 use Rattle.clap.specs.declared.error.kind.ErrorKind.{ErrorKind}
 use Rattle.clap.specs.declared.error.kind.ErrorKind.TheVariants.{DisplayHelp}
 use Rattle.executor.specs.declared.settings.Settings.{Settings}
-use Rattle.lists.specs.declared.limits.TheConstants.{LARGEST_MORSEL, LONGEST_FILE, MOST_PARTITIONS}
-use Rattle.lists.specs.declared.limits.TheConstants.{MOST_WORKERS}
+use Rattle.lists.specs.declared.limits.TheConstants.{LARGEST_MORSEL, LONGEST_FILE, MOST_GATHERERS}
+use Rattle.lists.specs.declared.limits.TheConstants.{MOST_PARTITIONS, MOST_WORKERS}
 use Rattle.command_line.specs.declared.arguments.Job.{Job}
 use Rattle.command_line.specs.declared.arguments.WordsFault.{WordsFault}
 use Rattle.command_line.specs.declared.arguments.WordsFault.TheVariants as fault
@@ -22,6 +22,7 @@ pub record HasSettingsOf (rows : List Row) (settings : Settings) : Type 0 where
   pub workers : option_map number_of (one_of (codes "workers") rows) ≡ Some settings.crew.workers
   pub morsel : option_map number_of (one_of (codes "morsel") rows) ≡ Some settings.morsel
   pub partitions : option_map number_of (one_of (codes "partitions") rows) ≡ Some settings.parts
+  pub gatherers : option_map number_of (one_of (codes "gatherers") rows) ≡ Some settings.crew.gatherers
   pub limit : settings.limit ≡ LONGEST_FILE
 
 -- the job has the path, the query and the numbers that clap found
@@ -54,3 +55,4 @@ pub record IsWhole (rows : List Row) : Type 0 where
   pub workers : HasNumberIn 1 MOST_WORKERS (codes "workers") rows
   pub morsel : HasNumberIn 1 LARGEST_MORSEL (codes "morsel") rows
   pub partitions : HasNumberIn 1 MOST_PARTITIONS (codes "partitions") rows
+  pub gatherers : HasNumberIn 1 MOST_GATHERERS (codes "gatherers") rows

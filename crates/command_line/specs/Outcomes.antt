@@ -38,7 +38,7 @@ Did Gave HasEnded source_failed OutTook OutHasFlushed out_failed Took HasFlushed
     job before after out out_after errors errors_after status =
     (outcome : Result (Unit {0}) RunFault)
     × Ran Gave HasEnded OutTook OutHasFlushed
-    (string_bytes job.query) job.settings.limit before after out out_after outcome
+    (string_bytes job.query) job.settings.limit job.settings.morsel before after out out_after outcome
     × (source_failed after ≡ is_read_failed outcome)
     × (out_failed out_after ≡ is_write_failed outcome)
     × (status ≡ status_of_outcome outcome)

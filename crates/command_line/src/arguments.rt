@@ -4,8 +4,8 @@ ghost use Rattle.clap.specs.Values.{kind_of};
 ghost use Rattle.clap.specs.declared.error.kind.ErrorKind.TheVariants.{InvalidValue};
 ghost use Rattle.clap.specs.Words.{FailsBy, HasKind, Kinds, app_of, fault_of, found_of};
 ghost use Rattle.clap.specs.Words.{matches_of, rows_of, rule_of};
-ghost use Rattle.command_line.specs.Arguments.{file_rule, morsel_rule, partitions_rule};
-ghost use Rattle.command_line.specs.Arguments.{query_rule, the_app, workers_rule};
+ghost use Rattle.command_line.specs.Arguments.{file_rule, gatherers_rule, morsel_rule};
+ghost use Rattle.command_line.specs.Arguments.{partitions_rule, query_rule, the_app, workers_rule};
 ghost use Rattle.command_line.specs.Jobs.{HasSettingsOf, IsFaultOf, IsJobOf, IsWhole};
 
 use clap::error::ErrorKind;
@@ -120,7 +120,8 @@ fn clap_command<'a>(alloc: Global) -> Result<Command<'a>, AllocError>
         .arg(query_argument(alloc))?
         .arg(workers_option(alloc))?
         .arg(morsel_option(alloc))?
-        .arg(partitions_option(alloc))
+        .arg(partitions_option(alloc))?
+        .arg(gatherers_option(alloc))
 }
 
 /// The day file's path.
@@ -187,6 +188,20 @@ fn partitions_option<'a>(alloc: Global) -> Arg<'a>
         .help("Partitions of the order references, 1 to 256; no answer depends on them")
 }
 
+/// How many threads gather what the workers find.
+fn gatherers_option<'a>(alloc: Global) -> Arg<'a>
+    ensures rule { rule_of result ≡ gatherers_rule }
+    ensures local { result.global ≡ false }
+{
+    Arg::new(alloc, "gatherers")
+        .long("gatherers")
+        .value_name("N")
+        .action(ArgAction::Set)
+        .value_parser(value_parser!(u32).range(1..=8))
+        .default_value("1")
+        .help("Threads that gather what the workers find, 1 to 8; no answer depends on them")
+}
+
 /// The job of what was matched.
 fn job_of(alloc: Global, matches: &ArgMatches<'_>) -> Result<Job, AllocError>
     requires { IsWhole (rows_of (found_of matches.now)) }
@@ -209,10 +224,8 @@ fn settings_of(matches: &ArgMatches<'_>) -> Settings
     let workers = matches.get_one::<u32>("workers").unwrap();
     let morsel = matches.get_one::<u64>("morsel").unwrap();
     let parts = matches.get_one::<u32>("partitions").unwrap();
-    let crew = Crew {
-        workers,
-        gatherers: 1,
-    };
+    let gatherers = matches.get_one::<u32>("gatherers").unwrap();
+    let crew = Crew { workers, gatherers };
     Settings {
         crew,
         morsel,

@@ -5,17 +5,19 @@ ghost use Rattle.command_line.specs.Outcomes.{Delivered, Did, Explained};
 use crate::arguments::{Job, WordsFault};
 use crate::reports::{line_of, status_of};
 use executor::{RunFault, Sink, Source, WriteFailed, deliver, run};
-use std::alloc::Allocator;
+use std::alloc::Global;
+use std::sync::Wait;
+use std::thread::Threads;
 
 /// The status of wrong words on the command line.
 const WRONG_WORDS: u8 = 2;
 
 /// Does a job: reads the day file from the source, and writes the answer to `out`, or one line that
 /// says why there is none to `errors`. Gives the program's status. A line that can't be written
-/// doesn't change it.
-pub fn perform<R, A: Allocator + Copy, S: Source, K: Sink, L: Sink>(
+/// doesn't change it. It waits for the threads that find the answer.
+pub fn perform<R: Threads + Wait + Sync, S: Source, K: Sink, L: Sink>(
     rt: &R,
-    alloc: A,
+    alloc: Global,
     job: &Job,
     source: &mut S,
     out: &mut K,
@@ -38,9 +40,9 @@ pub fn perform<R, A: Allocator + Copy, S: Source, K: Sink, L: Sink>(
 
 /// Does a job on the day file that was opened. One that can't be opened is reported before the query
 /// is looked at.
-pub fn perform_opened<R, A: Allocator + Copy, S: Source + Drop, K: Sink, L: Sink>(
+pub fn perform_opened<R: Threads + Wait + Sync, S: Source + Drop, K: Sink, L: Sink>(
     rt: &R,
-    alloc: A,
+    alloc: Global,
     job: &Job,
     opened: Option<S>,
     out: &mut K,

@@ -1,5 +1,5 @@
--- Of tasks that arrive each once, in order, none is left.
-use Rattle.std.proofs.Common.{◌≡◌, ℕ, ◌+◌, ◌<◌, ◌==◌, ◌||◌, Bool, true, false, not, cond, All, List, [], ◌∷◌, Option, Some, None, MatchOption, find, get_or}
+-- Where all tasks have arrived, as those do that arrive each once, in order, none is left.
+use Rattle.std.proofs.Common.{◌≡◌, ℕ, ◌<◌, ◌==◌, ◌||◌, Bool, true, false, not, cond, All, List, [], ◌∷◌, Option, Some, None, MatchOption, find, get_or}
 use Rattle.std.proofs.Common.{length, map, refl, sym, ap, ◌∙◌, subst, arith}
 use Rattle.std.specs.List.{AllByRecursion, concat, list_any}
 use Rattle.std.proofs.lemmas.List.Elements.{recursion_from_All}
@@ -13,7 +13,7 @@ use Rattle.answers.specs.Messages.{first_wrong}
 use Rattle.pipelines.specs.Schedules.{brings, first_left, has_arrived}
 use Rattle.pipelines.specs.declared.event.Event.{Event}
 use Rattle.pipelines.specs.declared.event.Event.TheVariants.{Arrive}
-use Rattle.executor.specs.Rehearsals.{IsFinished, IsRehearsed, each_once}
+use Rattle.executor.specs.Rehearsals.{HaveArrived, IsFinished, IsRehearsed, each_once}
 use Rattle.executor.specs.declared.calls.rehearse.Rehearsal.{Rehearsal}
 use Rattle.executor.specs.declared.calls.rehearse.Rehearsal.TheVariants.{Missing}
 
@@ -30,30 +30,37 @@ none_found : (p : ℕ → Bool) (xs : List ℕ) → AllByRecursion (λ x. p x �
 none_found p [] all = refl
 none_found p (x ∷ xs) all = ap (λ b. cond b (Some x) (find p xs)) all.0 ∙ none_found p xs all.1
 
-none_left : (n : ℕ) → first_left 1 n (each_once n) ≡ None
-none_left n = none_found p (numbers_below n) (recursion_from_All (λ x. p x ≡ false) (numbers_below n) each)
+-- of tasks that have all arrived none is left
+none_left : (gatherers n : ℕ) (events : List Event) → HaveArrived gatherers n events → first_left gatherers n events ≡ None
+none_left gatherers n events all = none_found p (numbers_below n) (recursion_from_All (λ x. p x ≡ false) (numbers_below n) each)
   where
     p : ℕ → Bool
-    p task = not (has_arrived 1 (each_once n) task)
+    p task = not (has_arrived gatherers events task)
 
     each : All (λ x. p x ≡ false) (numbers_below n)
     each k d within =
         let below : k < n = omega (arith, within, length-range_with_len 0 n) in
         let here : k ≡ get_or (numbers_below n) k d = sym (get_or-range_with_len 0 n k d below ∙ omega arith) in
-        subst (λ x. p x ≡ false) here (ap not (arrived n k below))
+        subst (λ x. p x ≡ false) here (ap not (all k below))
 
 from_none : {T : Type 0} (o : Option T) (P : Type 0) (Q : T → Type 0) → o ≡ None → MatchOption o P Q → P
 from_none o P Q e m = subst (λ o. MatchOption o P Q) e m
 
-pub once_in_order : (runs : List (List ℕ)) (query : Meaning) (parts : ℕ) (rehearsal : Rehearsal)
-    → IsRehearsed runs query parts 1 (each_once (length runs)) (each_once parts) rehearsal → IsFinished (concat runs) query rehearsal
-once_in_order runs query parts rehearsal of =
-    go (first_wrong of.frames) (from_none (first_left 1 (length runs) (each_once (length runs))) _ _ (none_left (length runs)) of.is)
+pub all_arrived : (runs : List (List ℕ)) (query : Meaning) (parts gatherers : ℕ) (events1 events2 : List Event) (rehearsal : Rehearsal)
+    → IsRehearsed runs query parts gatherers events1 events2 rehearsal → HaveArrived gatherers (length runs) events1 → HaveArrived gatherers parts events2
+    → IsFinished (concat runs) query rehearsal
+all_arrived runs query parts gatherers events1 events2 rehearsal of first second =
+    go (first_wrong of.frames) (from_none (first_left gatherers (length runs) events1) _ _ (none_left gatherers (length runs) events1 first) of.is)
   where
     go : (wrong : Option PlacedBody)
         → MatchOption wrong
-        (MatchOption (first_left 1 parts (each_once parts)) (IsFinished (concat runs) query rehearsal) (λ task. rehearsal ≡ Missing 2 task))
+        (MatchOption (first_left gatherers parts events2) (IsFinished (concat runs) query rehearsal) (λ task. rehearsal ≡ Missing 2 task))
         (λ w. IsFinished (concat runs) query rehearsal)
         → IsFinished (concat runs) query rehearsal
     go (Some frame) is = is
-    go None is = from_none (first_left 1 parts (each_once parts)) _ _ (none_left parts) is
+    go None is = from_none (first_left gatherers parts events2) _ _ (none_left gatherers parts events2 second) is
+
+pub once_in_order : (runs : List (List ℕ)) (query : Meaning) (parts : ℕ) (rehearsal : Rehearsal)
+    → IsRehearsed runs query parts 1 (each_once (length runs)) (each_once parts) rehearsal → IsFinished (concat runs) query rehearsal
+once_in_order runs query parts rehearsal of =
+    all_arrived runs query parts 1 (each_once (length runs)) (each_once parts) rehearsal of (arrived (length runs)) (arrived parts)

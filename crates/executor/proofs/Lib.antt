@@ -1,5 +1,6 @@
-pub mod Steps
-pub mod Written
 pub mod MorselInputs
+pub mod CutAnswers
+pub mod Answered
 pub mod Rehearsed
 pub mod EachOnce
+pub mod OneRehearsal

@@ -1,19 +1,16 @@
 -- The inputs of the first pipeline, morsel after morsel.
-use Rattle.std.proofs.Common.{◌≡◌, ℕ, zero, suc, ◌+◌, ◌<◌, ◌≤◌, All, List, [], ◌∷◌, ◌++◌, Option, Some, get_or, length, map, slice_get, take, refl, sym, ap}
-use Rattle.std.proofs.Common.{ap₂, ◌∙◌, subst, arith}
-use Rattle.std.specs.Arc.{arc_value}
+use Rattle.std.proofs.Common.{◌≡◌, ℕ, suc, ◌+◌, ◌<◌, ◌≤◌, List, [], ◌∷◌, ◌++◌, Option, Some, get_or, length, map, slice_get, take, refl, sym, ap}
+use Rattle.std.proofs.Common.{ap₂, ◌∙◌, arith}
 use Rattle.std.specs.List.{AllByRecursion, concat}
-use Rattle.std.specs.declared.alloc.Global.{Global}
-use Rattle.std.specs.declared.sync.Arc.{Arc}
-use Rattle.std.proofs.lemmas.List.{get_or_default, length-map, take_all, take_more}
-use Rattle.std.proofs.lemmas.List.Elements.{All-append, All-from_recursion, All-nil, recursion_from_All}
+use Rattle.std.proofs.lemmas.List.{get_or_default, take_all, take_more}
+use Rattle.std.proofs.lemmas.List.Elements.{All-append, All-nil}
 use Rattle.std.proofs.lemmas.Option.{slice_get_read}
 use Rattle.lists.proofs.Lists.{map_more}
 use Rattle.day_file.specs.Cuts.{AreBytes, MorselView, start_of}
 use Rattle.day_file.specs.Kept.{numbered}
-use Rattle.day_file.proofs.Kept.{IsMorselOf, numbered_at}
+use Rattle.day_file.proofs.Kept.{numbered_at}
 use Rattle.scanning.specs.Scans.{ScanInputView}
-use Rattle.executor.specs.Steps.{inputs_of}
+use Rattle.executor.specs.FirstPipeline.{inputs_of}
 
 pub length-numbered : (number start : ℕ) (runs : List (List ℕ)) → length (numbered number start runs) ≡ length runs
 length-numbered number start [] = refl

@@ -1,31 +1,14 @@
 -- What the two pipelines give by their schedules is what a rehearsal gives.
-use Rattle.std.proofs.Common.{◌≡◌, ℕ, ◌<◌, ◌≤◌, All, List, Option, Some, None, option_map, MatchOption, Result, Err, length, map, flat_map, refl, sym, ap}
-use Rattle.std.proofs.Common.{◌∙◌, subst, arith, ◌⊎◌, inl, inr}
-use Rattle.std.specs.List.{concat}
+use Rattle.std.proofs.Common.{◌≡◌, ℕ, ◌<◌, List, Option, Some, None, MatchOption, Err, length, refl, sym, ap, ◌∙◌, subst, ◌⊎◌, inl, inr}
 use Rattle.std.specs.declared.alloc.Global.{Global}
 use Rattle.std.proofs.lemmas.List.{length-map}
-use Rattle.std.proofs.lemmas.List.Elements.{recursion_from_All}
 use Rattle.std.proofs.lemmas.List.FromFn.{length-map-range_with_len}
-use Rattle.lists.specs.Least.{numbers_below}
-use Rattle.lists.specs.declared.limits.TheConstants.{LONGEST_FILE}
 use Rattle.time_and_sales.specs.declared.directory.DirectoryRow.{DirectoryRow}
-use Rattle.day_file.specs.Cuts.{AreBytes, IsRun, MorselView}
-use Rattle.day_file.specs.Frames.{PlacedBody, StandsFor}
+use Rattle.day_file.specs.Cuts.{MorselView}
 use Rattle.day_file.specs.Kept.{numbered}
-use Rattle.day_file.specs.Walk.{frames_of}
-use Rattle.day_file.proofs.CutFrames.{frames_of_cut}
-use Rattle.day_file.proofs.Laws.{places_rise}
 use Rattle.query.specs.Meaning.{Meaning}
-use Rattle.answers.specs.Answers.{IsAnswer, IsAnswerToMessages, told_by, wrong_length_at}
-use Rattle.answers.specs.DayRows.{DayRows}
-use Rattle.answers.specs.Messages.{Placed, directory_rows, first_wrong, messages_of}
+use Rattle.answers.specs.Answers.{IsAnswerToMessages, told_by}
 use Rattle.answers.specs.declared.answer.Answer.{Answer}
-use Rattle.answers.specs.declared.day_fault.DayFault.{DayFault}
-use Rattle.answers.proofs.AnswerOfSteps.{messages_answer, wrong_length_answers}
-use Rattle.answers.proofs.CountedMessages.{counted_by_place}
-use Rattle.answers.proofs.FewTrades.{few_trades}
-use Rattle.answers.proofs.RowsByPlace.{messages_by_place}
-use Rattle.answers.proofs.StampedMessages.{stamped_rows}
 use Rattle.pipelines.specs.Rehearsals.{after_link, unless_missing}
 use Rattle.pipelines.specs.Schedules.{first_left}
 use Rattle.pipelines.specs.declared.event.Event.{Event}
@@ -36,15 +19,13 @@ use Rattle.scanning.specs.declared.wrong.WrongLength.{WrongLength}
 use Rattle.buckets.specs.BucketRows.{BucketView}
 use Rattle.buckets.specs.Buckets.{total_found}
 use Rattle.buckets.specs.FoundRows.{TotalView}
-use Rattle.planning.specs.Gathered.{AreGatheredOf, found_in}
+use Rattle.planning.specs.Gathered.{AreGatheredOf}
 use Rattle.planning.specs.Planned.{LinkView, all_directory, linked_to, planned_bucket}
-use Rattle.planning.proofs.MorselsOfCuts.{counted_in, directory_is, input_of, told_of, wrong_is}
-use Rattle.planning.proofs.TotalsOfCuts.{linked_total}
-use Rattle.executor.specs.Rehearsals.{IsFinished, IsRehearsed}
-use Rattle.executor.specs.Steps.{inputs_of, wrong_fault}
-use Rattle.executor.specs.declared.calls.rehearse.Rehearsal.{Rehearsal}
+use Rattle.executor.specs.Rehearsals.{IsRehearsed}
+use Rattle.executor.specs.FirstPipeline.{inputs_of, wrong_fault}
 use Rattle.executor.specs.declared.calls.rehearse.Rehearsal.TheVariants as rehearsal
-use Rattle.executor.proofs.MorselInputs.{bytes_joined, length-numbered}
+use Rattle.executor.proofs.MorselInputs.{length-numbered}
+use Rattle.executor.proofs.CutAnswers.{AreRuns, answered_by, buckets, frames, gathered_by, halted_by, link, messages, right_frames, scan, stands, wrong_frame}
 
 abbrev Pair : Type 0
 Pair = Rehearsed TotalView (List DirectoryRow) WrongLength
@@ -112,115 +93,77 @@ at_none o P Q e p = subst (λ o. MatchOption o P Q) (sym e) p
 at_some : {T : Type 0} (o : Option T) (P : Type 0) (Q : T → Type 0) (x : T) → o ≡ Some x → Q x → MatchOption o P Q
 at_some o P Q x e q = subst (λ o. MatchOption o P Q) (sym e) q
 
--- the runs of a cut: whole frames, bytes, no more than a file may have
-pub record AreRuns (runs : List (List ℕ)) : Type 0 where
-  pub each : All IsRun runs
-  pub bytes : All AreBytes runs
-  pub within : length (concat runs) ≤ LONGEST_FILE
-
 module _ (runs : List (List ℕ)) (query : Meaning) (parts gatherers : ℕ) (events1 events2 : List Event) (are : AreRuns runs) where
-  abbrev morsels : List MorselView
-  morsels = numbered 0 0 runs
+  abbrev scanned : ScanTotalView
+  scanned = scan runs query parts
 
-  abbrev frames : List PlacedBody
-  frames = flat_map frames_of morsels
-
-  abbrev pub messages : List Placed
-  messages = counted_in query.as_of parts morsels
-
-  abbrev scan : ScanTotalView
-  scan = total_of (map (input_of query.as_of parts) morsels)
-
-  abbrev buckets : List BucketView
-  buckets = map (planned_bucket query scan.morsels) (numbers_below parts)
-
-  abbrev link : LinkView
-  link = record { query = query; parts = parts }
+  abbrev all_buckets : List BucketView
+  all_buckets = buckets runs query parts
 
   -- what the pair gives
   abbrev pub given : Pair
   given = unless_missing 1 (first_left gatherers (length (inputs_of query.as_of parts runs)) events1)
-      (after_link total_found gatherers events2 (linked_to link (total_of (inputs_of query.as_of parts runs))))
+      (after_link total_found gatherers events2 (linked_to (link runs query parts) (total_of (inputs_of query.as_of parts runs))))
 
-  pub given_by : (inputs : List ScanInputView) (to : LinkView) (r : Pair) → inputs ≡ inputs_of query.as_of parts runs → to ≡ link
+  pub given_by : (inputs : List ScanInputView) (to : LinkView) (r : Pair) → inputs ≡ inputs_of query.as_of parts runs → to ≡ link runs query parts
       → r ≡ unless_missing 1 (first_left gatherers (length inputs) events1) (after_link total_found gatherers events2 (linked_to to (total_of inputs)))
       → r ≡ given
   given_by inputs to r same linked is =
       is ∙ (λ i. unless_missing 1 (first_left gatherers (length (same i)) events1)
       (after_link total_found gatherers events2 (linked_to (linked i) (total_of (same i)))))
 
-  stands : StandsFor frames (concat runs)
-  stands = frames_of_cut runs are.each
-
   tasks : length (inputs_of query.as_of parts runs) ≡ length runs
-  tasks = length-map morsels (λ (morsel : MorselView). record { morsel = morsel; as_of = query.as_of; parts = parts }) ∙ length-numbered 0 0 runs
+  tasks =
+      length-map (numbered 0 0 runs) (λ (morsel : MorselView). record { morsel = morsel; as_of = query.as_of; parts = parts })
+      ∙ length-numbered 0 0 runs
 
-  after : (wrong : Option WrongLength) → scan.wrong ≡ wrong
-      → after_link total_found gatherers events2 (linked_to link scan)
-      ≡ stopped_or wrong (unless_missing 2 (first_left gatherers (length buckets) events2) (pair.Finished (total_found buckets) (all_directory scan.morsels)))
-  after (Some w) e = ap (λ o. after_link total_found gatherers events2 (linked_to link (record { morsels = scan.morsels; wrong = o }))) e
-  after None e = ap (λ o. after_link total_found gatherers events2 (linked_to link (record { morsels = scan.morsels; wrong = o }))) e
+  abbrev found : Pair
+  found = pair.Finished (total_found all_buckets) (all_directory scanned.morsels)
+
+  after : (wrong : Option WrongLength) → scanned.wrong ≡ wrong
+      → after_link total_found gatherers events2 (linked_to (link runs query parts) scanned)
+      ≡ stopped_or wrong (unless_missing 2 (first_left gatherers (length all_buckets) events2) found)
+  after (Some w) e =
+      ap (λ o. after_link total_found gatherers events2 (linked_to (link runs query parts) (record { morsels = scanned.morsels; wrong = o }))) e
+  after None e =
+      ap (λ o. after_link total_found gatherers events2 (linked_to (link runs query parts) (record { morsels = scanned.morsels; wrong = o }))) e
 
   given_is : given ≡ unless_missing 1 (first_left gatherers (length runs) events1)
-      (stopped_or scan.wrong (unless_missing 2 (first_left gatherers parts events2) (pair.Finished (total_found buckets) (all_directory scan.morsels))))
+      (stopped_or scanned.wrong (unless_missing 2 (first_left gatherers parts events2) found))
   given_is =
-      let n : length buckets ≡ parts = length-map-range_with_len (planned_bucket query scan.morsels) 0 parts in
-      (λ i. unless_missing 1 (first_left gatherers (tasks i) events1) (after scan.wrong refl i))
+      let n : length all_buckets ≡ parts = length-map-range_with_len (planned_bucket query scanned.morsels) 0 parts in
+      (λ i. unless_missing 1 (first_left gatherers (tasks i) events1) (after scanned.wrong refl i))
       ∙ ap (λ k. unless_missing 1 (first_left gatherers (length runs) events1)
-      (stopped_or scan.wrong (unless_missing 2 (first_left gatherers k events2) (pair.Finished (total_found buckets) (all_directory scan.morsels))))) n
-
-  right_frames : scan.wrong ≡ None → first_wrong frames ≡ None
-  right_frames e = go (first_wrong frames) (sym (wrong_is query.as_of parts morsels) ∙ e)
-    where
-      go : (o : Option PlacedBody) → option_map told_of o ≡ None → o ≡ None
-      go None f = refl
-      go (Some frame) f = absurd (cc)
-
-  wrong_frame : (stop : WrongLength) → scan.wrong ≡ Some stop → (frame : PlacedBody) × (first_wrong frames ≡ Some frame) × (told_of frame ≡ stop)
-  wrong_frame stop e = go (first_wrong frames) refl (sym (wrong_is query.as_of parts morsels) ∙ e)
-    where
-      go : (o : Option PlacedBody) → first_wrong frames ≡ o → option_map told_of o ≡ Some stop
-          → (frame : PlacedBody) × (first_wrong frames ≡ Some frame) × (told_of frame ≡ stop)
-      go None f g = absurd (cc)
-      go (Some frame) f g = let same : told_of frame ≡ stop = cc in (frame, f, same)
+      (stopped_or scanned.wrong (unless_missing 2 (first_left gatherers k events2) found))) n
 
   -- all arrived, and no length is wrong
-  pub gathered : (total : TotalView) (kept : List DirectoryRow) → 0 < parts → pair.Finished total kept ≡ given → AreGatheredOf query total kept messages
+  pub gathered : (total : TotalView) (kept : List DirectoryRow) → 0 < parts → pair.Finished total kept ≡ given
+      → AreGatheredOf query total kept (messages runs query parts)
   gathered total kept some e =
       let is = done _ _ _ _ _ _ _ (e ∙ given_is) in
-      record {
-        parts = parts;
-        some = some;
-        by_place = counted_by_place query.as_of (messages_of frames) (messages_by_place frames (places_rise 0 frames stands.places));
-        few = few_trades query.as_of (concat runs) frames stands are.within;
-        stamped = stamped_rows query.as_of (concat runs) frames (bytes_joined runs (recursion_from_All AreBytes runs are.bytes)) stands;
-        total_is = is.total ∙ linked_total query parts morsels;
-        names_are = is.kept ∙ directory_is query.as_of parts morsels;
-      }
+      gathered_by runs query parts are total kept some is.total is.kept
 
   pub finished : (total : TotalView) (kept : List DirectoryRow) (answer : Answer Global) → pair.Finished total kept ≡ given
-      → IsAnswerToMessages messages query (told_by answer) → IsRehearsed runs query parts gatherers events1 events2 (rehearsal.Finished answer)
+      → IsAnswerToMessages (messages runs query parts) query (told_by answer)
+      → IsRehearsed runs query parts gatherers events1 events2 (rehearsal.Finished answer)
   finished total kept answer e answers =
       let is = done _ _ _ _ _ _ _ (e ∙ given_is) in
-      let right = right_frames is.right in
       record {
-        frames = frames;
-        stand = stands;
-        is = at_none _ _ _ is.first (at_none _ _ _ right (at_none _ _ _ is.second
-            (messages_answer (concat runs) query frames (told_by answer) stands right answers)));
+        frames = frames runs query parts;
+        stand = stands runs query parts are;
+        is = at_none _ _ _ is.first (at_none _ _ _ (right_frames runs query parts is.right) (at_none _ _ _ is.second
+            (answered_by runs query parts are (told_by answer) is.right answers)));
       }
 
   pub halted : (stop : WrongLength) (answer : Answer Global) → pair.Stopped stop ≡ given → told_by answer ≡ Err (wrong_fault stop)
       → IsRehearsed runs query parts gatherers events1 events2 (rehearsal.Finished answer)
   halted stop answer e told =
       let is = stopped _ _ _ _ _ _ (e ∙ given_is) in
-      let wrong = wrong_frame stop is.wrong_is in
+      let wrong = wrong_frame runs query parts stop is.wrong_is in
       record {
-        frames = frames;
-        stand = stands;
-        is = at_none _ _ _ is.first (at_some _ _ _ wrong.0 wrong.1
-            (subst (IsAnswer (concat runs) query) (ap (λ (w : WrongLength). Err (wrong_fault w)) wrong.2 ∙ sym told)
-            (wrong_length_answers (concat runs) query frames wrong.0 stands wrong.1)));
+        frames = frames runs query parts;
+        stand = stands runs query parts are;
+        is = at_none _ _ _ is.first (at_some _ _ _ wrong.0 wrong.1 (halted_by runs query parts are stop (told_by answer) is.wrong_is told));
       }
 
   pub not_arrived : (pipeline task : ℕ) → pair.Missing pipeline task ≡ given
@@ -228,15 +171,16 @@ module _ (runs : List (List ℕ)) (query : Meaning) (parts gatherers : ℕ) (eve
   not_arrived pipeline task e = go (missing _ _ _ _ _ _ _ (e ∙ given_is))
     where
       go : ((first_left gatherers (length runs) events1 ≡ Some task) × (pipeline ≡ 1))
-          ⊎ IsSecond (first_left gatherers (length runs) events1) scan.wrong (first_left gatherers parts events2) pipeline task
+          ⊎ IsSecond (first_left gatherers (length runs) events1) scanned.wrong (first_left gatherers parts events2) pipeline task
           → IsRehearsed runs query parts gatherers events1 events2 (rehearsal.Missing pipeline task)
       go (inl (m, n)) = record {
-        frames = frames;
-        stand = stands;
+        frames = frames runs query parts;
+        stand = stands runs query parts are;
         is = at_some _ _ _ task m (ap (λ p. rehearsal.Missing p task) n);
       }
       go (inr is) = record {
-        frames = frames;
-        stand = stands;
-        is = at_none _ _ _ is.first (at_none _ _ _ (right_frames is.right) (at_some _ _ _ task is.second (ap (λ p. rehearsal.Missing p task) is.number)));
+        frames = frames runs query parts;
+        stand = stands runs query parts are;
+        is = at_none _ _ _ is.first (at_none _ _ _ (right_frames runs query parts is.right)
+            (at_some _ _ _ task is.second (ap (λ p. rehearsal.Missing p task) is.number)));
       }

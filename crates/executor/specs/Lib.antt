@@ -1,4 +1,4 @@
-pub mod Counted
 pub mod Runs
-pub mod Steps
+pub mod FirstPipeline
 pub mod Rehearsals
+pub mod Sources

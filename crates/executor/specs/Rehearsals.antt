@@ -1,16 +1,15 @@
 -- What a rehearsal over a cut day file gives.
 -- To be believed.
-use Rattle.std.specs.Prelude.{◌≡◌, ℕ, List, length, map, MatchOption}
+use Rattle.std.specs.Prelude.{◌≡◌, ℕ, ◌<◌, true, List, length, map, MatchOption}
 use Rattle.std.specs.List.{concat}
 use Rattle.lists.specs.Least.{numbers_below}
 use Rattle.day_file.specs.Frames.{PlacedBody, StandsFor}
 use Rattle.query.specs.Meaning.{Meaning}
-use Rattle.pipelines.specs.Schedules.{first_left}
+use Rattle.pipelines.specs.Schedules.{first_left, has_arrived}
 use Rattle.pipelines.specs.declared.event.Event.{Event}
 use Rattle.pipelines.specs.declared.event.Event.TheVariants.{Arrive}
 use Rattle.answers.specs.Answers.{IsAnswer, told_by}
 use Rattle.answers.specs.Messages.{first_wrong}
-use Rattle.answers.specs.declared.answer.Answer.{Answer}
 use Rattle.executor.specs.declared.calls.rehearse.Rehearsal.{Rehearsal}
 use Rattle.executor.specs.declared.calls.rehearse.Rehearsal.TheVariants.{Finished, Missing}
 
@@ -33,6 +32,16 @@ pub record IsRehearsed (runs : List (List ℕ)) (query : Meaning) (parts gathere
       (λ wrong. IsFinished (concat runs) query rehearsal))
       (λ task. rehearsal ≡ Missing 1 task)
 
+-- each of so many tasks has arrived, at one of so many gatherers
+abbrev pub HaveArrived : ℕ → ℕ → List Event → Type 0
+HaveArrived gatherers tasks events = (task : ℕ) → task < tasks → has_arrived gatherers events task ≡ true
+
 -- so many tasks, each of which arrives once, in order, at the first gatherer
 abbrev pub each_once : ℕ → List Event
 each_once tasks = map (λ task. Arrive 0 task) (numbers_below tasks)
+
+-- two rehearsals tell the same: one answer, or one task that is missing
+abbrev pub TellTheSame : Rehearsal → Rehearsal → Type 0
+TellTheSame (Finished one) (Finished other) = told_by one ≡ told_by other
+TellTheSame (Missing pipeline task) (Missing number other) = (pipeline ≡ number) × (task ≡ other)
+TellTheSame _ _ = ⊥

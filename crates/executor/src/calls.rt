@@ -1,4 +1,5 @@
 //! The calls that answer a query.
-pub(crate) mod plain;
+pub(crate) mod answer;
+pub(crate) mod first_pipeline;
 pub(crate) mod rehearse;
 pub(crate) mod run;

@@ -4,16 +4,16 @@ ghost use Rattle.lists.specs.declared.limits.TheConstants.{MOST_PARTITIONS};
 
 use pipelines::Crew;
 
-/// How a query is answered. No text of an answer depends on the crew, the morsel or the parts.
+/// How a query is answered. The crew, the morsel and the parts have effect on speed and memory alone: no
+/// text of an answer and no fault of a day depends on them. A file whose morsels are too many for the
+/// target is refused, in place of an answer.
 #[derive(Clone, Copy, Debug, PartialEq, Eq)]
 pub struct Settings {
-    /// How many threads work. It has no effect yet: one thread answers.
+    /// How many threads work, and how many gather what they find.
     pub crew: Crew,
-    /// The least size of a morsel, in bytes: 1 to 1,073,741,824. It has no effect yet: a day is
-    /// read as one.
+    /// The least size of a morsel, in bytes: 1 to 1,073,741,824. What a thread takes at once is one.
     pub morsel: u64,
-    /// How many partitions the order references are divided into: 1 to 256. It has no effect yet:
-    /// one thread answers.
+    /// How many partitions the order references are divided into: 1 to 256.
     pub parts: u32,
     /// The most bytes that a day file may have: at most 68,719,476,736.
     pub limit: u64,

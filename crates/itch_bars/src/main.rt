@@ -8,6 +8,8 @@ use command_line::{Counted, CountedSink, Sink, explain, perform_opened, reading_
 use std::env;
 use std::fs::File;
 use std::process::ExitCode;
+use std::sync::Wait;
+use std::thread::Threads;
 
 /// The word for standard input in a file's place.
 const STANDARD_INPUT: &str = "-";
@@ -16,7 +18,7 @@ fn main(rt: HostRuntime) -> ExitCode {
     let mut out = CountedSink::of(rt.stdout());
     let mut errors = CountedSink::of(rt.stderr());
     let status = match job_of_words(&rt) {
-        Ok(job) => start(&rt, &job, &mut out, &mut errors),
+        Ok(job) => start(&rt, &rt, &job, &mut out, &mut errors),
         Err(fault) => explain(&fault, &mut out, &mut errors),
     };
     ExitCode::from(status)
@@ -32,15 +34,21 @@ fn job_of_words(rt: &HostRuntime) -> Result<Job, WordsFault> {
     command(rt.alloc(), words.as_slice())
 }
 
-/// Opens the job's file and does the job.
-fn start<K: Sink, L: Sink>(rt: &HostRuntime, job: &Job, out: &mut K, errors: &mut L) -> u8
+/// Opens the job's file and does the job on threads.
+fn start<R: Threads + Wait + Sync, K: Sink, L: Sink>(
+    rt: &HostRuntime,
+    threads: &R,
+    job: &Job,
+    out: &mut K,
+    errors: &mut L,
+) -> u8
     requires out { K.has_failed out.old ≡ false }
     requires errors { L.has_failed errors.old ≡ false }
 {
     if job.file.as_str() == STANDARD_INPUT {
         let mut source = Counted::of(rt.stdin());
-        return perform(rt, rt.alloc(), job, &mut source, out, errors);
+        return perform(threads, rt.alloc(), job, &mut source, out, errors);
     }
     let file = File::open(rt, job.file.as_str()).ok();
-    perform_opened(rt, rt.alloc(), job, file.map(Counted::of), out, errors)
+    perform_opened(threads, rt.alloc(), job, file.map(Counted::of), out, errors)
 }

@@ -7,7 +7,9 @@ use executor::{
 };
 use std::alloc::{AllocError, Allocator, Global};
 use std::process::Abort;
+use std::sync::Wait;
 use std::test::Fail;
+use std::thread::Threads;
 use tests_support::file_of;
 
 /// The query that a text means.
@@ -25,17 +27,25 @@ pub fn asked<A: Allocator + Copy>(
     }
 }
 
-/// Settings with this limit, in bytes.
+/// Settings with this limit, in bytes: two workers, and each morsel as small as can be.
 pub fn settings(limit: u64) -> Settings
+    requires { limit ≤ LONGEST_FILE }
+{
+    settings_of(2, 1, limit)
+}
+
+/// Settings with so many workers, at least 1 and at most 64, with the least size of a morsel, and
+/// with this limit, both in bytes.
+pub fn settings_of(workers: u32, morsel: u16, limit: u64) -> Settings
     requires { limit ≤ LONGEST_FILE }
 {
     Settings {
         crew: Crew {
-            workers: 2,
+            workers: workers.clamp(1, 64),
             gatherers: 1,
         },
-        morsel: 1,
-        parts: 1,
+        morsel: u64::from(morsel.max(1)),
+        parts: 3,
         limit,
     }
 }
@@ -54,12 +64,18 @@ pub fn told_by_plain(
     }
 }
 
-/// What `run` answers to a query over the bytes, and what was written.
-pub fn told_by_run(alloc: Global, text: &str, bytes: &[u8]) -> (Result<(), RunFault>, Vec<u8>) {
+/// What `run` answers to a query over the bytes with so many workers, and what was written.
+pub fn told_by_run<R: Threads + Wait + Sync>(
+    rt: &R,
+    alloc: Global,
+    text: &str,
+    bytes: &[u8],
+    workers: u32,
+) -> (Result<(), RunFault>, Vec<u8>) {
     let mut written = Vec::new(alloc);
     let mut source = Counted::of(bytes);
     let mut sink = CountedSink::of(&mut written);
-    let settings = settings(LONGEST_FILE);
-    let told = run(&(), alloc, &mut source, text, settings, &mut sink);
+    let settings = settings_of(workers, 1, LONGEST_FILE);
+    let told = run(rt, alloc, &mut source, text, settings, &mut sink);
     (told, written)
 }

@@ -5,15 +5,21 @@ use crate::rows::{ASKED, AskedRow, FAULTY, LISTED, Row};
 use executor::RunFault;
 use std::alloc::Global;
 use std::process::Abort;
+use std::sync::Wait;
 use std::test::Fail;
+use std::thread::Threads;
 use tests_support::{Day, Form, MSFT};
 
 const HEADER: &[u8] = b"time,symbol,kind,price,shares,number\n";
 
 const BARS_HEADER: &[u8] = b"symbol,start,first,high,low,last,volume,trades,average\n";
 
-/// `plain` and `run` give this answer.
-pub fn is_answered(rt: &impl Abort, alloc: Global, row: AskedRow) -> Result<(), Fail> {
+/// `plain` gives this answer, and so does `run` with few workers and many.
+pub fn is_answered<R: Abort + Threads + Wait + Sync>(
+    rt: &R,
+    alloc: Global,
+    row: AskedRow,
+) -> Result<(), Fail> {
     let (text, forms, want) = row;
     let header = if text.starts_with("bars") {
         BARS_HEADER
@@ -21,28 +27,37 @@ pub fn is_answered(rt: &impl Abort, alloc: Global, row: AskedRow) -> Result<(), 
         HEADER
     };
     let bytes = Day::of(alloc, forms)?.bytes;
-    let (told, written) = told_by_run(alloc, text, bytes.as_slice());
-    match (told_by_plain(rt, alloc, text, bytes)?, want) {
+    let plain = told_by_plain(rt, alloc, text, Vec::from_slice(alloc, &bytes)?)?;
+    match (&plain, want) {
         (Ok(text), Ok(lines)) => {
-            assert!(rt; told == Ok(()), "{forms:?}");
-            assert!(rt; written.as_slice() == text.as_slice(), "{forms:?}");
             let after = text.as_slice().strip_prefix(header);
             assert!(rt; after == Some(lines.as_bytes()), "{forms:?}");
         }
-        (Err(fault), Err(want)) => {
-            assert!(rt;
-                fault == want && told == Err(RunFault::Day(fault)),
-                "{forms:?}"
-            );
-            assert!(rt; written.is_empty());
-        }
+        (Err(fault), Err(want)) => assert!(rt; *fault == want, "{forms:?}"),
         _ => assert!(rt; false, "{forms:?}"),
+    }
+    for workers in [1, 2, 64] {
+        let (told, written) = told_by_run(rt, alloc, text, &bytes, workers);
+        match &plain {
+            Ok(text) => {
+                assert!(rt; told == Ok(()), "{forms:?}");
+                assert!(rt; written.as_slice() == text.as_slice(), "{forms:?}");
+            }
+            Err(fault) => {
+                assert!(rt; told == Err(RunFault::Day(*fault)), "{forms:?}");
+                assert!(rt; written.is_empty(), "{forms:?}");
+            }
+        }
     }
     Ok(())
 }
 
-/// `plain` and `run` give these answers to `sales`.
-fn are_answered(rt: &impl Abort, alloc: Global, rows: &[Row]) -> Result<(), Fail> {
+/// These are the answers to `sales`.
+fn are_answered<R: Abort + Threads + Wait + Sync>(
+    rt: &R,
+    alloc: Global,
+    rows: &[Row],
+) -> Result<(), Fail> {
     for (forms, want) in rows {
         is_answered(rt, alloc, ("sales", *forms, *want))?;
     }

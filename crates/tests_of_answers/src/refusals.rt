@@ -1,7 +1,7 @@
-//! Each growth that a call makes is refused in turn.
-use crate::asking::{asked, settings};
-use crate::devices::Narrow;
-use executor::{Answer, Counted, DayFile, LONGEST_FILE, OutOfMemory, RunFault, Text, plain, run};
+//! Each growth that `plain` makes is refused in turn. `run` takes its memory from the one allocator of
+//! the program, over which each allocation is refused in turn.
+use crate::asking::asked;
+use executor::{Answer, DayFile, LONGEST_FILE, OutOfMemory, Text, plain};
 use linked_list_allocator::LocalHeap;
 use std::process::Abort;
 use std::test::Fail;
@@ -34,29 +34,6 @@ fn a_refused_growth_is_told_by_plain(rt: HostRuntime) -> Result<(), Fail> {
             Ok(text) => assert!(rt; text.items() == NAMED_TEXT.as_bytes(), "at {step}"),
             Err(OutOfMemory) => refused = step,
         }
-    }
-    assert!(rt; refused > 8 && refused < 399);
-    Ok(())
-}
-
-#[test]
-fn a_refused_growth_is_told_by_run_and_nothing_is_written(rt: HostRuntime) -> Result<(), Fail> {
-    let bytes = Day::of(rt.alloc(), &NAMED)?.bytes;
-    let mut refused = 0u32;
-    for step in 0..400u32 {
-        let heap = LocalHeap::new(rt.alloc(), step as usize * 16)?;
-        let mut source = Counted::of(bytes.as_slice());
-        let mut sink = Narrow::of(rt.alloc(), 100, 100, true);
-        let told = run(&rt, &heap, &mut source, QUERY, settings(112), &mut sink);
-        let text: &[u8] = match told {
-            Ok(()) => NAMED_TEXT.as_bytes(),
-            Err(fault) => {
-                assert!(rt; fault == RunFault::OutOfMemory, "at {step}");
-                refused = step;
-                b""
-            }
-        };
-        assert!(rt; sink.taken.as_slice() == text, "at {step}");
     }
     assert!(rt; refused > 8 && refused < 399);
     Ok(())

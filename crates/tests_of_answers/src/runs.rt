@@ -1,12 +1,15 @@
 //! What runs over devices do, and what they answer.
-use crate::asking::settings;
+use crate::asking::{settings, settings_of};
 use crate::devices::{Interrupted, Narrow, Stuck};
 use executor::{
-    Counted, CountedSink, DayFault, DeviceFailed, QueryFault, RunFault, Sink, Source, parse, run,
+    Counted, CountedSink, DayFault, DeviceFailed, LONGEST_FILE, QueryFault, RunFault, Sink, Source,
+    parse, run,
 };
 use std::alloc::Global;
 use std::process::Abort;
+use std::sync::Wait;
 use std::test::Fail;
+use std::thread::Threads;
 use tests_support::{Day, Trickle, UNNAMED, UNNAMED_TEXT};
 
 /// The bytes that a sink takes a call and in all, whether its flush succeeds, the answer of a run, and
@@ -14,7 +17,11 @@ use tests_support::{Day, Trickle, UNNAMED, UNNAMED_TEXT};
 type Writing = (usize, usize, bool, Result<(), RunFault>, usize);
 
 /// A run to such a sink is answered so.
-fn is_written(rt: &impl Abort, alloc: Global, writing: Writing) -> Result<(), Fail> {
+fn is_written<R: Abort + Threads + Wait + Sync>(
+    rt: &R,
+    alloc: Global,
+    writing: Writing,
+) -> Result<(), Fail> {
     let (step, room, flushes, want, taken) = writing;
     let bytes = Day::of(alloc, &UNNAMED)?.bytes;
     let mut source = Counted::of(bytes.as_slice());
@@ -151,6 +158,32 @@ fn a_source_that_fails_or_is_too_long_leaves_the_sink_alone(rt: HostRuntime) -> 
 }
 
 #[test]
+fn a_day_of_too_many_morsels_is_refused(rt: HostRuntime) -> Result<(), Fail> {
+    const HEADER: &[u8] = b"time,symbol,kind,price,shares,number\n";
+    let truncated = DayFault::Truncated { place: 131_074 };
+    let table: [(usize, u16, Result<(), RunFault>, &[u8]); 5] = [
+        (131_072, 1, Ok(()), HEADER),
+        (131_074, 1, Err(RunFault::TooManyMorsels), b""),
+        (131_074, 3, Ok(()), HEADER),
+        (131_075, 1, Err(RunFault::Day(truncated)), b""),
+        (131_075, 3, Err(RunFault::Day(truncated)), b""),
+    ];
+    for (length, morsel, want, text) in table {
+        // Messages of no bytes, and perhaps one byte more.
+        let bytes = vec![in rt.alloc(); 0u8; length]?;
+        let mut source = Counted::of(bytes.as_slice());
+        let mut sink = Narrow::of(rt.alloc(), 100, 100, true);
+        let settings = settings_of(2, morsel, LONGEST_FILE);
+        let told = run(&rt, rt.alloc(), &mut source, "sales", settings, &mut sink);
+        assert!(rt;
+            told == want && sink.taken.as_slice() == text,
+            "{length} by {morsel}"
+        );
+    }
+    Ok(())
+}
+
+#[test]
 fn a_refused_query_leaves_the_source_unread(rt: HostRuntime) -> Result<(), Fail> {
     let unknown = |at| Err(QueryFault::UnknownWord { at });
     for (text, want) in [
@@ -221,6 +254,7 @@ fn faults_have_their_texts(rt: HostRuntime) -> Result<(), Fail> {
             RunFault::WriteFailed { written: 10 },
             "writing failed after 10 bytes",
         ),
+        (RunFault::TooManyMorsels, "more than 65536 morsels"),
         (RunFault::OutOfMemory, "out of memory"),
     ] {
         assert!(rt; format!(in rt.alloc(); "{fault}")?.as_str() == want);

@@ -1,4 +1,5 @@
-//! The tests of the crates `itch_messages` and `day_file`, which need their public items alone.
+//! The tests of the crates `itch_messages`, `day_file` and `streaming`, which need their public items
+//! alone.
 #![tactic(auto)]
 
 #[cfg(test)]
@@ -9,3 +10,7 @@ mod cuts;
 mod day_files;
 #[cfg(test)]
 mod devices;
+#[cfg(test)]
+mod refusals;
+#[cfg(test)]
+mod streams;

@@ -1,10 +1,12 @@
 //! What the program's words, jobs and faults come to.
-ghost use Rattle.std.specs.Prelude.{◌≡◌, ◌≤◌, false};
-ghost use Rattle.lists.specs.declared.limits.TheConstants.{LONGEST_FILE};
+ghost use Rattle.std.specs.Prelude.{◌≡◌, ◌<◌, ◌≤◌, false};
+ghost use Rattle.lists.specs.declared.limits.TheConstants.{LARGEST_MORSEL, LONGEST_FILE};
 
 use command_line::{Counted, CountedSink, Crew, Job, LONGEST_FILE, Settings, perform};
 use std::alloc::Global;
+use std::sync::Wait;
 use std::test::Fail;
+use std::thread::Threads;
 
 mod arguments;
 mod devices;
@@ -16,6 +18,14 @@ mod jobs;
 fn job(alloc: Global, query: &str, limit: u64) -> Result<Job, Fail>
     requires { limit ≤ LONGEST_FILE }
 {
+    job_in_morsels(alloc, query, limit, 1_048_576)
+}
+
+/// The same with morsels of at least so many bytes.
+fn job_in_morsels(alloc: Global, query: &str, limit: u64, morsel: u64) -> Result<Job, Fail>
+    requires limit { limit ≤ LONGEST_FILE }
+    requires morsel { (0 < morsel) × (morsel ≤ LARGEST_MORSEL) }
+{
     let crew = Crew {
         workers: 4,
         gatherers: 1,
@@ -25,7 +35,7 @@ fn job(alloc: Global, query: &str, limit: u64) -> Result<Job, Fail>
         query: String::from_str(alloc, query)?,
         settings: Settings {
             crew,
-            morsel: 1_048_576,
+            morsel,
             parts: 64,
             limit,
         },
@@ -50,21 +60,36 @@ impl Outcome {
 }
 
 /// What comes of a query over a day file.
-fn performed(alloc: Global, day: &[u8], query: &str) -> Result<Outcome, Fail> {
+fn performed<R: Threads + Wait + Sync>(
+    rt: &R,
+    alloc: Global,
+    day: &[u8],
+    query: &str,
+) -> Result<Outcome, Fail> {
     let job = job(alloc, query, LONGEST_FILE)?;
+    Ok(performed_job(rt, alloc, day, &job))
+}
+
+/// What comes of a job over a day file.
+fn performed_job<R: Threads + Wait + Sync>(
+    rt: &R,
+    alloc: Global,
+    day: &[u8],
+    job: &Job,
+) -> Outcome {
     let mut out = Vec::new(alloc);
     let mut errors = Vec::new(alloc);
     let status = perform(
-        &(),
+        rt,
         alloc,
-        &job,
+        job,
         &mut Counted::of(day),
         &mut CountedSink::of(&mut out),
         &mut CountedSink::of(&mut errors),
     );
-    Ok(Outcome {
+    Outcome {
         status,
         out,
         errors,
-    })
+    }
 }

@@ -1,22 +1,12 @@
 //! Rehearsals that are written out event by event.
-use crate::rehearsing::{Shape, Told, told_by};
-use crate::schedules::{at, falling, in_order};
-use day_file::cut_at;
-use executor::{DayFault, Event, parse};
+use crate::rehearsing::{HEADER, Shape, Told, by_two, text, told_of_day};
+use crate::schedules::{MERGE, at, falling, in_order};
+use executor::{DayFault, Event};
 use std::alloc::Global;
 use std::test::Fail;
-use tests_support::{Day, Form, MSFT, NAMED, NAMED_TEXT, WITH_A_SHORT_ADD, file_of};
+use tests_support::{BROKEN_EARLIER, Form, NAMED, NAMED_TEXT, WITH_A_SHORT_ADD};
 
-const HEADER: &str = "time,symbol,kind,price,shares,number\n";
-
-/// A sale whose break comes before it, and where its frames but the first stand.
-const BROKEN: [Form; 4] = [
-    Form::R(7, MSFT),
-    Form::A(1, 4_105_000),
-    Form::B(9),
-    Form::E(1, 40, 9),
-];
-
+/// Where the frames of `BROKEN_EARLIER` but the first stand.
 const BROKEN_ENDS: [u64; 3] = [41, 79, 100];
 
 /// Two gatherers that the tasks of four morsels arrive at.
@@ -41,7 +31,7 @@ const FIRST: [Event; 6] = [
         gatherer: 0,
         task: 1,
     },
-    Event::Merge { into: 0, other: 1 },
+    MERGE,
 ];
 
 /// What is told of `sales` over these frames with these ends.
@@ -53,23 +43,7 @@ fn told(
     events1: &[Event],
     events2: &[Event],
 ) -> Result<Told, Fail> {
-    let query = parse(alloc, "sales")?;
-    let file = file_of(Day::of(alloc, forms)?.bytes)?;
-    let cut = cut_at(alloc, &file, ends)?;
-    told_by(alloc, &cut, &query, shape, events1, events2)
-}
-
-/// A text as it is told.
-fn text(alloc: Global, text: &str) -> Result<Told, Fail> {
-    Ok(Ok(Ok(Vec::from_slice(alloc, text.as_bytes())?)))
-}
-
-/// So many partitions, and two gatherers.
-fn by_two(parts: u32) -> Shape {
-    Shape {
-        parts,
-        gatherers: 2,
-    }
+    told_of_day(alloc, "sales", forms, ends, shape, events1, events2)
 }
 
 /// What is told of the sale that is broken before it, at two gatherers.
@@ -81,7 +55,7 @@ fn told_of_broken(
 ) -> Result<Told, Fail> {
     told(
         alloc,
-        &BROKEN,
+        &BROKEN_EARLIER,
         &BROKEN_ENDS,
         by_two(parts),
         events1,
@@ -199,7 +173,14 @@ fn events_that_name_what_there_is_not_change_nothing(rt: HostRuntime) -> Result<
         Event::Merge { into: 0, other: 2 },
     ];
     let second = in_order(alloc, 64)?;
-    let missing = told(alloc, &BROKEN, &BROKEN_ENDS, by_two(64), &first, &second)?;
+    let missing = told(
+        alloc,
+        &BROKEN_EARLIER,
+        &BROKEN_ENDS,
+        by_two(64),
+        &first,
+        &second,
+    )?;
     assert!(rt; missing == Err((1, 0)));
     Ok(())
 }

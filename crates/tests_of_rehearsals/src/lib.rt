@@ -7,7 +7,11 @@ mod cases;
 #[cfg(test)]
 mod days;
 #[cfg(test)]
+mod overlaps;
+#[cfg(test)]
 mod places;
+#[cfg(test)]
+mod refusals;
 #[cfg(test)]
 mod rehearsing;
 #[cfg(test)]

@@ -1,5 +1,5 @@
 //! Places decide, not the order in which pieces arrive.
-use crate::rehearsing::{Shape, Told, boundaries, told_by, told_by_plain};
+use crate::rehearsing::{Shape, Told, boundaries, text, told_by, told_by_plain};
 use crate::schedules::{at, falling};
 use day_file::cut_at;
 use executor::{DayFault, Event, parse};
@@ -60,11 +60,6 @@ fn is_answered_in_each_order(
         }
     }
     Ok(())
-}
-
-/// A text as it is told.
-fn text(alloc: Global, text: &str) -> Result<Told, Fail> {
-    Ok(Ok(Ok(Vec::from_slice(alloc, text.as_bytes())?)))
 }
 
 #[test]

@@ -1,11 +1,15 @@
 //! What `rehearse` and `plain` tell in the tests.
-use day_file::frames;
+use day_file::{cut_at, frames};
 use executor::{
-    Answer, Cut, DayFault, DayFile, Event, OutOfMemory, Query, Rehearsal, plain, rehearse,
+    Answer, Cut, DayFault, DayFile, Event, OutOfMemory, Query, Rehearsal, parse, plain, rehearse,
 };
 use lists::limits::MOST_PARTITIONS;
 use std::alloc::Global;
 use std::test::Fail;
+use tests_support::{Day, Form, file_of};
+
+/// The text of a listing without sales.
+pub const HEADER: &str = "time,symbol,kind,price,shares,number\n";
 
 /// The text or the fault, or the pipeline and the task that are told to be missing.
 pub type Told = Result<Result<Vec<u8>, DayFault>, (u8, u32)>;
@@ -15,6 +19,19 @@ pub type Told = Result<Result<Vec<u8>, DayFault>, (u8, u32)>;
 pub struct Shape {
     pub parts: u32,
     pub gatherers: u32,
+}
+
+/// So many partitions, and two gatherers.
+pub fn by_two(parts: u32) -> Shape {
+    Shape {
+        parts,
+        gatherers: 2,
+    }
+}
+
+/// A text as it is told.
+pub fn text(alloc: Global, text: &str) -> Result<Told, Fail> {
+    Ok(Ok(Ok(Vec::from_slice(alloc, text.as_bytes())?)))
 }
 
 fn told_of(answer: Answer) -> Result<Vec<u8>, DayFault> {
@@ -46,6 +63,22 @@ pub fn told_by(
         Rehearsal::Finished(answer) => Ok(Ok(told_of(answer))),
         Rehearsal::Missing { pipeline, task } => Ok(Err((pipeline, task))),
     }
+}
+
+/// What is told of a query over these frames with these ends.
+pub fn told_of_day(
+    alloc: Global,
+    query: &str,
+    forms: &[Form],
+    ends: &[u64],
+    shape: Shape,
+    events1: &[Event],
+    events2: &[Event],
+) -> Result<Told, Fail> {
+    let query = parse(alloc, query)?;
+    let file = file_of(Day::of(alloc, forms)?.bytes)?;
+    let cut = cut_at(alloc, &file, ends)?;
+    told_by(alloc, &cut, &query, shape, events1, events2)
 }
 
 /// The places where all frames but the first stand.

@@ -29,6 +29,9 @@ pub fn at(gatherer: u32, task: u32) -> Event {
     Event::Arrive { gatherer, task }
 }
 
+/// Gatherer 1 is merged into gatherer 0.
+pub const MERGE: Event = Event::Merge { into: 0, other: 1 };
+
 /// Each task arrives at gatherer 0, in order.
 pub fn in_order(alloc: Global, count: u32) -> Result<Vec<Event>, OutOfMemory> {
     let mut events = Vec::new(alloc);

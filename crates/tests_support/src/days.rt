@@ -26,6 +26,14 @@ pub const NAMED: [Form; 3] = [Form::R(7, MSFT), Form::A(1, 4_105_000), Form::E(1
 pub const NAMED_TEXT: &str =
     "time,symbol,kind,price,shares,number\n09:30:01.000000005,MSFT,E,410.5000,40,9\n";
 
+/// A sale that is broken by a message before it: 133 bytes, whose frames begin at 0, 41, 79 and 100.
+pub const BROKEN_EARLIER: [Form; 4] = [
+    Form::R(7, MSFT),
+    Form::A(1, 4_105_000),
+    Form::B(9),
+    Form::E(1, 40, 9),
+];
+
 /// A stock directory, an order for its stock, an empty message, one of a type that is not read, and
 /// at place 84 an order to add that lacks its last byte.
 pub const WITH_A_SHORT_ADD: [Form; 4] = [

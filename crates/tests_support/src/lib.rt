@@ -8,7 +8,8 @@ mod readers;
 mod trickle;
 
 pub use days::{
-    MSFT, NAMED, NAMED_TEXT, SHORT_ADD, UNNAMED, UNNAMED_TEXT, WITH_A_SHORT_ADD, file_of,
+    BROKEN_EARLIER, MSFT, NAMED, NAMED_TEXT, SHORT_ADD, UNNAMED, UNNAMED_TEXT, WITH_A_SHORT_ADD,
+    file_of,
 };
 pub use forms::{Day, Form, Placed};
 pub use readers::{Broken, Interrupted};

@@ -1,18 +1,14 @@
-ghost use Rattle.std.specs.Prelude.{◌≡◌, ◌<◌, ◌≤◌, All, Err, IfOk, OnOk, length};
-ghost use Rattle.lists.specs.declared.limits.TheConstants.{LONGEST_FILE, MOST_PARTITIONS};
-ghost use Rattle.std.specs.List.{concat};
-ghost use Rattle.day_file.specs.Cuts.{AreBytes, IsRun};
-ghost use Rattle.answers.specs.Answers.{told_by};
+ghost use Rattle.std.specs.Prelude.{◌<◌, ◌≤◌, IfOk};
+ghost use Rattle.lists.specs.declared.limits.TheConstants.{MOST_PARTITIONS};
 ghost use Rattle.executor.specs.Rehearsals.{IsRehearsed};
-ghost use Rattle.executor.specs.Steps.{inputs_of, wrong_fault};
 
 use crate::OutOfMemory;
-use answers::{Answer, DayFault};
+use crate::calls::first_pipeline::{scan_inputs, told_of};
+use answers::Answer;
 use day_file::Cut;
-use pipelines::{Event, Inputs, Rehearsed, rehearse_pair};
+use pipelines::{Event, Rehearsed, rehearse_pair};
 use planning::{PlanLink, answer_of};
 use query::Query;
-use scanning::{ScanInput, ScanWork, WrongLength};
 use std::alloc::Global;
 use std::sync::Arc;
 
@@ -55,38 +51,4 @@ pub fn rehearse(
         Rehearsed::Stopped { stop } => Ok(Rehearsal::Finished(told_of(stop))),
         Rehearsed::Missing { pipeline, task } => Ok(Rehearsal::Missing { pipeline, task }),
     }
-}
-
-/// The inputs of the first pipeline: each morsel of the cut.
-fn scan_inputs(
-    alloc: Global,
-    cut: &Cut,
-    as_of: Option<u32>,
-    parts: u32,
-) -> Result<Inputs<ScanWork>, OutOfMemory>
-    requires { (0 < parts) × (parts ≤ MOST_PARTITIONS) }
-    ensures inputs { IfOk result (λ inputs. inputs ≡ inputs_of as_of parts cut.now) }
-    ensures runs { OnOk result (All IsRun cut.now) }
-    ensures bytes { OnOk result (All AreBytes cut.now) }
-    ensures within { OnOk result (length (concat cut.now) ≤ LONGEST_FILE) }
-{
-    let count = cut.count();
-    let mut inputs = Vec::with_capacity(alloc, count as usize)?;
-    for number in 0..count {
-        let morsel = Arc::try_clone(cut.morsel(number))?;
-        inputs.push(Arc::new(alloc, ScanInput::of(morsel, as_of, parts))?)?;
-    }
-    Ok(Inputs::of(inputs))
-}
-
-/// What is told of a wrong length.
-fn told_of(wrong: WrongLength) -> Answer
-    ensures { told_by result ≡ Err (wrong_fault wrong) }
-{
-    Answer::Faulty(DayFault::WrongLength {
-        place: wrong.place,
-        kind: wrong.fault.kind,
-        length: wrong.fault.length,
-        wanted: wrong.fault.wanted,
-    })
 }

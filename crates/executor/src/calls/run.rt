@@ -1,21 +1,26 @@
-ghost use Rattle.std.specs.Prelude.{◌≡◌, false};
+ghost use Rattle.std.specs.Prelude.{◌≡◌, false, IfErr, IfOk};
+ghost use Rattle.answers.specs.Answers.{told_by};
 ghost use Rattle.executor.specs.Runs.{Ran, is_read_failed, is_write_failed};
+ghost use Rattle.executor.specs.Sources.{AnswersSource, IsSourceRefusal};
 
-use crate::calls::plain::plain;
+use crate::calls::answer::answer;
 use crate::run_fault::RunFault;
 use crate::settings::Settings;
-use crate::sink::{Sink, WriteFailed, deliver};
-use answers::Answer;
-use day_file::{ReadFault, Source, read_day};
-use query::{QueryFault, parse};
-use std::alloc::{AllocError, Allocator};
+use answers::{Answer, DayFault};
+use pipelines::FreeGate;
+use query::{Query, QueryFault, parse};
+use sinks::{Sink, WriteFailed, deliver};
+use std::alloc::{AllocError, Global};
+use std::sync::Wait;
+use std::thread::Threads;
+use streaming::{CutReadFault, Source, read_cut};
 
-/// Reads a whole day file from a source, and writes the answer to a query to a sink. Nothing is written
-/// before every refusal but that of the sink is past. After a refusal the source may have been read in
-/// part. The first argument, and of the settings the crew, the morsel and the parts, have no effect yet.
-pub fn run<R, A: Allocator + Copy, S: Source, K: Sink>(
-    _rt: &R,
-    alloc: A,
+/// Reads a whole day file from a source, cuts it into morsels meanwhile, and writes the answer to a
+/// query, which threads find, to a sink. Nothing is written before every refusal but that of the sink
+/// is past. After a refusal the source may have been read in part. It waits for the threads.
+pub fn run<R: Threads + Wait + Sync, S: Source, K: Sink>(
+    rt: &R,
+    alloc: Global,
     source: &mut S,
     query_text: &str,
     settings: Settings,
@@ -23,8 +28,8 @@ pub fn run<R, A: Allocator + Copy, S: Source, K: Sink>(
 ) -> Result<(), RunFault>
     requires source { S.has_failed source.old ≡ false }
     requires sink { K.has_failed sink.old ≡ false }
-    ensures ran { Ran S.Gave S.HasEnded K.Took K.HasFlushed
-        query_text.now settings.limit source.old source.new sink.old sink.new result }
+    ensures ran { Ran S.Gave S.HasEnded K.Took K.HasFlushed query_text.now
+        settings.limit settings.morsel source.old source.new sink.old sink.new result }
     ensures read_failed { S.has_failed source.new ≡ is_read_failed result }
     ensures write_failed { K.has_failed sink.new ≡ is_write_failed result }
 {
@@ -33,19 +38,52 @@ pub fn run<R, A: Allocator + Copy, S: Source, K: Sink>(
         Err(QueryFault::OutOfMemory) => return Err(RunFault::OutOfMemory),
         Err(fault) => return Err(RunFault::Query(fault)),
     };
-    let limit = settings.limit;
-    let day = match read_day(alloc, source, limit) {
-        Ok(day) => day,
-        Err(ReadFault::ReadFailed) => return Err(RunFault::ReadFailed),
-        Err(ReadFault::TooLong) => return Err(RunFault::TooLong { limit }),
-        Err(ReadFault::OutOfMemory) => return Err(RunFault::OutOfMemory),
-    };
-    match plain(alloc, &day, &query) {
+    match answer_source(rt, alloc, source, &query, settings) {
         Ok(Answer::Printed(text)) => match deliver(sink, text.items()) {
             Ok(()) => Ok(()),
             Err(WriteFailed { written }) => Err(RunFault::WriteFailed { written }),
         },
         Ok(Answer::Faulty(fault)) => Err(RunFault::Day(fault)),
+        Err(fault) => Err(fault),
+    }
+}
+
+/// The answer to a query over all that a source gives.
+fn answer_source<R: Threads + Wait + Sync, S: Source>(
+    rt: &R,
+    alloc: Global,
+    source: &mut S,
+    query: &Query,
+    settings: Settings,
+) -> Result<Answer, RunFault>
+    requires { S.has_failed source.old ≡ false }
+    ensures answers { IfOk result (λ answer.
+        AnswersSource S.Gave S.HasEnded S.has_failed settings.limit settings.morsel source.old source.new
+        query.now (told_by answer)) }
+    ensures refused { IfErr result (IsSourceRefusal S.Gave S.HasEnded S.has_failed
+        settings.limit settings.morsel source.old source.new) }
+{
+    let limit = settings.limit;
+    let cut = match read_cut(alloc, source, limit, settings.morsel) {
+        Ok(cut) => cut,
+        Err(CutReadFault::ReadFailed) => return Err(RunFault::ReadFailed),
+        Err(CutReadFault::TooLong) => return Err(RunFault::TooLong { limit }),
+        Err(CutReadFault::Truncated { place }) => {
+            return Ok(Answer::Faulty(DayFault::Truncated { place }));
+        }
+        Err(CutReadFault::TooManyMorsels) => return Err(RunFault::TooManyMorsels),
+        Err(CutReadFault::OutOfMemory) => return Err(RunFault::OutOfMemory),
+    };
+    match answer(
+        rt,
+        alloc,
+        &cut,
+        query,
+        settings.parts,
+        settings.crew,
+        &FreeGate,
+    ) {
+        Ok(answer) => Ok(answer),
         Err(AllocError) => Err(RunFault::OutOfMemory),
     }
 }

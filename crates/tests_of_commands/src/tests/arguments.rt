@@ -19,6 +19,7 @@ Options:
       --workers <N>     Threads that work on the query, 1 to 64; no answer depends on them [default: 4]
       --morsel <BYTES>  Least size of a piece of the file, 1 to 1073741824; no answer depends on it [default: 1048576]
       --partitions <N>  Partitions of the order references, 1 to 256; no answer depends on them [default: 64]
+      --gatherers <N>   Threads that gather what the workers find, 1 to 8; no answer depends on them [default: 1]
   -h, --help            Print help
 
 Queries:
@@ -72,6 +73,8 @@ fn words_ask_for_a_job(rt: HostRuntime) -> Result<(), Fail> {
         "--workers",
         "64",
         "--partitions=256",
+        "--gatherers",
+        "8",
     ];
     let least: &[&str] = &[
         "itch_bars",
@@ -81,16 +84,17 @@ fn words_ask_for_a_job(rt: HostRuntime) -> Result<(), Fail> {
         "day",
         "sales",
     ];
-    for (words, workers, morsel, parts) in [
-        (defaults, 4, 1_048_576, 64),
-        (most, 64, 1_048_576, 256),
-        (least, 4, 1, 1),
+    for (words, workers, morsel, parts, gatherers) in [
+        (defaults, 4, 1_048_576, 64, 1),
+        (most, 64, 1_048_576, 256, 8),
+        (least, 4, 1, 1, 1),
     ] {
         let Ok(job) = asked(rt.alloc(), words)? else {
             return Err(Fail::from("no job"));
         };
         assert!(rt; job.file.as_str() == "day" && job.query.as_str() == "sales");
         assert!(rt; job.settings.crew.workers == workers);
+        assert!(rt; job.settings.crew.gatherers == gatherers);
         assert!(rt; job.settings.morsel == morsel);
         assert!(rt; job.settings.parts == parts);
     }
@@ -99,7 +103,7 @@ fn words_ask_for_a_job(rt: HostRuntime) -> Result<(), Fail> {
 
 #[test]
 fn wrong_words_are_reported(rt: HostRuntime) -> Result<(), Fail> {
-    let cases: [(&[&str], &str); 11] = [
+    let cases: [(&[&str], &str); 12] = [
         (
             &["itch_bars"],
             "the following required arguments were not provided:",
@@ -133,8 +137,12 @@ fn wrong_words_are_reported(rt: HostRuntime) -> Result<(), Fail> {
             "invalid value '257' for '--partitions <N>': 257 is not in 1..=256",
         ),
         (
-            &["itch_bars", "-", "sales", "--gatherers=1"],
-            "unexpected argument '--gatherers' found",
+            &["itch_bars", "-", "sales", "--gatherers", "0"],
+            "invalid value '0' for '--gatherers <N>': 0 is not in 1..=8",
+        ),
+        (
+            &["itch_bars", "-", "sales", "--gatherers=9"],
+            "invalid value '9' for '--gatherers <N>': 9 is not in 1..=8",
         ),
         (
             &["itch_bars", "-", "sales", "bars 1 m"],

@@ -6,7 +6,6 @@ use command_line::{
     Counted, CountedSink, LONGEST_FILE, RunFault, WordsFault, explain, perform, perform_opened,
     tell,
 };
-use linked_list_allocator::LocalHeap;
 use std::io::{self, Write};
 use std::test::Fail;
 use tests_support::{Broken, Day, NAMED};
@@ -124,19 +123,18 @@ fn a_full_output_is_a_failed_write(rt: HostRuntime) -> Result<(), Fail> {
 }
 
 #[test]
-fn devices_and_memory_that_refuse(rt: HostRuntime) -> Result<(), Fail> {
+fn devices_that_refuse(rt: HostRuntime) -> Result<(), Fail> {
     let alloc = rt.alloc();
     let day = Day::of(alloc, &NAMED)?.bytes;
     let bytes = day.as_slice();
     let all = job(alloc, "sales", LONGEST_FILE)?;
     let short = job(alloc, "sales", 111)?;
-    let heap = LocalHeap::new(alloc, 64)?;
     let mut text = Vec::new(alloc);
     let mut lines = Vec::new(alloc);
     let mut out = CountedSink::of(&mut text);
     let mut errors = CountedSink::of(&mut lines);
     let unread = perform(
-        &(),
+        &rt,
         alloc,
         &all,
         &mut Counted::of(Broken),
@@ -150,7 +148,7 @@ fn devices_and_memory_that_refuse(rt: HostRuntime) -> Result<(), Fail> {
     let mut out = CountedSink::of(&mut text);
     let mut errors = CountedSink::of(&mut lines);
     let too_long = perform(
-        &(),
+        &rt,
         alloc,
         &short,
         &mut Counted::of(bytes),
@@ -161,24 +159,10 @@ fn devices_and_memory_that_refuse(rt: HostRuntime) -> Result<(), Fail> {
     assert!(rt; lines.as_slice() == "fault: file is longer than 111 bytes\n".as_bytes());
 
     let mut lines = Vec::new(alloc);
-    let mut out = CountedSink::of(&mut text);
-    let mut errors = CountedSink::of(&mut lines);
-    let wanting = perform(
-        &(),
-        &heap,
-        &all,
-        &mut Counted::of(bytes),
-        &mut out,
-        &mut errors,
-    );
-    assert!(rt; wanting == 3 && text.is_empty());
-    assert!(rt; lines.as_slice() == "fault: out of memory\n".as_bytes());
-
-    let mut lines = Vec::new(alloc);
     let mut out = CountedSink::of(Interrupted);
     let mut errors = CountedSink::of(&mut lines);
     let unwritten = perform(
-        &(),
+        &rt,
         alloc,
         &all,
         &mut Counted::of(bytes),
@@ -192,7 +176,7 @@ fn devices_and_memory_that_refuse(rt: HostRuntime) -> Result<(), Fail> {
     let mut out = CountedSink::of(Interrupted);
     let mut errors = CountedSink::of(Interrupted);
     let unheard = perform(
-        &(),
+        &rt,
         alloc,
         &all,
         &mut Counted::of(bytes),
@@ -214,7 +198,7 @@ fn a_file_that_is_not_open_is_reported_before_the_query(rt: HostRuntime) -> Resu
     let mut out = CountedSink::of(&mut text);
     let mut errors = CountedSink::of(&mut lines);
     let absent: Option<Counted<&[u8]>> = None;
-    let status = perform_opened(&(), alloc, &job, absent, &mut out, &mut errors);
+    let status = perform_opened(&rt, alloc, &job, absent, &mut out, &mut errors);
     assert!(rt; status == 4 && text.is_empty());
     assert!(rt; lines.as_slice() == "fault: reading failed\n".as_bytes());
 
@@ -222,7 +206,7 @@ fn a_file_that_is_not_open_is_reported_before_the_query(rt: HostRuntime) -> Resu
     let mut out = CountedSink::of(&mut text);
     let mut errors = CountedSink::of(&mut lines);
     let opened = Some(Counted::of(day.as_slice()));
-    let status = perform_opened(&(), alloc, &job, opened, &mut out, &mut errors);
+    let status = perform_opened(&rt, alloc, &job, opened, &mut out, &mut errors);
     assert!(rt; status == 2 && text.is_empty());
     assert!(rt; lines.as_slice() == "fault: query ends too early\n".as_bytes());
     Ok(())

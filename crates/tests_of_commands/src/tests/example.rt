@@ -43,7 +43,7 @@ fn answers_over_the_example(rt: HostRuntime) -> Result<(), Fail> {
         (day.as_slice(), early, 0, SALES_BEFORE_A_BREAK, ""),
         (cut_off, "sales", 1, "", line),
     ] {
-        let outcome = performed(alloc, day, query)?;
+        let outcome = performed(&rt, rt.alloc(), day, query)?;
         assert!(rt; outcome.is(status, text, line), "{query}");
     }
     Ok(())

@@ -1,7 +1,6 @@
 //! What comes of a job.
-use super::{job, performed};
-use command_line::{Counted, CountedSink, perform};
-use linked_list_allocator::LocalHeap;
+use super::{job_in_morsels, performed, performed_job};
+use command_line::{Job, LONGEST_FILE};
 use std::test::Fail;
 use tests_support::{Day, NAMED, NAMED_TEXT, WITH_A_SHORT_ADD};
 
@@ -75,7 +74,7 @@ fn a_job_answers_or_reports_a_fault(rt: HostRuntime) -> Result<(), Fail> {
         let Some(bytes) = file.get(start..end) else {
             return Err(Fail::from("a day of another length"));
         };
-        let outcome = performed(alloc, bytes, query)?;
+        let outcome = performed(&rt, rt.alloc(), bytes, query)?;
         assert!(rt; outcome.is(status, text, line), "{query}: {line}");
     }
     Ok(())
@@ -126,40 +125,30 @@ fn only_messages_up_to_a_moment_count(rt: HostRuntime) -> Result<(), Fail> {
         ),
     ];
     for (file, query, status, text, line) in cases {
-        let outcome = performed(alloc, file, query)?;
+        let outcome = performed(&rt, rt.alloc(), file, query)?;
         assert!(rt; outcome.is(status, text, line), "{query}: {line}");
     }
     Ok(())
 }
 
 #[test]
-fn each_allocation_of_a_job_can_be_refused(rt: HostRuntime) -> Result<(), Fail> {
+fn a_day_of_too_many_morsels_is_reported(rt: HostRuntime) -> Result<(), Fail> {
     let alloc = rt.alloc();
-    let day = Day::of(alloc, &NAMED)?.bytes;
-    let job = job(alloc, "bars 1 m", 112)?;
-    let mut refused = 0u32;
-    for step in 0..400u32 {
-        let heap = LocalHeap::new(alloc, step as usize * 16)?;
-        let mut text = Vec::new(alloc);
-        let mut line = Vec::new(alloc);
-        let status = perform(
-            &(),
-            &heap,
-            &job,
-            &mut Counted::of(day.as_slice()),
-            &mut CountedSink::of(&mut text),
-            &mut CountedSink::of(&mut line),
-        );
-        let wanted = if status == 0 {
-            (BAR, "")
-        } else {
-            refused = step;
-            ("", "fault: out of memory\n")
-        };
-        assert!(rt; status == 0 || status == 3, "at {step}");
-        assert!(rt; text.as_slice() == wanted.0.as_bytes(), "at {step}");
-        assert!(rt; line.as_slice() == wanted.1.as_bytes(), "at {step}");
+    let small = job_in_morsels(alloc, "sales", LONGEST_FILE, 1)?;
+    let larger = job_in_morsels(alloc, "sales", LONGEST_FILE, 3)?;
+    let many = "fault: more than 65536 morsels\n";
+    let truncated = "fault: place 131074: message runs past the end\n";
+    let cases: [(usize, &Job, u8, &str, &str); 4] = [
+        (131_074, &small, 2, "", many),
+        (131_074, &larger, 0, HEADER, ""),
+        (131_075, &small, 1, "", truncated),
+        (131_075, &larger, 1, "", truncated),
+    ];
+    for (length, job, status, text, line) in cases {
+        // Messages of no bytes, and perhaps one byte more.
+        let day = vec![in alloc; 0u8; length]?;
+        let outcome = performed_job(&rt, rt.alloc(), &day, job);
+        assert!(rt; outcome.is(status, text, line), "{length}: {line}");
     }
-    assert!(rt; refused > 8 && refused < 399);
     Ok(())
 }

@@ -8,10 +8,11 @@ pub returns : goal.returns
 returns c =
     let start_is : app_of c.after_help.result ≡ new_app (codes "itch_bars") =
     ap app_of_fields c.after_help.ensures ∙ (ap app_of_fields c.about.ensures ∙ c.new.ensures.app) in
-    IfOk-weaker c.arg-5.result _ _ (λ command h. h.shape c.partitions_option.ensures.local
+    IfOk-weaker c.arg-6.result _ _ (λ command h. h.shape c.gatherers_option.ensures.local
+    ∙ ap₂ with_rule (c.in_ok-arg-5.ensures.shape c.partitions_option.ensures.local
     ∙ ap₂ with_rule (c.in_ok-arg-4.ensures.shape c.morsel_option.ensures.local
     ∙ ap₂ with_rule (c.in_ok-arg-3.ensures.shape c.workers_option.ensures.local
     ∙ ap₂ with_rule (c.in_ok-arg-2.ensures.shape c.query_argument.ensures.local
     ∙ ap₂ with_rule (c.in_ok-arg.ensures.shape c.file_argument.ensures.local
     ∙ ap₂ with_rule start_is c.file_argument.ensures.rule) c.query_argument.ensures.rule) c.workers_option.ensures.rule)
-    c.morsel_option.ensures.rule) c.partitions_option.ensures.rule) c.arg-5.ensures
+    c.morsel_option.ensures.rule) c.partitions_option.ensures.rule) c.gatherers_option.ensures.rule) c.arg-6.ensures

@@ -1,7 +1,15 @@
+use Rattle.std.proofs.Common.{ap, map, subst}
+use Rattle.std.specs.Prelude.{string_bytes}
 use Rattle.std.proofs.lemmas.Result.{IfOk-weaker}
+use Rattle.clap.specs.Words.{App, FailsBy, fault_of, is_simple_and_free}
 use Rattle.command_line.proofs.Whole.{whole_of}
 use Rattle.command_line.proofs.arguments.matched.Goals as goal
 
 pub returns-clause-whole : goal.returns-clause-whole
 returns-clause-whole c =
     IfOk-weaker c.try_get_matches_from.result _ _ (λ m p. whole_of c.in_ok-command.command c.in_ok-command.ensures m p) c.try_get_matches_from.ensures.parsed
+
+pub returns-clause-kinds : goal.returns-clause-kinds
+returns-clause-kinds c =
+    subst (λ (app : App). FailsBy (fault_of app (map string_bytes c.args.words.now)) c.try_get_matches_from.result) c.in_ok-command.ensures
+    (c.try_get_matches_from.ensures.kinds (ap is_simple_and_free c.in_ok-command.ensures))

@@ -1,8 +1,9 @@
-use Rattle.std.proofs.Common.{◌≡◌, ap, sym, ◌∙◌}
+use Rattle.std.proofs.Common.{ap, sym, ◌∙◌}
 use Rattle.std.specs.Arc.{arc_value}
 use Rattle.query.specs.Meaning.{Meaning}
-use Rattle.executor.specs.Steps.{inputs_of}
-use Rattle.executor.proofs.Rehearsed.{AreRuns, finished, gathered, given_by, halted, messages, not_arrived}
+use Rattle.executor.specs.FirstPipeline.{inputs_of}
+use Rattle.executor.proofs.CutAnswers.{AreRuns, messages}
+use Rattle.executor.proofs.Rehearsed.{finished, gathered, given_by, halted, not_arrived}
 use Rattle.executor.proofs.calls.rehearse.rehearse.Goals as goal
 
 pub answer_of-requires : goal.answer_of-requires
@@ -18,7 +19,7 @@ answer_of-requires c =
     ∙ ap (λ (m : Meaning). inputs_of m.as_of c.args.parts runs) c.query.view_is in
     let given = given_by runs query c.args.parts c.args.gatherers c.args.events1.now c.args.events2.now are (arc_value c.in_ok-inputs.inputs)
     c.new-link.result c.in_ok-total.field-0 inputs c.new-link.ensures c.in_ok-total.ensures in (
-      messages runs query c.args.parts c.args.gatherers c.args.events1.now c.args.events2.now are,
+      messages runs query c.args.parts,
       gathered runs query c.args.parts c.args.gatherers c.args.events1.now c.args.events2.now are
           c.in-Finished.total c.in-Finished.kept c.requires.parts.0 (sym c.in-Finished.is ∙ given),
     )
@@ -38,7 +39,7 @@ returns-in_ok-answer-in-Finished c =
     c.new-link.result c.in_ok-total.field-0 inputs c.new-link.ensures c.in_ok-total.ensures in
     finished runs query c.args.parts c.args.gatherers c.args.events1.now c.args.events2.now are
     c.in-Finished.total c.in-Finished.kept c.in_ok-answer-in-Finished.answer (sym c.in-Finished.is ∙ given)
-    (c.in_ok-answer-in-Finished.ensures (messages runs query c.args.parts c.args.gatherers c.args.events1.now c.args.events2.now are)
+    (c.in_ok-answer-in-Finished.ensures (messages runs query c.args.parts)
     (gathered runs query c.args.parts c.args.gatherers c.args.events1.now c.args.events2.now are
     c.in-Finished.total c.in-Finished.kept c.requires.parts.0 (sym c.in-Finished.is ∙ given)))
 

@@ -1,0 +1,10 @@
+use Rattle.std.proofs.Common.{◌≡◌}
+use Rattle.answers.proofs.RowsOfFrames.{IsCollecting}
+use Rattle.sequential.proofs.answering.collect.Given as goal
+
+-- the frames so far have right lengths, and have given their rows
+abbrev pub invariant-loop-frame : goal.invariant-loop-frame
+invariant-loop-frame g l = record {
+  so_far : IsCollecting l.fn.as_of l.initial.left.frames l.left.frames l.rows;
+  end : l.left.truncated ≡ l.initial.left.truncated;
+}

@@ -1,0 +1,50 @@
+-- What the steps of `plain` give each other.
+-- Derived: no public clause cites it.
+use Rattle.std.specs.Prelude.{◌≡◌, ℕ, ◌<◌, ◌+◌, List, Option, None, MatchOption, IsSomeAnd, length}
+use Rattle.lists.specs.declared.limits.TheConstants.{TRADE_LIMIT}
+use Rattle.day_file.specs.Frames.{PlacedBody, StandsFor}
+use Rattle.order_table.specs.declared.row.OrderRow.{OrderRow}
+use Rattle.order_table.specs.Orders.{first_repeated}
+use Rattle.probe.specs.declared.rows.Execution.{Execution}
+use Rattle.probe.specs.Pricing.{first_unknown}
+use Rattle.answers.specs.DayRows.{AreByPlace, DayRows, rows_of}
+use Rattle.answers.specs.Messages.{Placed, messages_of, counted, first_wrong}
+use Rattle.answers.specs.declared.day_fault.DayFault.{DayFault}
+use Rattle.answers.specs.declared.day_fault.DayFault.TheVariants.{RepeatedReference, UnknownReference}
+use Rattle.sequential.specs.declared.refused.Refused.{Refused}
+use Rattle.sequential.specs.declared.refused.Refused.TheVariants.{Day, OutOfMemory}
+
+-- P of the day's fault; nothing is said where memory was refused
+abbrev pub IfDay : Refused → (DayFault → Type 0) → Type 0
+IfDay (Day fault) P = P fault
+IfDay OutOfMemory P = Unit {0}
+
+-- fewer trades than a file of the greatest length has room for
+abbrev pub AreFew : DayRows → Type 0
+AreFew rows = length rows.executions + length rows.own_priced < TRADE_LIMIT
+
+-- the rows of the messages of a whole file that count, all of whose lengths are right
+pub record AreOfDay (file : List ℕ) (as_of : Option ℕ) (rows : DayRows) : Type 0 where
+  pub frames : List PlacedBody
+  pub stands : StandsFor frames file
+  pub right : first_wrong frames ≡ None
+  pub are : rows ≡ rows_of (counted as_of (messages_of frames))
+  pub few : AreFew rows
+
+-- the rows of some messages, by place
+pub record AreOfMessages (rows : DayRows) : Type 0 where
+  pub messages : List Placed
+  pub by_place : AreByPlace messages
+  pub are : rows ≡ rows_of messages
+  pub few : AreFew rows
+
+-- no reference is given again, and none is named that isn't known
+abbrev pub HaveNoFault : List OrderRow → List Execution → Type 0
+HaveNoFault orders executions = (first_repeated orders ≡ None) × (first_unknown orders executions ≡ None)
+
+-- the first fault in the references
+abbrev pub IsReferenceFault : List OrderRow → List Execution → DayFault → Type 0
+IsReferenceFault orders executions fault =
+    MatchOption (first_repeated orders)
+    (IsSomeAnd (first_unknown orders executions) (λ unknown. fault ≡ UnknownReference unknown.place unknown.order_no))
+    (λ repeated. fault ≡ RepeatedReference repeated.place repeated.order_no)

@@ -1,0 +1,186 @@
+ghost use Rattle.std.specs.Prelude.{◌≡◌, ℕ, ◌<◌, ◌++◌, List, All, IfErr, IfOk, length, map, nat_eq, Ok, Err};
+ghost use Rattle.std.specs.List.{IsDistinct};
+ghost use Rattle.std.specs.List.Sorted.{IsPermutation};
+ghost use Rattle.probe.specs.Pricing.{priced};
+ghost use Rattle.probe.specs.Selection.{admits};
+ghost use Rattle.probe.specs.Trades.{kept};
+ghost use Rattle.query.specs.Meaning.{Meaning};
+ghost use Rattle.time_and_sales.specs.Listings.{IsByPlace};
+ghost use Rattle.time_and_sales.specs.Names.{last_row, name_text};
+ghost use Rattle.answers.specs.Answers.{IsAnswer, IsAnswerToMessages, IsTextOfSales, told_by};
+ghost use Rattle.answers.specs.DayRows.{AreByPlace, IsStamped, rows_of};
+ghost use Rattle.answers.specs.Messages.{Placed};
+ghost use Rattle.sequential.specs.Steps.{AreOfDay, AreOfMessages, HaveNoFault, IfDay, IsReferenceFault};
+
+use crate::OutOfMemory;
+use crate::refused::Refused;
+use answers::{Answer, DayFault, Rows, Text, text_of_bars, text_of_sales};
+use bars::BarTable;
+use broken_trades::Breaks;
+use day_file::{DayFile, frames};
+use itch_messages::read;
+use lists::limits::TRADE_LIMIT;
+use order_table::{Built, OrderRow, OrderTable, Repeated};
+use probe::{Execution, Priced, Sale, Selection, Unknown, keep, price_all};
+use query::{Query, What, selection};
+use std::alloc::{AllocError, Allocator};
+use time_and_sales::{Listing, Names};
+
+/// The answer to a query over a whole day file: by one thread, with all rows at once.
+pub fn plain<A: Allocator + Copy>(
+    alloc: A,
+    day: &DayFile<A>,
+    query: &Query<A>,
+) -> Result<Answer<A>, OutOfMemory>
+    ensures { IfOk result (λ answer. IsAnswer day.now query.now (told_by answer)) }
+{
+    match text_of_day(alloc, day, query) {
+        Ok(text) => Ok(Answer::Printed(text)),
+        Err(Refused::Day(fault)) => Ok(Answer::Faulty(fault)),
+        Err(Refused::OutOfMemory) => Err(AllocError),
+    }
+}
+
+/// The text that a query asks for of a day file.
+fn text_of_day<A: Allocator + Copy>(
+    alloc: A,
+    day: &DayFile<A>,
+    query: &Query<A>,
+) -> Result<Text<A>, Refused>
+    ensures text { IfOk result (λ text. IsAnswer day.now query.now (Ok text)) }
+    ensures fault { IfErr result (λ refused. IfDay refused (λ fault.
+        IsAnswer day.now query.now (Err fault))) }
+{
+    let rows = collect(alloc, day, query.as_of)?;
+    text_of_rows(alloc, rows, query)
+}
+
+/// The rows of the messages that count up to a moment, in seconds since midnight, in one walk over all
+/// frames.
+fn collect<A: Allocator + Copy>(
+    alloc: A,
+    day: &DayFile<A>,
+    as_of: Option<u32>,
+) -> Result<Rows<A>, Refused>
+    ensures rows { IfOk result (λ rows. AreOfDay day.now as_of rows) }
+    ensures fault { IfErr result (λ refused. IfDay refused (λ fault. (query : Meaning) →
+        IsAnswer day.now query (Err fault))) }
+{
+    let mut rows = Rows::new(alloc);
+    let mut left = frames(day);
+    while let Some(frame) = left.next() {
+        match read(frame.body) {
+            Ok(message) => rows.add_counted(as_of, frame.place, &message)?,
+            Err(fault) => {
+                // A truncation comes first, wherever it stands.
+                left.finish()?;
+                return Err(Refused::Day(DayFault::WrongLength {
+                    place: frame.place,
+                    kind: fault.kind,
+                    length: fault.length,
+                    wanted: fault.wanted,
+                }));
+            }
+        }
+    }
+    // No frame is left: the file is whole, or truncated here.
+    left.finish()?;
+    Ok(rows)
+}
+
+/// The text that the rows of a whole day's counted messages give.
+fn text_of_rows<A: Allocator + Copy>(
+    alloc: A,
+    rows: Rows<A>,
+    query: &Query<A>,
+) -> Result<Text<A>, Refused>
+    requires { AreOfMessages rows }
+    ensures text { IfOk result (λ text. (messages : List Placed) → AreByPlace messages →
+        rows ≡ rows_of messages → IsAnswerToMessages messages query.now (Ok text)) }
+    ensures fault { IfErr result (λ refused. IfDay refused (λ fault. (messages : List Placed) →
+        rows ≡ rows_of messages → IsAnswerToMessages messages query.now (Err fault))) }
+{
+    let trades = trades_of(alloc, &rows)?;
+    let names = Names::build(alloc, rows.directory())?;
+    let selection = selection(alloc, query, &names)?;
+    let listing = list(trades, rows.into_breaks(), &selection);
+    Ok(text_of(alloc, &listing, query, &names)?)
+}
+
+/// The executions at their orders' prices, and the sales that have a price of their own.
+fn trades_of<A: Allocator + Copy>(alloc: A, rows: &Rows<A>) -> Result<Vec<Sale, A>, Refused>
+    requires { AreOfMessages rows.now }
+    ensures faultless { IfOk result (λ _. HaveNoFault rows.now.orders rows.now.executions) }
+    ensures trades { IfOk result (λ trades. trades.items
+        ≡ priced rows.now.orders rows.now.executions ++ rows.now.own_priced) }
+    ensures stamped { IfOk result (λ trades. All (λ sale. IsStamped sale.time sale.locate) trades.items) }
+    ensures fault { IfErr result (λ refused. IfDay refused (λ fault.
+        IsReferenceFault rows.now.orders rows.now.executions fault)) }
+{
+    let mut trades = price(alloc, rows.orders(), rows.executions())?;
+    trades.extend_from_slice(rows.own_priced())?;
+    Ok(trades)
+}
+
+/// Prices all executions.
+fn price<A: Allocator + Copy>(
+    alloc: A,
+    orders: &[OrderRow],
+    executions: &[Execution],
+) -> Result<Vec<Sale, A>, Refused>
+    requires orders { IsDistinct nat_eq (map (λ row. row.place) orders.now) }
+    requires executions { IsDistinct nat_eq (map (λ execution. execution.place) executions.now) }
+    ensures faultless { IfOk result (λ _. HaveNoFault orders.now executions.now) }
+    ensures sales { IfOk result (λ sales. sales.items ≡ priced orders.now executions.now) }
+    ensures fault { IfErr result (λ refused. IfDay refused (λ fault.
+        IsReferenceFault orders.now executions.now fault)) }
+{
+    let Built { table, repeated } = OrderTable::build(alloc, orders)?;
+    if let Some(Repeated { place, order_no }) = repeated {
+        return Err(Refused::Day(DayFault::RepeatedReference { place, order_no }));
+    }
+    let Priced { sales, unknown } = price_all(alloc, &table, executions)?;
+    if let Some(Unknown { place, order_no }) = unknown {
+        return Err(Refused::Day(DayFault::UnknownReference { place, order_no }));
+    }
+    Ok(sales)
+}
+
+/// The sales that no break removes and that the selection admits, by place.
+fn list<A: Allocator + Copy>(
+    mut trades: Vec<Sale, A>,
+    breaks: Vec<u64, A>,
+    selection: &Selection<A>,
+) -> Listing<A>
+    requires { IsDistinct nat_eq (map (λ sale. sale.place)
+        (kept breaks.items (admits selection.now) trades.items)) }
+    ensures permutation { IsPermutation
+        (kept breaks.items (admits selection.now) trades.items) result }
+    ensures by_place { IsByPlace result }
+{
+    keep(&mut trades, &Breaks::from_rows(breaks), selection);
+    Listing::of_sales(trades)
+}
+
+/// The text that is asked for of a listing: of its sales, or of their bars.
+fn text_of<A: Allocator + Copy>(
+    alloc: A,
+    listing: &Listing<A>,
+    query: &Query<A>,
+    names: &Names<A>,
+) -> Result<Text<A>, OutOfMemory>
+    requires stamped { All (λ sale. IsStamped sale.time sale.locate) listing.now }
+    requires shares { All (λ sale. 0 < sale.shares) listing.now }
+    requires few { length listing.now < TRADE_LIMIT }
+    ensures { IfOk result (λ text. IsTextOfSales query.now.what
+        (λ locate. name_text locate (last_row names.now locate)) listing.now text) }
+{
+    let sales = listing.items();
+    match query.what {
+        What::Sales => text_of_sales(alloc, sales, names),
+        What::Bars { width } => {
+            let table = BarTable::of_sales(alloc, sales, width)?;
+            text_of_bars(alloc, table.items(), names)
+        }
+    }
+}

@@ -1,0 +1,11 @@
+//! Devices that take bytes, and how a whole text is written to one.
+#![tactic(auto)]
+
+mod counted_sink;
+mod delivering;
+mod sink;
+
+pub use counted_sink::CountedSink;
+pub use day_file::DeviceFailed;
+pub use delivering::{WriteFailed, deliver};
+pub use sink::Sink;

@@ -1,0 +1,43 @@
+-- What a source gave that was read up to a limit and cut meanwhile.
+-- To be believed.
+use Rattle.std.specs.Prelude.{◌≡◌, ℕ, ◌+◌, ◌<◌, ◌≤◌, List, length}
+use Rattle.lists.specs.declared.limits.TheConstants.{MOST_MORSELS}
+use Rattle.day_file.specs.Cuts.{IsCutBy}
+use Rattle.day_file.specs.Frames.{IsTruncatedAt}
+use Rattle.streaming.specs.declared.reading.CutReadFault.{CutReadFault}
+use Rattle.streaming.specs.declared.reading.CutReadFault.TheVariants as fault
+
+-- S is the states of a source, and `Gave` says which bytes it gave from one state to a later one.
+module _ {S : Type 0} (Gave : S → S → List ℕ → Type 0) where
+  -- the source gave some bytes, one more than the limit at most
+  pub record GaveSome (limit : ℕ) (before after : S) : Type 0 where
+    pub bytes : List ℕ
+    pub gave : Gave before after bytes
+    pub within : length bytes ≤ limit + 1
+
+  -- the source gave more than the limit: one byte more, for no other is asked
+  pub record GaveMore (limit : ℕ) (before after : S) : Type 0 where
+    pub bytes : List ℕ
+    pub gave : Gave before after bytes
+    pub longer : length bytes ≡ limit + 1
+
+  -- the source gave these bytes, no more than the limit, and told its end
+  pub record GaveAll (HasEnded : S → Type 0) (limit : ℕ) (before after : S) (day : List ℕ) : Type 0 where
+    pub gave : Gave before after day
+    pub ended : HasEnded after
+    pub within : length day ≤ limit
+
+-- they have a cut by the target that has more morsels than are allowed
+abbrev pub HasTooMany : ℕ → List ℕ → Type 0
+HasTooMany target day = (runs : List (List ℕ)) × IsCutBy target runs day × (MOST_MORSELS < length runs)
+
+-- what a refusal says of what the source gave
+abbrev pub IsReadFault : {S : Type 0} → (S → S → List ℕ → Type 0) → (S → Type 0)
+    → ℕ → ℕ → S → S → CutReadFault → Type 0
+IsReadFault Gave HasEnded limit target before after fault.ReadFailed = GaveSome Gave limit before after
+IsReadFault Gave HasEnded limit target before after fault.TooLong = GaveMore Gave limit before after
+IsReadFault Gave HasEnded limit target before after (fault.Truncated place) =
+    (day : List ℕ) × GaveAll Gave HasEnded limit before after day × IsTruncatedAt day place
+IsReadFault Gave HasEnded limit target before after fault.TooManyMorsels =
+    (day : List ℕ) × GaveAll Gave HasEnded limit before after day × HasTooMany target day
+IsReadFault Gave HasEnded limit target before after fault.OutOfMemory = GaveSome Gave limit before after

@@ -1,0 +1,7 @@
+//! A day file that is cut into morsels while it is read from a source of bytes.
+#![tactic(auto)]
+
+mod reading;
+
+pub use day_file::{Cut, LONGEST_FILE, MOST_MORSELS, OutOfMemory, Source};
+pub use reading::{CutReadFault, read_cut};

@@ -1,0 +1,152 @@
+ghost use Rattle.std.specs.Prelude.{◌≡◌, ◌≤◌, ◌<◌, ◌+◌, ◌↔◌, ℕ, List, [], length, true, false, vec_len};
+ghost use Rattle.std.specs.Prelude.{IfErr, IfOk, IsErrOf, OnOk};
+ghost use Rattle.std.specs.List.{concat};
+ghost use Rattle.day_file.specs.Cuts.{IsCutBy};
+ghost use Rattle.day_file.specs.Feeding.{HasFed, fed_length};
+ghost use Rattle.streaming.specs.Fed.{IsFedBy};
+ghost use Rattle.streaming.specs.Streams.{GaveAll, IsReadFault};
+
+use day_file::{
+    Cut, CutFault, Cutter, DeviceFailed, LONGEST_FILE, MOST_MORSELS, OutOfMemory, Source,
+};
+use std::alloc::Global;
+
+/// The most bytes that one call asks of a source.
+const PIECE: usize = 65_536;
+
+/// Why a source gave no cut of a day file.
+#[derive(Clone, Copy, Debug, PartialEq, Eq)]
+pub enum CutReadFault {
+    /// A call of the source failed.
+    ReadFailed,
+    /// The source gave more bytes than the limit.
+    TooLong,
+    /// What was read, all of it, is truncated at this place, in bytes from its start.
+    Truncated { place: u64 },
+    /// What was read, all of it, would have more than `MOST_MORSELS` morsels.
+    TooManyMorsels,
+    /// There was no memory for the piece that is read or for the morsels.
+    OutOfMemory,
+}
+
+impl From<OutOfMemory> for CutReadFault {
+    ghost use Rattle.streaming.specs.declared.reading.CutReadFault.{CutReadFault};
+
+    ghost from_gives = { λ _ fault. fault ≡ CutReadFault.OutOfMemory };
+
+    fn from(_refused: OutOfMemory) -> CutReadFault {
+        CutReadFault::OutOfMemory
+    }
+}
+
+impl From<DeviceFailed> for CutReadFault {
+    ghost use Rattle.streaming.specs.declared.reading.CutReadFault.{CutReadFault};
+
+    ghost from_gives = { λ _ fault. fault ≡ CutReadFault.ReadFailed };
+
+    fn from(_failed: DeviceFailed) -> CutReadFault {
+        CutReadFault::ReadFailed
+    }
+}
+
+/// Reads a source of at most `limit` bytes to its end, and cuts what it gives meanwhile: each morsel
+/// is the shortest run of frames that has at least `target` bytes, or the rest. It asks for at most
+/// 65,536 bytes a call and for at most `limit` + 1 in all, and stops at the first call that fails.
+/// Beside the morsels it holds no more than such a piece and a morsel that is not full yet.
+pub fn read_cut<S: Source>(
+    alloc: Global,
+    source: &mut S,
+    limit: u64,
+    target: u64,
+) -> Result<Cut, CutReadFault>
+    requires source { S.has_failed source.old ≡ false }
+    requires limit { limit ≤ LONGEST_FILE }
+    requires target { 0 < target }
+
+    // What it gives is the cut of all that the source had to give.
+    ensures gave { IfOk result (λ cut.
+        GaveAll S.Gave S.HasEnded limit source.old source.new (concat cut)) }
+    ensures cut { IfOk result (λ cut. IsCutBy target cut (concat cut)) }
+    ensures few { IfOk result (λ cut. length cut ≤ MOST_MORSELS) }
+
+    // After a refusal the source may have been read in part.
+    ensures fault { IfErr result (IsReadFault S.Gave S.HasEnded limit target source.old source.new) }
+    ensures failed { IsErrOf result CutReadFault.ReadFailed ↔ (S.has_failed source.new ≡ true) }
+{
+    let mut cutter = Cutter::new(alloc, target);
+    feed_all(alloc, source, &mut cutter, limit)?;
+    match cutter.finish() {
+        Ok(cut) => {
+            let count = cut.count();
+            prove!(count <= MOST_MORSELS);
+            Ok(cut)
+        }
+        Err(CutFault::Truncated { place }) => Err(CutReadFault::Truncated { place }),
+        Err(CutFault::NotABoundary { .. }) => unreachable!(),
+        Err(CutFault::TooManyMorsels) => Err(CutReadFault::TooManyMorsels),
+        Err(CutFault::OutOfMemory) => Err(CutReadFault::OutOfMemory),
+    }
+}
+
+/// Feeds the cutter all that the source gives.
+fn feed_all<S: Source>(
+    alloc: Global,
+    source: &mut S,
+    cutter: &mut Cutter,
+    limit: u64,
+) -> Result<(), CutReadFault>
+    requires source { S.has_failed source.old ≡ false }
+    requires limit { limit ≤ LONGEST_FILE }
+    requires none { HasFed cutter.old [] }
+    ensures fed { OnOk result ((day : List ℕ)
+        × GaveAll S.Gave S.HasEnded limit source.old source.new day × HasFed cutter.new day) }
+    ensures target { cutter.new.target ≡ cutter.old.target }
+    ensures fault { IfErr result
+        (IsReadFault S.Gave S.HasEnded limit cutter.old.target source.old source.new) }
+    ensures failed { IsErrOf result CutReadFault.ReadFailed ↔ (S.has_failed source.new ≡ true) }
+{
+    let mut piece = zeros(alloc, PIECE)?;
+    while feed_next(source, cutter, &mut piece, limit)? > 0 {}
+    Ok(())
+}
+
+/// So many bytes.
+fn zeros(alloc: Global, count: usize) -> Result<Vec<u8>, OutOfMemory>
+    ensures { IfOk result (λ zeros. vec_len zeros ≡ count) }
+{
+    vec![in alloc; 0u8; count]
+}
+
+/// Feeds the cutter what one call of the source gives, at most what has room in `piece`, and says how
+/// many bytes those are.
+fn feed_next<S: Source>(
+    source: &mut S,
+    cutter: &mut Cutter,
+    piece: &mut [u8],
+    limit: u64,
+) -> Result<usize, CutReadFault>
+    requires source { S.has_failed source.old ≡ false }
+    requires room { 0 < length piece.old }
+    requires limit { limit ≤ LONGEST_FILE }
+    requires fed { (fed : List ℕ) × HasFed cutter.old fed }
+    requires within { fed_length cutter.old ≤ limit }
+    ensures fed { OnOk result ((first : S) → IsFedBy S.Gave first source.old cutter.old
+        → IsFedBy S.Gave first source.new cutter.new) }
+    ensures within { OnOk result (fed_length cutter.new ≤ limit) }
+    ensures count { IfOk result (λ count. fed_length cutter.new ≡ fed_length cutter.old + count) }
+    ensures end { IfOk result (λ count. count ≡ 0 → S.HasEnded source.new) }
+    ensures target { cutter.new.target ≡ cutter.old.target }
+    ensures room { length piece.new ≡ length piece.old }
+    ensures fault { IfErr result (λ fault. (first : S) → IsFedBy S.Gave first source.old cutter.old
+        → IsReadFault S.Gave S.HasEnded limit cutter.old.target first source.new fault) }
+    ensures failed { IsErrOf result CutReadFault.ReadFailed ↔ (S.has_failed source.new ≡ true) }
+{
+    let left = limit - cutter.length();
+    let most = (left + 1).min(piece.len() as u64) as usize;
+    let taken = source.take(&mut piece[..most])?;
+    if taken as u64 > left {
+        return Err(CutReadFault::TooLong);
+    }
+    cutter.feed(&piece[..taken])?;
+    Ok(taken)
+}

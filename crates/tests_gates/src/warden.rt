@@ -1,0 +1,104 @@
+//! A gate that holds runs.
+
+use pipelines::{Gate, OutOfMemory};
+use std::alloc::Global;
+use std::sync::atomic::{AtomicBool, Ordering};
+use tests_works::hold;
+
+/// What a gate hears. Pipelines are 1 and 2.
+#[derive(Clone, Copy, Debug, PartialEq, Eq)]
+pub enum Heard {
+    /// A run of this pipeline.
+    Pipeline(u8),
+    /// A run of this task of a pipeline.
+    Task(u8, u32),
+    /// A run of this task of a pipeline at its second giving.
+    Again(u8, u32),
+    /// The end of this pipeline.
+    Done(u8),
+}
+
+/// The run of a task at its first giving is held until something is heard.
+#[derive(Clone, Copy, Debug)]
+pub struct Hold {
+    pub pipeline: u8,
+    pub task: u32,
+    pub until: Heard,
+}
+
+/// A hold, and whether it has ended.
+#[derive(Drop)]
+struct Held {
+    hold: Hold,
+    has_ended: AtomicBool,
+}
+
+/// Holds some runs, each for a million turns at most.
+#[derive(Drop)]
+pub struct Warden {
+    held: Vec<Held>,
+    is_run_by_caller: AtomicBool,
+    gave_up: AtomicBool,
+}
+
+impl Warden {
+    /// The gate with these holds.
+    pub fn of(alloc: Global, holds: &[Hold]) -> Result<Self, OutOfMemory> {
+        let mut held = Vec::new(alloc);
+        for hold in holds {
+            held.push(Held {
+                hold: *hold,
+                has_ended: AtomicBool::new(false),
+            })?;
+        }
+        Ok(Warden {
+            held,
+            is_run_by_caller: AtomicBool::new(false),
+            gave_up: AtomicBool::new(false),
+        })
+    }
+
+    /// Whether each hold has ended because of what was heard.
+    pub fn never_gave_up(&self) -> bool {
+        !self.gave_up.load(Ordering::SeqCst)
+    }
+
+    /// Whether it heard of a run of the caller's own.
+    pub fn is_run_by_caller(&self) -> bool {
+        self.is_run_by_caller.load(Ordering::SeqCst)
+    }
+
+    /// Ends the holds that wait for this.
+    fn hear(&self, heard: Heard) {
+        for held in &self.held {
+            if held.hold.until == heard {
+                held.has_ended.store(true, Ordering::SeqCst);
+            }
+        }
+    }
+
+    /// Holds a run.
+    fn detain(&self, pipeline: u8, task: u32) {
+        for held in &self.held {
+            if held.hold.pipeline == pipeline && held.hold.task == task {
+                hold(&held.has_ended, &self.gave_up);
+            }
+        }
+    }
+}
+
+impl Gate for Warden {
+    fn before(&self, pipeline: u8, task: u32, round: u8) {
+        self.hear(Heard::Pipeline(pipeline));
+        self.hear(Heard::Task(pipeline, task));
+        match round {
+            0 => self.detain(pipeline, task),
+            1 => self.hear(Heard::Again(pipeline, task)),
+            _ => self.is_run_by_caller.store(true, Ordering::SeqCst),
+        }
+    }
+
+    fn done(&self, pipeline: u8) {
+        self.hear(Heard::Done(pipeline));
+    }
+}

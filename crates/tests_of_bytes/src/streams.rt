@@ -1,0 +1,121 @@
+//! Day files that are cut while they are read from a source.
+ghost use Rattle.std.specs.Prelude.{◌≡◌, false};
+
+use day_file::{Counted, LONGEST_FILE, Source, cut};
+use std::alloc::Global;
+use std::test::Fail;
+use streaming::{Cut, CutReadFault, read_cut};
+use tests_support::{Day, Interrupted, NAMED, Trickle, UNNAMED, file_of};
+
+/// The bytes of each morsel, with where it starts.
+fn morsels<'a>(alloc: Global, cut: &'a Cut) -> Result<Vec<(u64, &'a [u8])>, Fail> {
+    let mut morsels = Vec::new(alloc);
+    for number in 0..cut.count() {
+        let morsel = cut.morsel(number);
+        morsels.push((morsel.start(), morsel.bytes()))?;
+    }
+    Ok(morsels)
+}
+
+#[test]
+fn what_is_read_by_few_bytes_a_call_is_cut_alike(rt: HostRuntime) -> Result<(), Fail> {
+    let alloc = rt.alloc();
+    let bytes = Day::of(alloc, &NAMED)?.bytes;
+    let file = file_of(Vec::from_slice(alloc, &bytes)?)?;
+    for target in 1..114u64 {
+        let whole = cut(alloc, &file, target)?;
+        let want = morsels(alloc, &whole)?;
+        for step in [1, 2, 3, 7, 65_536] {
+            let mut reader = Interrupted::of(&bytes, step, u32::MAX);
+            let mut source = Counted::of(&mut reader);
+            let read = read_cut(alloc, &mut source, LONGEST_FILE, target)?;
+            let found = morsels(alloc, &read)?;
+            assert!(rt; found.as_slice() == want.as_slice(), "{target} by {step}");
+        }
+    }
+    Ok(())
+}
+
+#[test]
+fn many_pieces_are_cut_as_the_whole(rt: HostRuntime) -> Result<(), Fail> {
+    let alloc = rt.alloc();
+    let most = 65_536;
+    let table: [(usize, u64, Result<usize, CutReadFault>); 5] = [
+        (2 * most, 1, Ok(65_536)),
+        (2 * most + 2, 1, Err(CutReadFault::TooManyMorsels)),
+        (2 * most + 2, 3, Ok(32_769)),
+        (
+            2 * most + 3,
+            1,
+            Err(CutReadFault::Truncated { place: 131_074 }),
+        ),
+        (
+            2 * most + 3,
+            3,
+            Err(CutReadFault::Truncated { place: 131_074 }),
+        ),
+    ];
+    for (length, target, want) in table {
+        // Messages of no bytes, and perhaps one byte more.
+        let bytes = vec![in alloc; 0u8; length]?;
+        for step in [1, 65_536] {
+            let mut reader = Interrupted::of(&bytes, step, u32::MAX);
+            let mut source = Counted::of(&mut reader);
+            let read = read_cut(alloc, &mut source, LONGEST_FILE, target);
+            let count = read.map(|cut| cut.count() as usize);
+            assert!(rt; count == want, "{length} by {target}");
+        }
+    }
+    Ok(())
+}
+
+#[test]
+fn no_more_than_the_limit_and_a_byte_is_asked_for(rt: HostRuntime) -> Result<(), Fail> {
+    let alloc = rt.alloc();
+    let day = Day::of(alloc, &UNNAMED)?.bytes;
+    let long = vec![in alloc; 0u8; 140_000]?;
+    // The limit, the outcome, the calls of the reader, and how many bytes it keeps.
+    let table: [(&[u8], u64, Result<u64, CutReadFault>, u32, usize); 7] = [
+        (&day, 71, Ok(71), 2, 0),
+        (&day, 70, Err(CutReadFault::TooLong), 1, 0),
+        (&day, 69, Err(CutReadFault::TooLong), 1, 1),
+        (&day, 0, Err(CutReadFault::TooLong), 1, 70),
+        (&[], 0, Ok(0), 1, 0),
+        (&long, 140_000, Ok(140_000), 4, 0),
+        (&long, 65_536, Err(CutReadFault::TooLong), 2, 74_463),
+    ];
+    for (bytes, limit, want, calls, kept) in table {
+        let mut reader = Interrupted::of(bytes, 1_000_000, u32::MAX);
+        let mut source = Counted::of(&mut reader);
+        let read = read_cut(alloc, &mut source, limit.min(LONGEST_FILE), 50);
+        let length = read.map(|cut| cut.length());
+        assert!(rt; length == want && !source.failed(), "at {limit}");
+        assert!(rt;
+            (reader.calls, reader.rest.len()) == (calls, kept),
+            "at {limit}"
+        );
+    }
+    Ok(())
+}
+
+#[test]
+fn a_source_that_fails_at_some_call_has_no_cut(rt: HostRuntime) -> Result<(), Fail> {
+    let alloc = rt.alloc();
+    let bytes = Day::of(alloc, &UNNAMED)?.bytes;
+    // 71 bytes, and the call behind them tells the end.
+    for calls in 0..74 {
+        let mut source = Trickle::of(&bytes, calls);
+        let read = read_cut(alloc, &mut source, 71, 1).map(|cut| cut.count());
+        let want = if calls < 72 {
+            Err(CutReadFault::ReadFailed)
+        } else {
+            Ok(2)
+        };
+        assert!(rt;
+            read == want && source.failed() == (calls < 72),
+            "at {calls}"
+        );
+        assert!(rt; source.calls == calls.saturating_sub(72), "at {calls}");
+    }
+    Ok(())
+}

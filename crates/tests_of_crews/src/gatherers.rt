@@ -1,0 +1,37 @@
+//! Days that are answered by several gatherers.
+use crate::answering::{text, told_of_day};
+use crate::threads::{held, is_answered};
+use executor::{Crew, FreeGate};
+use std::test::Fail;
+use tests_gates::{Heard, Warden};
+use tests_support::NAMED;
+
+#[test]
+fn every_number_of_gatherers_gives_one_answer(rt: HostRuntime) -> Result<(), Fail> {
+    for (workers, gatherers) in [(1, 8), (2, 2), (3, 2), (64, 8)] {
+        let crew = Crew { workers, gatherers };
+        is_answered(&rt, rt.alloc(), crew, &FreeGate)?;
+    }
+    Ok(())
+}
+
+#[test]
+fn overlap_over_two_gatherers(rt: HostRuntime) -> Result<(), Fail> {
+    let alloc = rt.alloc();
+    // One task of each pipeline is given again while its first run is held.
+    let holds = [
+        held(1, 0, Heard::Again(1, 0)),
+        held(2, 1, Heard::Again(2, 1)),
+    ];
+    let gate = Warden::of(alloc, &holds)?;
+    let crew = Crew {
+        workers: 2,
+        gatherers: 2,
+    };
+    let told = told_of_day(&rt, alloc, "bars 1 m", &NAMED, 64, crew, &gate)?;
+    let bar = "symbol,start,first,high,low,last,volume,trades,average\n\
+        MSFT,09:30:00,410.5000,410.5000,410.5000,410.5000,40,1,410.5000+0/40\n";
+    assert!(rt; told == text(alloc, bar)?);
+    assert!(rt; gate.never_gave_up() && !gate.is_run_by_caller());
+    Ok(())
+}

@@ -1,0 +1,79 @@
+//! A day that is answered by few workers, while a gate holds or counts their runs.
+use crate::answering::{HEADER, TWO, text, told_of_day};
+use executor::{Crew, FreeGate, Gate};
+use std::alloc::Global;
+use std::process::Abort;
+use std::sync::Wait;
+use std::test::Fail;
+use std::thread::Threads;
+use tests_gates::{Counter, Heard, Hold, Warden};
+use tests_support::BROKEN_EARLIER;
+
+/// `sales` of a day whose one sale is broken is answered, with a morsel for each of its four frames and 64
+/// partitions.
+pub fn is_answered<G: Gate, R: Threads + Wait + Abort + Sync>(
+    rt: &R,
+    alloc: Global,
+    crew: Crew,
+    gate: &G,
+) -> Result<(), Fail> {
+    let told = told_of_day(rt, alloc, "sales", &BROKEN_EARLIER, 64, crew, gate)?;
+    assert!(rt; told == text(alloc, HEADER)?);
+    Ok(())
+}
+
+#[test]
+fn one_worker_runs_each_task_once(rt: HostRuntime) -> Result<(), Fail> {
+    is_answered(&rt, rt.alloc(), TWO, &FreeGate)?;
+    let gate = Counter::new(rt.alloc(), 4, 64)?;
+    let one = Crew {
+        workers: 1,
+        gatherers: 1,
+    };
+    is_answered(&rt, rt.alloc(), one, &gate)?;
+    assert!(rt; gate.is_each_run_once());
+    Ok(())
+}
+
+/// Two workers answer under these holds, each of which ends, and leave the caller no run of its own.
+fn is_answered_under<R: Threads + Wait + Abort + Sync>(
+    rt: &R,
+    alloc: Global,
+    holds: &[Hold],
+) -> Result<(), Fail> {
+    let gate = Warden::of(alloc, holds)?;
+    is_answered(rt, alloc, TWO, &gate)?;
+    assert!(rt; gate.never_gave_up() && !gate.is_run_by_caller());
+    Ok(())
+}
+
+/// The first giving of a task is held.
+pub fn held(pipeline: u8, task: u32, until: Heard) -> Hold {
+    Hold {
+        pipeline,
+        task,
+        until,
+    }
+}
+
+#[test]
+fn two_tasks_meet(rt: HostRuntime) -> Result<(), Fail> {
+    let holds = [
+        held(1, 0, Heard::Task(1, 1)),
+        held(1, 1, Heard::Task(1, 0)),
+        held(2, 0, Heard::Task(2, 1)),
+        held(2, 1, Heard::Task(2, 0)),
+    ];
+    is_answered_under(&rt, rt.alloc(), &holds)
+}
+
+#[test]
+fn slow_task_given_again(rt: HostRuntime) -> Result<(), Fail> {
+    let holds = [held(1, 0, Heard::Done(1)), held(2, 0, Heard::Done(2))];
+    is_answered_under(&rt, rt.alloc(), &holds)
+}
+
+#[test]
+fn slow_worker_left_behind(rt: HostRuntime) -> Result<(), Fail> {
+    is_answered_under(&rt, rt.alloc(), &[held(1, 0, Heard::Pipeline(2))])
+}
