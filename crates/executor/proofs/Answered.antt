@@ -8,14 +8,14 @@ use Rattle.answers.specs.declared.day_fault.DayFault.{DayFault}
 use Rattle.pipelines.specs.Outcomes.{outcome_of}
 use Rattle.pipelines.specs.declared.outcome.Outcome.{Outcome}
 use Rattle.pipelines.specs.declared.outcome.Outcome.TheVariants as pair
-use Rattle.scanning.specs.Scans.{ScanInputView, ScanTotalView, total_of}
+use Rattle.scanning.specs.Scans.{ScanInputView, ScanTotalView, inputs_of, total_of}
 use Rattle.scanning.specs.declared.wrong.WrongLength.{WrongLength}
 use Rattle.buckets.specs.Buckets.{total_found}
 use Rattle.buckets.specs.FoundRows.{TotalView}
 use Rattle.planning.specs.Gathered.{AreGatheredOf}
 use Rattle.planning.specs.Planned.{LinkView, all_directory, linked_to}
-use Rattle.executor.specs.FirstPipeline.{inputs_of, wrong_fault}
-use Rattle.executor.proofs.CutAnswers.{AreRuns, answered_by, buckets, gathered_by, halted_by, link, messages, scan}
+use Rattle.executor.specs.FirstPipeline.{AreRuns, wrong_fault}
+use Rattle.executor.proofs.CutAnswers.{answered_by, buckets, gathered_by, halted_by, link, messages, scan}
 
 abbrev Pair : Type 0
 Pair = Outcome TotalView (List DirectoryRow) WrongLength

@@ -1,11 +1,10 @@
 -- What both pipelines find over a cut makes the answer to the query over its file.
-use Rattle.std.proofs.Common.{◌≡◌, ℕ, ◌<◌, ◌≤◌, All, List, Option, Some, None, option_map, Result, Err, length, map, flat_map, refl, sym, ap, ◌∙◌, subst}
-use Rattle.std.specs.List.{concat}
-use Rattle.std.proofs.lemmas.List.Elements.{recursion_from_All}
+use Rattle.std.proofs.Common.{◌≡◌, ℕ, ◌<◌, List, [], ◌∷◌, Option, Some, None, option_map, Result, Err, map, flat_map, refl, sym, ap, ◌∙◌, subst}
+use Rattle.std.specs.List.{AllByRecursion, concat}
+use Rattle.std.proofs.lemmas.List.Elements.{All-append, All-nil, recursion_from_All}
 use Rattle.lists.specs.Least.{numbers_below}
-use Rattle.lists.specs.declared.limits.TheConstants.{LONGEST_FILE}
 use Rattle.time_and_sales.specs.declared.directory.DirectoryRow.{DirectoryRow}
-use Rattle.day_file.specs.Cuts.{AreBytes, IsRun, MorselView}
+use Rattle.day_file.specs.Cuts.{AreBytes, MorselView}
 use Rattle.day_file.specs.Frames.{PlacedBody, StandsFor}
 use Rattle.day_file.specs.Kept.{numbered}
 use Rattle.day_file.specs.Walk.{frames_of}
@@ -29,14 +28,12 @@ use Rattle.planning.specs.Gathered.{AreGatheredOf}
 use Rattle.planning.specs.Planned.{LinkView, all_directory, planned_bucket}
 use Rattle.planning.proofs.MorselsOfCuts.{counted_in, directory_is, input_of, told_of, wrong_is}
 use Rattle.planning.proofs.TotalsOfCuts.{linked_total}
-use Rattle.executor.specs.FirstPipeline.{wrong_fault}
-use Rattle.executor.proofs.MorselInputs.{bytes_joined}
+use Rattle.executor.specs.FirstPipeline.{AreRuns, wrong_fault}
 
--- the runs of a cut: whole frames, bytes, no more than a file may have
-pub record AreRuns (runs : List (List ℕ)) : Type 0 where
-  pub each : All IsRun runs
-  pub bytes : All AreBytes runs
-  pub within : length (concat runs) ≤ LONGEST_FILE
+-- the bytes of runs joined
+bytes_joined : (runs : List (List ℕ)) → AllByRecursion AreBytes runs → AreBytes (concat runs)
+bytes_joined [] all = All-nil _
+bytes_joined (run ∷ runs) all = All-append (λ byte. byte < 256) run (concat runs) all.0 (bytes_joined runs all.1)
 
 module _ (runs : List (List ℕ)) (query : Meaning) (parts : ℕ) where
   abbrev morsels : List MorselView

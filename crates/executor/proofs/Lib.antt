@@ -1,4 +1,3 @@
-pub mod MorselInputs
 pub mod CutAnswers
 pub mod Answered
 pub mod Rehearsed

@@ -14,18 +14,18 @@ use Rattle.pipelines.specs.Schedules.{first_left}
 use Rattle.pipelines.specs.declared.event.Event.{Event}
 use Rattle.pipelines.specs.declared.outcome.Rehearsed.{Rehearsed}
 use Rattle.pipelines.specs.declared.outcome.Rehearsed.TheVariants as pair
-use Rattle.scanning.specs.Scans.{ScanInputView, ScanTotalView, total_of}
+use Rattle.scanning.specs.Scans.{ScanInputView, ScanTotalView, inputs_of, total_of}
 use Rattle.scanning.specs.declared.wrong.WrongLength.{WrongLength}
+use Rattle.scanning.proofs.MorselInputs.{length-numbered}
 use Rattle.buckets.specs.BucketRows.{BucketView}
 use Rattle.buckets.specs.Buckets.{total_found}
 use Rattle.buckets.specs.FoundRows.{TotalView}
 use Rattle.planning.specs.Gathered.{AreGatheredOf}
 use Rattle.planning.specs.Planned.{LinkView, all_directory, linked_to, planned_bucket}
 use Rattle.executor.specs.Rehearsals.{IsRehearsed}
-use Rattle.executor.specs.FirstPipeline.{inputs_of, wrong_fault}
+use Rattle.executor.specs.FirstPipeline.{AreRuns, wrong_fault}
 use Rattle.executor.specs.declared.calls.rehearse.Rehearsal.TheVariants as rehearsal
-use Rattle.executor.proofs.MorselInputs.{length-numbered}
-use Rattle.executor.proofs.CutAnswers.{AreRuns, answered_by, buckets, frames, gathered_by, halted_by, link, messages, right_frames, scan, stands, wrong_frame}
+use Rattle.executor.proofs.CutAnswers.{answered_by, buckets, frames, gathered_by, halted_by, link, messages, right_frames, scan, stands, wrong_frame}
 
 abbrev Pair : Type 0
 Pair = Rehearsed TotalView (List DirectoryRow) WrongLength

@@ -1,2 +1,3 @@
 pub mod ScanOfFrames
+pub mod MorselInputs
 pub mod TotalOfScans

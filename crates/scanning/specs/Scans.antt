@@ -80,7 +80,12 @@ total_of inputs = record {
   wrong = least_by (λ wrong. wrong.place) (filter_map (λ input. (scanned input).wrong) inputs);
 }
 
--- they are the morsels of one cut, in order, with one moment and one number of partitions
+-- the inputs of the scans of a cut: its morsels, in order, with one moment and one number of partitions
+abbrev pub inputs_of : Option ℕ → ℕ → List (List ℕ) → List ScanInputView
+inputs_of as_of parts runs =
+    map (λ morsel. record { morsel = morsel; as_of = as_of; parts = parts }) (numbered 0 0 runs)
+
+-- they are the inputs of the scans of one cut
 pub record AreOfOneCut (inputs : List ScanInputView) : Type 0 where
   pub runs : List (List ℕ)
   pub each : All IsRun runs
@@ -88,4 +93,4 @@ pub record AreOfOneCut (inputs : List ScanInputView) : Type 0 where
   pub as_of : Option ℕ
   pub parts : ℕ
   pub some : 0 < parts
-  pub are : inputs ≡ map (λ morsel. record { morsel = morsel; as_of = as_of; parts = parts }) (numbered 0 0 runs)
+  pub are : inputs ≡ inputs_of as_of parts runs

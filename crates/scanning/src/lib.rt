@@ -3,12 +3,14 @@
 #![tactic(auto)]
 
 mod input;
+mod inputs;
 mod output;
 mod total;
 mod work;
 mod wrong;
 
 pub use input::ScanInput;
+pub use inputs::scan_inputs;
 pub use lists::OutOfMemory;
 pub use output::Scanned;
 pub use total::ScanTotal;

@@ -3,12 +3,13 @@ ghost use Rattle.lists.specs.declared.limits.TheConstants.{MOST_PARTITIONS};
 ghost use Rattle.executor.specs.Rehearsals.{IsRehearsed};
 
 use crate::OutOfMemory;
-use crate::calls::first_pipeline::{scan_inputs, told_of};
+use crate::calls::first_pipeline::told_of;
 use answers::Answer;
 use day_file::Cut;
 use pipelines::{Event, Rehearsed, rehearse_pair};
 use planning::{PlanLink, answer_of};
 use query::Query;
+use scanning::scan_inputs;
 use std::alloc::Global;
 use std::sync::Arc;
 

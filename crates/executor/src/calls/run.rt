@@ -1,14 +1,18 @@
 ghost use Rattle.std.specs.Prelude.{◌≡◌, false, IfErr, IfOk};
-ghost use Rattle.answers.specs.Answers.{told_by};
+ghost use Rattle.std.specs.List.{concat};
+ghost use Rattle.answers.specs.Answers.{IsAnswer, told_by};
 ghost use Rattle.executor.specs.Runs.{Ran, is_read_failed, is_write_failed};
 ghost use Rattle.executor.specs.Sources.{AnswersSource, IsSourceRefusal};
 
-use crate::calls::answer::answer;
+use crate::OutOfMemory;
+use crate::calls::answer::answer_inputs;
 use crate::run_fault::RunFault;
 use crate::settings::Settings;
 use answers::{Answer, DayFault};
+use day_file::Cut;
 use pipelines::FreeGate;
 use query::{Query, QueryFault, parse};
+use scanning::scan_inputs;
 use sinks::{Sink, WriteFailed, deliver};
 use std::alloc::{AllocError, Global};
 use std::sync::Wait;
@@ -74,16 +78,25 @@ fn answer_source<R: Threads + Wait + Sync, S: Source>(
         Err(CutReadFault::TooManyMorsels) => return Err(RunFault::TooManyMorsels),
         Err(CutReadFault::OutOfMemory) => return Err(RunFault::OutOfMemory),
     };
-    match answer(
-        rt,
-        alloc,
-        &cut,
-        query,
-        settings.parts,
-        settings.crew,
-        &FreeGate,
-    ) {
+    match answer_cut(rt, alloc, cut, query, settings) {
         Ok(answer) => Ok(answer),
         Err(AllocError) => Err(RunFault::OutOfMemory),
     }
+}
+
+/// The answer to a query over a cut day file, which is let go before the pipelines start: so its bytes
+/// are freed once all are scanned.
+fn answer_cut<R: Threads + Wait + Sync>(
+    rt: &R,
+    alloc: Global,
+    cut: Cut,
+    query: &Query,
+    settings: Settings,
+) -> Result<Answer, OutOfMemory>
+    ensures { IfOk result (λ answer. IsAnswer (concat cut) query.now (told_by answer)) }
+{
+    let Settings { crew, parts, .. } = settings;
+    let inputs = scan_inputs(alloc, &cut, query.as_of, parts)?;
+    drop(cut);
+    answer_inputs(rt, alloc, inputs, query, parts, crew, &FreeGate)
 }

@@ -1,8 +1,9 @@
 use Rattle.std.proofs.Common.{ap, sym, ◌∙◌}
 use Rattle.std.specs.Arc.{arc_value}
 use Rattle.query.specs.Meaning.{Meaning}
-use Rattle.executor.specs.FirstPipeline.{inputs_of}
-use Rattle.executor.proofs.CutAnswers.{AreRuns, messages}
+use Rattle.scanning.specs.Scans.{inputs_of}
+use Rattle.executor.specs.FirstPipeline.{AreRuns}
+use Rattle.executor.proofs.CutAnswers.{messages}
 use Rattle.executor.proofs.Rehearsed.{finished, gathered, given_by, halted, not_arrived}
 use Rattle.executor.proofs.calls.rehearse.rehearse.Goals as goal
 

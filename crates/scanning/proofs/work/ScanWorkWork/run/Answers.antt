@@ -1,4 +1,4 @@
-use Rattle.std.proofs.Common.{◌≡◌, ◌≤◌, ◌<◌, refl, subst, ap, ◌∙◌}
+use Rattle.std.proofs.Common.{◌≡◌, ◌≤◌, ◌<◌, refl, subst, ap, ◌∙◌, rules}
 use Rattle.std.proofs.lemmas.Result.{IfOk-weaker}
 use Rattle.itch_messages.specs.Body.{message_of}
 use Rattle.day_file.specs.Placed.{placed_body}
@@ -8,6 +8,9 @@ use Rattle.lists.specs.declared.limits.TheConstants.{MOST_PARTITIONS}
 use Rattle.scanning.specs.Scans.{ScanView, scan_of, scanned}
 use Rattle.scanning.proofs.ScanOfFrames.{AddsCounted, passes, reads, scan_ends}
 use Rattle.scanning.proofs.work.ScanWorkWork.run.Goals as goal
+
+pub loop-frame-init : goal.loop-frame-init
+loop-frame-init c = search rules
 
 pub loop-frame-preserved-in-Continue-branch-2 : goal.loop-frame-preserved-in-Continue-branch-2
 loop-frame-preserved-in-Continue-branch-2 c =

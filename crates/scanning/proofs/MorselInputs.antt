@@ -1,16 +1,13 @@
--- The inputs of the first pipeline, morsel after morsel.
+-- The inputs of the scans of a cut, morsel after morsel.
 use Rattle.std.proofs.Common.{◌≡◌, ℕ, suc, ◌+◌, ◌<◌, ◌≤◌, List, [], ◌∷◌, ◌++◌, Option, Some, get_or, length, map, slice_get, take, refl, sym, ap}
 use Rattle.std.proofs.Common.{ap₂, ◌∙◌, arith}
-use Rattle.std.specs.List.{AllByRecursion, concat}
 use Rattle.std.proofs.lemmas.List.{get_or_default, take_all, take_more}
-use Rattle.std.proofs.lemmas.List.Elements.{All-append, All-nil}
 use Rattle.std.proofs.lemmas.Option.{slice_get_read}
 use Rattle.lists.proofs.Lists.{map_more}
-use Rattle.day_file.specs.Cuts.{AreBytes, MorselView, start_of}
+use Rattle.day_file.specs.Cuts.{MorselView, start_of}
 use Rattle.day_file.specs.Kept.{numbered}
 use Rattle.day_file.proofs.Kept.{numbered_at}
-use Rattle.scanning.specs.Scans.{ScanInputView}
-use Rattle.executor.specs.FirstPipeline.{inputs_of}
+use Rattle.scanning.specs.Scans.{ScanInputView, inputs_of}
 
 pub length-numbered : (number start : ℕ) (runs : List (List ℕ)) → length (numbered number start runs) ≡ length runs
 length-numbered number start [] = refl
@@ -52,8 +49,3 @@ pub inputs_all : (as_of : Option ℕ) (parts : ℕ) (runs : List (List ℕ)) (co
 inputs_all as_of parts runs count inputs past are =
     are ∙ ap (map (λ (morsel : MorselView). record { morsel = morsel; as_of = as_of; parts = parts }))
     (take_all count (numbered 0 0 runs) (omega (arith, past, length-numbered 0 0 runs)))
-
--- the bytes of runs joined
-pub bytes_joined : (runs : List (List ℕ)) → AllByRecursion AreBytes runs → AreBytes (concat runs)
-bytes_joined [] all = All-nil _
-bytes_joined (run ∷ runs) all = All-append (λ byte. byte < 256) run (concat runs) all.0 (bytes_joined runs all.1)

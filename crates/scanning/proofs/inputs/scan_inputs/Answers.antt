@@ -3,8 +3,8 @@ use Rattle.std.specs.Arc.{arc_value}
 use Rattle.lists.proofs.Lists.{map_more}
 use Rattle.day_file.specs.Cuts.{MorselView}
 use Rattle.scanning.specs.Scans.{ScanInputView}
-use Rattle.executor.proofs.MorselInputs.{inputs_all, inputs_more}
-use Rattle.executor.proofs.calls.first_pipeline.scan_inputs.Goals as goal
+use Rattle.scanning.proofs.MorselInputs.{inputs_all, inputs_more}
+use Rattle.scanning.proofs.inputs.scan_inputs.Goals as goal
 
 pub loop-number-preserved : goal.loop-number-preserved
 loop-number-preserved c =

@@ -1,7 +1,7 @@
 use Rattle.std.proofs.Common.{◌≡◌, map}
 use Rattle.std.specs.Arc.{arc_value}
-use Rattle.executor.proofs.MorselInputs.{first_inputs}
-use Rattle.executor.proofs.calls.first_pipeline.scan_inputs.Given as goal
+use Rattle.scanning.proofs.MorselInputs.{first_inputs}
+use Rattle.scanning.proofs.inputs.scan_inputs.Given as goal
 
 -- the inputs of the morsels so far
 abbrev pub invariant-loop-number : goal.invariant-loop-number

@@ -1,0 +1,40 @@
+//! The inputs of all scans of a cut.
+ghost use Rattle.std.specs.Prelude.{◌≡◌, ◌<◌, ◌≤◌, All, IfOk, OnOk, length};
+ghost use Rattle.std.specs.List.{concat};
+ghost use Rattle.lists.specs.declared.limits.TheConstants.{LONGEST_FILE, MOST_PARTITIONS};
+ghost use Rattle.day_file.specs.Cuts.{AreBytes, IsRun};
+ghost use Rattle.scanning.specs.Scans.{inputs_of};
+
+use crate::OutOfMemory;
+use crate::input::ScanInput;
+use crate::work::ScanWork;
+use day_file::Cut;
+use gathering::Inputs;
+use std::alloc::Global;
+use std::sync::Arc;
+
+/// The inputs of the scans of a cut: each of its morsels, in order, with this moment, in seconds since
+/// midnight, and this number of partitions. They share the morsels with the cut, whose bytes are freed
+/// once both are let go.
+///
+/// It is refused if memory for the list of inputs, or for one of them, is refused.
+pub fn scan_inputs(
+    alloc: Global,
+    cut: &Cut,
+    as_of: Option<u32>,
+    parts: u32,
+) -> Result<Inputs<ScanWork>, OutOfMemory>
+    requires { (0 < parts) × (parts ≤ MOST_PARTITIONS) }
+    ensures inputs { IfOk result (λ inputs. inputs ≡ inputs_of as_of parts cut.now) }
+    ensures runs { OnOk result (All IsRun cut.now) }
+    ensures bytes { OnOk result (All AreBytes cut.now) }
+    ensures within { OnOk result (length (concat cut.now) ≤ LONGEST_FILE) }
+{
+    let count = cut.count();
+    let mut inputs = Vec::with_capacity(alloc, count as usize)?;
+    for number in 0..count {
+        let morsel = Arc::try_clone(cut.morsel(number))?;
+        inputs.push(Arc::new(alloc, ScanInput::of(morsel, as_of, parts))?)?;
+    }
+    Ok(Inputs::of(inputs))
+}
