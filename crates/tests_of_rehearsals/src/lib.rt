@@ -15,4 +15,6 @@ mod refusals;
 #[cfg(test)]
 mod rehearsing;
 #[cfg(test)]
+mod scans;
+#[cfg(test)]
 mod schedules;
