@@ -1,5 +1,6 @@
 pub mod AnswerOfSteps
 pub mod CountedMessages
+pub mod Examples
 pub mod FewTrades
 pub mod JoinedRows
 pub mod MomentLaws

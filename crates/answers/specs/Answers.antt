@@ -47,13 +47,14 @@ use Rattle.answers.specs.declared.day_fault.DayFault.TheVariants.{
 
 -- ---- what is asked for
 
--- an execution is a trade where its order's price is known; the others have a price of their own
+-- the sale of a message: an execution is one at its order's price, where a message before it gives that; of the others,
+-- those that have a price of their own are one
 abbrev pub trade_at : List OrderRow → ℕ → Message → Option Sale
 trade_at rows place (Executed executed) =
     option_and_then (sale_of rows) (execution_at place (Executed executed))
 trade_at rows place message = own_priced_at place message
 
--- the trades of the message list, by place; those of zero shares are among them
+-- the trades of the message list, in its order; those of zero shares are among them
 abbrev pub trades : List Placed → List Sale
 trades messages = filter_map (λ m. trade_at (order_rows messages) m.place m.message) messages
 
@@ -63,7 +64,7 @@ asks_for query rows sale =
     has_name query.symbols (name_of rows sale.locate)
     && (has_time query.span sale.time && has_kind query.kinds sale.kind)
 
--- the trades of more than zero shares that no break names and that the query asks for, by place
+-- the trades of more than zero shares that no break names and that the query asks for, in the order of the messages
 abbrev pub selected_sales : Meaning → List Placed → List Sale
 selected_sales query messages =
     kept (break_numbers messages) (asks_for query (directory_rows messages)) (trades messages)

@@ -17,7 +17,7 @@ abbrev pub has_locate : {A : Type 0} → Locates A → ℕ → Bool
 has_locate All locate = true
 has_locate (Listed list) locate = is_among list locate
 
--- a time in nanoseconds is in a span of seconds: from its first time on, and before its second
+-- a time in nanoseconds since midnight is in a span of seconds: at its `since` or later, and before its `until`
 abbrev pub is_within : Span → ℕ → Bool
 is_within span time =
     nat_le (span.since * NANOSECONDS) time && nat_lt time (span.until * NANOSECONDS)

@@ -13,7 +13,7 @@ use Rattle.probe.specs.declared.selection.Span.{Span}
 -- a query: what is listed, and of which sales
 pub record Meaning : Type 0 where
   pub what : What
-  -- messages after this second since midnight don't count
+  -- messages of a later time than this, which is in seconds since midnight, don't count
   pub as_of : Option ℕ
   pub symbols : Option (List (List ℕ))
   pub span : Option Span
@@ -22,7 +22,7 @@ pub record Meaning : Type 0 where
 -- the part of a query that was read; a moment or condition that wasn't given is `None`
 pub record Said : Type 0 where
   pub what : What
-  -- messages after this second since midnight don't count
+  -- messages of a later time than this, which is in seconds since midnight, don't count
   pub as_of : Option ℕ
   pub symbols : Option (List (List ℕ))
   pub span : Option Span

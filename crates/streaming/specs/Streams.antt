@@ -21,7 +21,7 @@ module _ {S : Type 0} (Gave : S → S → List ℕ → Type 0) where
     pub gave : Gave before after bytes
     pub longer : length bytes ≡ limit + 1
 
-  -- the source gave these bytes, no more than the limit, and told its end
+  -- the source gave these bytes, no more than the limit, and said that no byte is left
   pub record GaveAll (HasEnded : S → Type 0) (limit : ℕ) (before after : S) (day : List ℕ) : Type 0 where
     pub gave : Gave before after day
     pub ended : HasEnded after
