@@ -1,4 +1,2 @@
 -- Lemmas that several proofs share.
-pub mod Covered
-pub mod Workers
 pub mod Schedules

@@ -1,5 +1,4 @@
--- What the contracts speak of: a worker's run, schedules, and what a pair of pipelines gives.
+-- What the contracts speak of: schedules, and what a pair of pipelines gives.
 pub mod Outcomes
 pub mod Rehearsals
-pub mod Workers
 pub mod Schedules

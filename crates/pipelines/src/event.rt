@@ -4,7 +4,8 @@ ghost use Rattle.std.specs.Arc.{arc_value};
 ghost use Rattle.pipelines.specs.Schedules.{AreOver, after, after_all, covered_sets};
 ghost use Rattle.pipelines.specs.declared.event.Event.TheVariants.{Arrive, Merge};
 
-use crate::owner::{run_task, unite};
+use crate::owner::unite;
+use crew_threads::run_task;
 use gathering::{Gathering, Inputs, OutOfMemory, Work};
 use std::alloc::{Allocator, Global};
 use std::mem;

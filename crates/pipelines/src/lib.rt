@@ -5,31 +5,19 @@
 //! its threads changes the answer.
 #![tactic(auto)]
 
-mod crew;
-mod employ;
 mod event;
-mod gate;
-mod gatherers;
 pub mod laws;
 mod link;
 mod outcome;
 mod owner;
 mod pair;
-mod port;
 mod rehearse;
-mod worker;
 
-pub use crew::Crew;
+pub use crew_threads::{Crew, FreeGate, Gate, KeepingPort, Port, work};
 pub use dispatcher::{Dispatcher, Seat};
 pub use event::{Event, apply};
-pub use gate::{FreeGate, Gate};
 pub use gathering::{Gathering, Inputs, OutOfMemory, Piece, Work};
 pub use link::Link;
 pub use outcome::{Linked, Outcome, Rehearsed};
-pub use pair::run_pair;
-pub use port::{KeepingPort, Port};
-pub use rehearse::rehearse_pair;
-pub use worker::work;
-
-#[cfg(test)]
-mod tests;
+pub use pair::{run_pair, run_second};
+pub use rehearse::{rehearse_pair, rehearse_pipeline};

@@ -1,18 +1,13 @@
 //! Two pipelines on threads.
-ghost use Rattle.std.specs.Prelude.{◌≡◌, ◌<◌, [], length, IfOk, OnOk};
+ghost use Rattle.std.specs.Prelude.{◌≡◌, IfOk};
 ghost use Rattle.std.specs.Arc.{arc_value};
-ghost use Rattle.gathering.specs.Views.{IsComplete};
-ghost use Rattle.pipelines.specs.Outcomes.{outcome_of};
+ghost use Rattle.pipelines.specs.Outcomes.{IsTotal, outcome_of};
 
-use crate::crew::Crew;
-use crate::employ::start_workers;
-use crate::gate::Gate;
-use crate::gatherers::{gather_all, gather_until_covered, merge_all, start_gatherers};
 use crate::link::Link;
 use crate::outcome::{Linked, Outcome};
-use crate::owner::run_task;
-use gathering::{Gathering, Inputs, OutOfMemory, Piece, TotalRefused, Work};
-use std::alloc::{AllocError, Global};
+use crew_threads::{Crew, Gate, run_pipeline};
+use gathering::{Inputs, OutOfMemory, Work};
+use std::alloc::Global;
 use std::sync::{Arc, Wait};
 use std::thread;
 use std::thread::{Scope, Threads};
@@ -49,108 +44,54 @@ pub fn run_pair<A: Work, B: Work, L: Link<A, B>, G: Gate, R: Threads + Wait + Sy
                 (L.linked link.entry.now (A.total_of (arc_value inputs)))) }
         {
             let total = run_pipeline(scope, rt, alloc, inputs, crew, gate, 1)?;
-            let linked = link.link(alloc, total)?;
-            match linked {
-                Linked::Halt { stop } => Ok(Outcome::Stopped { stop }),
-                Linked::Next { inputs, kept } => {
-                    let inputs = Arc::new(alloc, inputs)?;
-                    let total = run_pipeline(scope, rt, alloc, inputs, crew, gate, 2)?;
-                    Ok(Outcome::Finished { total, kept })
-                }
-            }
+            go_on(scope, rt, alloc, total, link, crew, gate)
         },
     )
 }
 
-/// The total of all inputs of one pipeline.
-fn run_pipeline<'s, E, W: Work + 's, G: Gate, R: Threads + Wait + Sync>(
-    scope: &Scope<'s, E>,
-    rt: &'s R,
+/// Links a total, which some inputs of the first pipeline have, and runs the second pipeline alone, as
+/// `run_pair` does once the first is done.
+pub fn run_second<A: Work, B: Work, L: Link<A, B>, G: Gate, R: Threads + Wait + Sync>(
+    rt: &R,
     alloc: Global,
-    inputs: Arc<Inputs<W>, Global>,
+    total: A::Total,
+    link: &L,
     crew: Crew,
-    gate: &'s G,
-    pipeline: u8,
-) -> Result<W::Total, OutOfMemory>
-    ensures total { IfOk result (λ total. total ≡ W.total_of (arc_value inputs)) }
-    ensures admissible { OnOk result (W.IsAdmissible (arc_value inputs)) }
-{
-    let mut gathering = Gathering::new(alloc, Arc::try_clone(&inputs)?)?;
-    if inputs.count() > 0 {
-        gather(
-            scope,
-            rt,
-            alloc,
-            &inputs,
-            crew,
-            &mut gathering,
-            gate,
-            pipeline,
-        );
-    }
-    run_missing(alloc, &mut gathering, &inputs, pipeline, gate)?;
-    gate.done(pipeline);
-    match gathering.total() {
-        Ok(total) => Ok(total),
-        Err(TotalRefused::Memory { gathering: _ }) => Err(AllocError),
-        Err(TotalRefused::Missing { gathering: _ }) => unreachable!(),
-    }
-}
-
-/// Gathers what the crew's workers bring.
-fn gather<'s, E, W: Work + 's, G: Gate, R: Threads + Wait + Sync>(
-    scope: &Scope<'s, E>,
-    rt: &'s R,
-    alloc: Global,
-    inputs: &Arc<Inputs<W>, Global>,
-    crew: Crew,
-    gathering: &mut Gathering<W>,
-    gate: &'s G,
-    pipeline: u8,
-)
-    requires { 0 < length (arc_value inputs.now) }
-    ensures { gathering.new.inputs ≡ gathering.old.inputs }
-{
-    let Ok((to, from)) = crossbeam_channel::unbounded::<Piece<W>, Global>(alloc) else {
-        return;
-    };
-    let others = start_gatherers(scope, rt, alloc, inputs, crew.gatherers);
-    start_workers(
-        scope,
-        rt,
-        alloc,
-        inputs,
-        crew.workers,
-        to,
-        &others,
-        gate,
-        pipeline,
-    );
-    if others.is_empty() {
-        gather_until_covered(rt, gathering, &from, inputs.count());
-    } else {
-        gather_all(rt, gathering, &from);
-        merge_all(rt, gathering, others);
-    }
-}
-
-/// Runs the tasks that are not covered.
-pub(crate) fn run_missing<W: Work, G: Gate>(
-    alloc: Global,
-    gathering: &mut Gathering<W>,
-    inputs: &Arc<Inputs<W>, Global>,
-    pipeline: u8,
     gate: &G,
-) -> Result<(), OutOfMemory>
-    requires own { gathering.old.inputs ≡ arc_value inputs.now }
-    ensures inputs { gathering.new.inputs ≡ gathering.old.inputs }
-    ensures complete { OnOk result (IsComplete gathering.new) }
+) -> Result<Outcome<B::Total, L::Kept, L::Stop>, OutOfMemory>
+    requires total { IsTotal A.total_of A.IsAdmissible total }
+    ensures outcome { IfOk result (λ outcome. outcome ≡ outcome_of B.total_of (L.linked link.now total)) }
 {
-    for task in 0..inputs.count() {
-        if !gathering.covers(task) {
-            gate.before(pipeline, task, 2);
-            run_task(alloc, gathering, inputs, task)?;
+    thread::scope(
+        thread::scope_env(),
+        rt,
+        move |scope| -> Result<Outcome<B::Total, L::Kept, L::Stop>, OutOfMemory>
+            requires { IsTotal A.total_of A.IsAdmissible total }
+            ensures { IfOk result (λ outcome. outcome
+                ≡ outcome_of B.total_of (L.linked link.entry.now total)) }
+        { go_on(scope, rt, alloc, total, link, crew, gate) },
+    )
+}
+
+/// What comes once the first pipeline has its total: the second, or the link's stop.
+fn go_on<'s, E, A: Work, B: Work + 's, L: Link<A, B>, G: Gate, R: Threads + Wait + Sync>(
+    scope: &Scope<'s, E>,
+    rt: &'s R,
+    alloc: Global,
+    total: A::Total,
+    link: &L,
+    crew: Crew,
+    gate: &'s G,
+) -> Result<Outcome<B::Total, L::Kept, L::Stop>, OutOfMemory>
+    requires { IsTotal A.total_of A.IsAdmissible total }
+    ensures { IfOk result (λ outcome. outcome ≡ outcome_of B.total_of (L.linked link.now total)) }
+{
+    match link.link(alloc, total)? {
+        Linked::Halt { stop } => Ok(Outcome::Stopped { stop }),
+        Linked::Next { inputs, kept } => {
+            let inputs = Arc::new(alloc, inputs)?;
+            let total = run_pipeline(scope, rt, alloc, inputs, crew, gate, 2)?;
+            Ok(Outcome::Finished { total, kept })
         }
     }
-    Ok(())
 }

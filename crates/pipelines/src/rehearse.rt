@@ -51,9 +51,9 @@ pub fn rehearse_pair<A: Work, B: Work, L: Link<A, B>>(
     }
 }
 
-/// The total of all inputs, or the first task that has not arrived. The gatherers and their room are
-/// taken of this memory.
-pub(crate) fn rehearse_pipeline<W: Work, M: Allocator + Clone>(
+/// Rehearses one pipeline: the total of all inputs, or the first task that has not arrived. The
+/// gatherers and their room are taken of this memory. It is refused as `rehearse_pair` is.
+pub fn rehearse_pipeline<W: Work, M: Allocator + Clone>(
     alloc: Global,
     memory: M,
     inputs: Arc<Inputs<W>, Global>,

@@ -51,24 +51,83 @@ fn one_task_is_given_twice(rt: HostRuntime) -> Result<(), Fail> {
     Ok(())
 }
 
+/// A claim that gives a task, which is then marked.
+fn given_and_marked<A: Allocator, R: Abort>(
+    rt: &R,
+    dispatcher: &Dispatcher<A>,
+    seat: &mut Seat,
+    claim: u64,
+    task: u32,
+)
+    requires own { IsSeatOf dispatcher.now seat.old }
+    requires more { MayClaim (tasks_of dispatcher.now) seat.old }
+    ensures seat { IsSameSeat seat.old seat.new }
+    ensures more { MayClaim (tasks_of dispatcher.now) seat.new }
+{
+    given(rt, dispatcher, seat, claim, task);
+    dispatcher.mark(seat, task);
+}
+
+/// Three tasks are given, and two of them marked.
+fn first_giving<A: Allocator, R: Abort>(
+    rt: &R,
+    dispatcher: &Dispatcher<A>,
+    a: &mut Seat,
+    b: &mut Seat,
+)
+    requires own { IsSeatOf dispatcher.now a.old × IsSeatOf dispatcher.now b.old }
+    requires more { MayClaim (tasks_of dispatcher.now) a.old
+        × MayClaim (tasks_of dispatcher.now) b.old }
+    ensures seats { IsSameSeat a.old a.new × IsSameSeat b.old b.new }
+    ensures more { MayClaim (tasks_of dispatcher.now) a.new
+        × MayClaim (tasks_of dispatcher.now) b.new }
+{
+    given_and_marked(rt, dispatcher, a, 0, 0);
+    given(rt, dispatcher, b, 1, 1);
+    given_and_marked(rt, dispatcher, a, 2, 2);
+}
+
+/// They are given again.
+fn second_giving<A: Allocator, R: Abort>(
+    rt: &R,
+    dispatcher: &Dispatcher<A>,
+    a: &mut Seat,
+    b: &mut Seat,
+)
+    requires own { IsSeatOf dispatcher.now a.old × IsSeatOf dispatcher.now b.old }
+    requires more { MayClaim (tasks_of dispatcher.now) a.old
+        × MayClaim (tasks_of dispatcher.now) b.old }
+    ensures seats { IsSameSeat a.old a.new × IsSameSeat b.old b.new }
+    ensures more { MayClaim (tasks_of dispatcher.now) a.new
+        × MayClaim (tasks_of dispatcher.now) b.new }
+{
+    given(rt, dispatcher, b, 3, 0);
+    given(rt, dispatcher, a, 4, 1);
+    given(rt, dispatcher, b, 5, 2);
+}
+
+/// A claim that gives no task, after which task 0 is seen marked, and task 1 not.
+fn done<A: Allocator, R: Abort>(rt: &R, dispatcher: &Dispatcher<A>, seat: &mut Seat, claim: u64)
+    requires size { tasks_of dispatcher.now ≡ 3 }
+    requires own { IsSeatOf dispatcher.now seat.old }
+    requires more { MayClaim (tasks_of dispatcher.now) seat.old }
+    ensures { IsSameSeat seat.old seat.new }
+{
+    assert!(rt; dispatcher.claim(seat) == Claim::NoMore { claim });
+    assert!(rt; dispatcher.is_marked(seat, 0));
+    assert!(rt; !dispatcher.is_marked(seat, 1));
+}
+
 fn turns<A: Allocator, R: Abort>(rt: &R, dispatcher: &Dispatcher<A>, a: &mut Seat, b: &mut Seat)
     requires size { tasks_of dispatcher.now ≡ 3 }
     requires own { IsSeatOf dispatcher.now a.old × IsSeatOf dispatcher.now b.old }
     requires unused { IsUnused a.old × IsUnused b.old }
     ensures { IsSameSeat a.old a.new × IsSameSeat b.old b.new }
 {
-    given(rt, dispatcher, a, 0, 0);
-    dispatcher.mark(a, 0);
-    given(rt, dispatcher, b, 1, 1);
-    given(rt, dispatcher, a, 2, 2);
-    dispatcher.mark(a, 2);
-    given(rt, dispatcher, b, 3, 0);
-    given(rt, dispatcher, a, 4, 1);
-    given(rt, dispatcher, b, 5, 2);
-    assert!(rt; dispatcher.claim(a) == Claim::NoMore { claim: 6 });
-    assert!(rt; dispatcher.claim(b) == Claim::NoMore { claim: 7 });
-    assert!(rt; dispatcher.is_marked(a, 0) && dispatcher.is_marked(b, 0));
-    assert!(rt; !dispatcher.is_marked(a, 1) && !dispatcher.is_marked(b, 1));
+    first_giving(rt, dispatcher, a, b);
+    second_giving(rt, dispatcher, a, b);
+    done(rt, dispatcher, a, 6);
+    done(rt, dispatcher, b, 7);
 }
 
 fn by_turns<A: Allocator, R: Abort>(
@@ -328,12 +387,14 @@ fn on_threads<R: Threads + Wait + Sync>(
     )
 }
 
-#[test]
-fn four_threads_share_the_claims(rt: HostRuntime) -> Result<(), Fail> {
-    let alloc = rt.alloc();
+/// What four threads claim of the most tasks. The tally has each claim, and a mark of each task.
+fn claims_of_four<R: Threads + Wait + Sync + Abort>(
+    rt: &R,
+    alloc: Global,
+) -> Result<Vec<Claim>, Fail> {
     let (dispatcher, seats) = Dispatcher::new(alloc, 65_536, 4)?;
     let dispatcher = Arc::new(alloc, dispatcher)?;
-    let Some((seats, claims)) = on_threads(&rt, alloc, &dispatcher, seats) else {
+    let Some((seats, claims)) = on_threads(rt, alloc, &dispatcher, seats) else {
         panic!(rt; "no memory, or no thread")
     };
     let Some(dispatcher) = Arc::into_inner(dispatcher) else {
@@ -343,6 +404,11 @@ fn four_threads_share_the_claims(rt: HostRuntime) -> Result<(), Fail> {
         panic!(rt; "no memory")
     };
     assert!(rt; tally.claims == 131_076 && tally.marks.count() == 65_536);
+    Ok(claims)
+}
+
+/// The numbers of the claims, and the tasks that they give, both rising.
+fn numbers_and_tasks(alloc: Global, claims: &[Claim]) -> Result<(Vec<u64>, Vec<usize>), Fail> {
     let mut numbers = Vec::new(alloc);
     let mut tasks = Vec::new(alloc);
     for claim in claims.iter() {
@@ -356,6 +422,13 @@ fn four_threads_share_the_claims(rt: HostRuntime) -> Result<(), Fail> {
     }
     numbers.sort()?;
     tasks.sort()?;
+    Ok((numbers, tasks))
+}
+
+#[test]
+fn four_threads_share_the_claims(rt: HostRuntime) -> Result<(), Fail> {
+    let claims = claims_of_four(&rt, rt.alloc())?;
+    let (numbers, tasks) = numbers_and_tasks(rt.alloc(), &claims)?;
     assert!(rt; numbers.len() == 131_076 && tasks.len() == 131_072);
     for (at, number) in numbers.iter().enumerate() {
         assert!(rt; at as u64 == *number, "each number is claimed once");

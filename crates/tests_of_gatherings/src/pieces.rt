@@ -2,6 +2,7 @@
 
 use gathering::{Filed, Gathering, Inputs, OutOfMemory, Piece, TotalRefused};
 use std::alloc::{Allocator, Global};
+use std::process::Abort;
 use std::sync::Arc;
 use std::test::Fail;
 use tests_works::{NUMBERS, Sum, Watch, shared_inputs_of};
@@ -43,6 +44,23 @@ pub(crate) fn total_of<A: Allocator>(gathering: Gathering<Sum, A>) -> Result<u12
     }
 }
 
+/// A gathering of these tasks, alone and merged with itself, lacks this task first.
+fn lacks<R: Abort>(
+    rt: &R,
+    alloc: Global,
+    inputs: &Arc<Inputs<Sum>, Global>,
+    own: &[u32],
+    missing: u32,
+) -> Result<(), Fail> {
+    let alone = gathered(alloc, inputs, own)?;
+    assert!(rt; alone.first_missing() == Some(missing));
+    assert!(rt; alone.covers(0) && !alone.covers(missing) && !alone.covers(8));
+    assert!(rt; total_of(alone) == Err("missing"));
+    let same = merged(alloc, inputs, own, own)?;
+    assert!(rt; same.first_missing() == Some(missing));
+    Ok(())
+}
+
 #[test]
 fn gatherings_that_overlap_add_each_task_once(rt: HostRuntime) -> Result<(), Fail> {
     let alloc = rt.alloc();
@@ -54,13 +72,7 @@ fn gatherings_that_overlap_add_each_task_once(rt: HostRuntime) -> Result<(), Fai
     assert!(rt; watch.runs() == 6, "a task is run once");
 
     for (own, other, missing) in [(&first, &second, 5), (&second, &first, 4)] {
-        let alone = gathered(alloc, &inputs, own)?;
-        assert!(rt; alone.first_missing() == Some(missing));
-        assert!(rt; alone.covers(0) && !alone.covers(missing) && !alone.covers(8));
-        assert!(rt; total_of(alone) == Err("missing"));
-        let same = merged(alloc, &inputs, own, own)?;
-        assert!(rt; same.first_missing() == Some(missing));
-
+        lacks(&rt, alloc, &inputs, own, missing)?;
         let both = merged(alloc, &inputs, own, other)?;
         let runs = watch.runs();
         assert!(rt; total_of(both) == Ok(255));
@@ -69,21 +81,50 @@ fn gatherings_that_overlap_add_each_task_once(rt: HostRuntime) -> Result<(), Fai
     Ok(())
 }
 
+/// Merges a gathering of other tasks into one of these, whose pieces below the first gap are so many.
+fn adds_once<R: Abort>(
+    rt: &R,
+    alloc: Global,
+    own: &[u32],
+    other: &[u32],
+    additions: u64,
+) -> Result<(), Fail> {
+    let watch = Watch::shared(alloc)?;
+    let inputs = shared_inputs_of(alloc, &watch, &NUMBERS)?;
+    let mut both = gathered(alloc, &inputs, own)?;
+    assert!(rt; watch.additions() == additions);
+    assert!(rt; both.merge(gathered(alloc, &inputs, other)?).is_ok());
+    assert!(rt; watch.additions() == 12, "the longer prefix stays");
+    assert!(rt; total_of(both) == Ok(255));
+    assert!(rt; watch.additions() == 12, "total added again");
+    Ok(())
+}
+
 #[test]
 fn pieces_below_the_first_gap_are_added_once(rt: HostRuntime) -> Result<(), Fail> {
-    let alloc = rt.alloc();
     let first = [0, 1, 2, 3, 4, 7];
     let second = [0, 1, 2, 3, 5, 6];
-    for (own, other, additions) in [(&first, &second, 5), (&second, &first, 4)] {
-        let watch = Watch::shared(alloc)?;
-        let inputs = shared_inputs_of(alloc, &watch, &NUMBERS)?;
-        let mut both = gathered(alloc, &inputs, own)?;
-        assert!(rt; watch.additions() == additions);
-        assert!(rt; both.merge(gathered(alloc, &inputs, other)?).is_ok());
-        assert!(rt; watch.additions() == 12, "the longer prefix stays");
-        assert!(rt; total_of(both) == Ok(255));
-        assert!(rt; watch.additions() == 12, "total added again");
-    }
+    adds_once(&rt, rt.alloc(), &first, &second, 5)?;
+    adds_once(&rt, rt.alloc(), &second, &first, 4)
+}
+
+/// Three gatherings have the total, merged one after the other, and the last two first.
+fn have_one_total<R: Abort>(
+    rt: &R,
+    alloc: Global,
+    inputs: &Arc<Inputs<Sum>, Global>,
+    first: &[u32],
+    second: &[u32],
+    third: &[u32],
+) -> Result<(), Fail> {
+    let mut by_one = merged(alloc, inputs, first, second)?;
+    assert!(rt; by_one.first_missing().is_some());
+    assert!(rt; by_one.merge(gathered(alloc, inputs, third)?).is_ok());
+    assert!(rt; total_of(by_one) == Ok(255));
+
+    let mut by_two = gathered(alloc, inputs, first)?;
+    assert!(rt; by_two.merge(merged(alloc, inputs, second, third)?).is_ok());
+    assert!(rt; total_of(by_two) == Ok(255));
     Ok(())
 }
 
@@ -102,16 +143,36 @@ fn any_order_and_grouping_gives_one_total(rt: HostRuntime) -> Result<(), Fail> {
         (&c, &a, &b),
         (&c, &b, &a),
     ] {
-        let mut by_one = merged(alloc, &inputs, first, second)?;
-        assert!(rt; by_one.first_missing().is_some());
-        assert!(rt; by_one.merge(gathered(alloc, &inputs, third)?).is_ok());
-        assert!(rt; total_of(by_one) == Ok(255));
-
-        let mut by_two = gathered(alloc, &inputs, first)?;
-        assert!(rt; by_two.merge(merged(alloc, &inputs, second, third)?).is_ok());
-        assert!(rt; total_of(by_two) == Ok(255));
+        have_one_total(&rt, alloc, &inputs, first, second, third)?;
     }
     Ok(())
+}
+
+/// How a piece of this task with the input of this number is filed. One that is refused comes back.
+fn filed<R: Abort>(
+    rt: &R,
+    gathering: &mut Gathering<Sum>,
+    piece: Piece<Sum>,
+    task: u32,
+    number: u64,
+) -> &'static str {
+    match gathering.file(piece) {
+        Ok(Filed::New) => "new",
+        Ok(Filed::Again) => "again",
+        Err(stranger) => {
+            assert!(rt; stranger.piece.number() == task);
+            assert!(rt; stranger.piece.output().number == number);
+            "refused"
+        }
+    }
+}
+
+/// What a gathering lacks first that comes back where it is merged.
+fn missing_when_refused(own: &mut Gathering<Sum>, other: Gathering<Sum>) -> Option<Option<u32>> {
+    match own.merge(other) {
+        Ok(()) => None,
+        Err(refused) => Some(refused.other.first_missing()),
+    }
 }
 
 #[test]
@@ -129,24 +190,14 @@ fn other_work_is_handed_back(rt: HostRuntime) -> Result<(), Fail> {
         (8, inputs.input(3), "refused"),
     ] {
         let piece = Piece::make(alloc, number, Arc::try_clone(input)?)?;
-        let answer = match gathering.file(piece) {
-            Ok(Filed::New) => "new",
-            Ok(Filed::Again) => "again",
-            Err(stranger) => {
-                assert!(rt; stranger.piece.number() == number);
-                assert!(rt; stranger.piece.output().number == input.number);
-                "refused"
-            }
-        };
+        let answer = filed(&rt, &mut gathering, piece, number, input.number);
         assert!(rt; answer == wanted, "piece {number}");
     }
     // The eight inputs begin with those of the second.
     let shorter = shared_inputs_of(alloc, &watch, &[1, 2])?;
     for (list, task, missing) in [(&others, 0, 1), (&shorter, 1, 0)] {
-        match gathering.merge(gathered(alloc, list, &[task])?) {
-            Ok(()) => assert!(rt; false),
-            Err(refused) => assert!(rt; refused.other.first_missing() == Some(missing)),
-        }
+        let other = gathered(alloc, list, &[task])?;
+        assert!(rt; missing_when_refused(&mut gathering, other) == Some(Some(missing)));
     }
     assert!(rt; gathering.first_missing() == Some(1));
     Ok(())

@@ -1,13 +1,20 @@
-//! Several gatherers on threads: what each gathers, and that nothing is lost where they are merged.
+//! Gatherers, on the test's thread and on threads of their own: what each gathers, when it ends, and that
+//! nothing is lost where they are merged or where no worker is left.
 ghost use Rattle.std.specs.Prelude.{◌≡◌, ◌<◌, ◌≤◌, length};
 ghost use Rattle.lists.specs.declared.limits.TheConstants.{MOST_TASKS};
 
 use crate::threads::outcome;
-use pipelines::{Crew, Gate, Outcome};
-use std::sync::Arc;
+use crew_threads::{
+    channel_of, gather_all, gather_until_covered, merge_all, run_missing, start_gatherers,
+};
+use pipelines::{Crew, Gate, Gathering, OutOfMemory, Outcome, Piece};
+use std::alloc::Global;
+use std::process::Abort;
 use std::sync::atomic::{AtomicBool, AtomicU64, Ordering};
+use std::sync::{Arc, Wait};
 use std::test::Fail;
-use tests_works::{NUMBERS, Watch, hold};
+use std::thread;
+use tests_works::{NUMBERS, Number, Sum, Watch, hold, shared_inputs_of};
 
 /// A run: its pipeline, its task and its round.
 type Run = (u8, u32, u8);
@@ -145,5 +152,93 @@ fn refused_runs_are_made_again_by_the_caller(rt: HostRuntime) -> Result<(), Fail
         }
         assert!(rt; gate.rounds() == rounds);
     }
+    Ok(())
+}
+
+/// The piece of a task, run on this number.
+fn piece_of(
+    alloc: Global,
+    watch: &Arc<Watch, Global>,
+    task: u32,
+    number: u64,
+) -> Result<Piece<Sum>, OutOfMemory> {
+    let watch = Arc::try_clone(watch)?;
+    Piece::make(alloc, task, Arc::new(alloc, Number { number, watch })?)
+}
+
+/// What a gathering of two tasks, of 0 and 1, lacks after a channel brought these pieces.
+fn first_missing_of(
+    rt: &(impl Wait + Abort),
+    alloc: Global,
+    pieces: [(u32, u64); 3],
+) -> Result<Option<u32>, Fail> {
+    let watch = Watch::shared(alloc)?;
+    let inputs = shared_inputs_of(alloc, &watch, &[0, 1])?;
+    let mut gathering = Gathering::new(alloc, inputs)?;
+    let (to, from) = crossbeam_channel::unbounded::<Piece<Sum>, Global>(alloc)?;
+    for (task, number) in pieces {
+        assert!(rt; to.send(rt, piece_of(alloc, &watch, task, number)?).is_ok());
+    }
+    drop(to);
+    gather_until_covered(rt, &mut gathering, &from, 2);
+    Ok(gathering.first_missing())
+}
+
+#[test]
+fn gathering_ends_with_the_last_task(rt: HostRuntime) -> Result<(), Fail> {
+    // The pieces by their tasks and inputs: one that is sent again, one of another task's input, and
+    // one of a task that there isn't.
+    for pieces in [
+        [(0, 0), (0, 0), (1, 1)],
+        [(0, 1), (0, 0), (1, 1)],
+        [(2, 1), (1, 1), (0, 0)],
+    ] {
+        assert!(rt; first_missing_of(&rt, rt.alloc(), pieces)?.is_none());
+    }
+    Ok(())
+}
+
+/// Whether the tasks that a gathering covers are these, of six.
+fn covers_these(gathering: &Gathering<Sum>, tasks: [bool; 6]) -> bool {
+    (0..6).map(|task| gathering.covers(task)).eq(tasks)
+}
+
+#[test]
+fn each_worker_has_its_gatherer(rt: HostRuntime) -> Result<(), Fail> {
+    let alloc = rt.alloc();
+    let watch = Watch::shared(alloc)?;
+    let inputs = shared_inputs_of(alloc, &watch, &[0, 1, 2, 3, 4, 5])?;
+    let mut gathering = Gathering::new(alloc, Arc::try_clone(&inputs)?)?;
+    let (own, from) = crossbeam_channel::unbounded::<Piece<Sum>, Global>(alloc)?;
+    thread::scope(thread::scope_env(), &rt, |scope| -> Result<(), Fail> {
+        let others = start_gatherers(scope, &rt, alloc, &inputs, 3);
+        // Of six workers each brings the task of its number.
+        for task in 0..6 {
+            let piece = piece_of(alloc, &watch, task, u64::from(task))?;
+            let to = channel_of(task as usize, &own, &others);
+            assert!(rt; to.send(&rt, piece).is_ok());
+        }
+        drop(own);
+        gather_all(&rt, &mut gathering, &from);
+        assert!(rt; covers_these(&gathering, [true, false, false, true, false, false]));
+        merge_all(&rt, &mut gathering, others);
+        assert!(rt; covers_these(&gathering, [true; 6]));
+        Ok(())
+    })
+}
+
+/// As if no thread, no seat or no dispatcher could be had.
+#[test]
+fn no_worker_is_left(rt: HostRuntime) -> Result<(), Fail> {
+    let alloc = rt.alloc();
+    let inputs = shared_inputs_of(alloc, &Watch::shared(alloc)?, &NUMBERS)?;
+    let gate = Order::new(&[]);
+    let mut gathering = Gathering::new(alloc, Arc::try_clone(&inputs)?)?;
+    let (to, from) = crossbeam_channel::unbounded::<Piece<Sum>, Global>(alloc)?;
+    drop(to);
+    gather_until_covered(&rt, &mut gathering, &from, 8);
+    assert!(rt; gathering.first_missing() == Some(0));
+    run_missing(alloc, &mut gathering, &inputs, 1, &gate)?;
+    assert!(rt; gate.rounds() == [0, 0, 8]);
     Ok(())
 }

@@ -2,7 +2,11 @@
 ghost use Rattle.std.specs.Prelude.{◌≡◌};
 
 use crate::link::OneAndTwo;
-use pipelines::{Crew, Event, FreeGate, OutOfMemory, Outcome, Rehearsed, rehearse_pair, run_pair};
+use linked_list_allocator::LocalHeap;
+use pipelines::{
+    Crew, Event, FreeGate, OutOfMemory, Outcome, Rehearsed, rehearse_pair, rehearse_pipeline,
+    run_pair,
+};
 use std::alloc::Global;
 use std::sync::{Arc, Wait};
 use std::test::Fail;
@@ -129,6 +133,41 @@ fn all_additions_can_be_refused(rt: HostRuntime) -> Result<(), Fail> {
             assert!(rt; sums(&rt, alloc, &watch, rehearses) == wanted);
         }
     }
+    Ok(())
+}
+
+/// Whether two tasks are rehearsed with their two gatherers in this heap.
+fn rehearsed_in(alloc: Global, heap: &LocalHeap) -> Result<bool, Fail> {
+    let inputs = shared_inputs_of(alloc, &Watch::shared(alloc)?, &[0, 1])?;
+    let events = [
+        Event::Arrive {
+            gatherer: 1,
+            task: 1,
+        },
+        Event::Merge { into: 0, other: 1 },
+        Event::Arrive {
+            gatherer: 1,
+            task: 0,
+        },
+    ];
+    match rehearse_pipeline(alloc, heap, inputs, 2, &events) {
+        Ok(Ok(_)) => Ok(true),
+        Ok(Err(_)) => Err(Fail::new("a task is missing")),
+        Err(_) => Ok(false),
+    }
+}
+
+#[test]
+fn each_allocation_of_gatherers_can_be_refused(rt: HostRuntime) -> Result<(), Fail> {
+    let alloc = rt.alloc();
+    let mut enough = 0;
+    for units in 1..200 {
+        if rehearsed_in(alloc, &LocalHeap::new(alloc, 16 * units)?)? {
+            enough = units;
+            break;
+        }
+    }
+    assert!(rt; enough > 1);
     Ok(())
 }
 

@@ -1,6 +1,7 @@
 //! Workers on the thread of the test.
 ghost use Rattle.std.specs.Prelude.{◌≡◌};
 
+use crew_threads::ChannelPort;
 use dispatcher::Dispatcher;
 use linked_list_allocator::LocalHeap;
 use pipelines::{FreeGate, KeepingPort, Piece, Port, work};
@@ -72,5 +73,14 @@ fn a_port_without_memory_refuses_both_givings(rt: HostRuntime) -> Result<(), Fai
         }
     }
     assert!(rt; took_all > 1);
+    Ok(())
+}
+
+#[test]
+fn nobody_receives(rt: HostRuntime) -> Result<(), Fail> {
+    let (to, from) = crossbeam_channel::unbounded::<Piece<Sum>, Global>(rt.alloc())?;
+    drop(from);
+    let mut port = ChannelPort::new(&rt, to);
+    assert!(rt; refused_by(rt.alloc(), &mut port)? == 16);
     Ok(())
 }

@@ -1,0 +1,3 @@
+-- Lemmas that several proofs share.
+pub mod Covered
+pub mod Workers

@@ -1,0 +1,2 @@
+-- What the contracts speak of: a worker's run.
+pub mod Workers

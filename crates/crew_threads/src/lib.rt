@@ -1,0 +1,26 @@
+//! One pipeline of work on threads: `run_pipeline` gives the total of all inputs.
+//!
+//! Workers claim tasks of a dispatcher, run them and send the pieces to gatherers, of which the
+//! caller's thread is the first. The caller runs itself what no worker brought. Neither the crew nor the
+//! schedule of its threads changes the total.
+#![tactic(auto)]
+
+mod crew;
+mod employ;
+mod gate;
+mod gatherers;
+mod pipeline;
+mod port;
+mod runs;
+mod worker;
+
+pub use crew::Crew;
+pub use gate::{FreeGate, Gate};
+pub use gatherers::{
+    Gatherer, channel_of, gather_all, gather_until_covered, merge_all, start_gatherers,
+};
+pub use gathering::{Gathering, Inputs, OutOfMemory, Piece, Work};
+pub use pipeline::run_pipeline;
+pub use port::{ChannelPort, KeepingPort, Port};
+pub use runs::{run_missing, run_task};
+pub use worker::work;

@@ -1,0 +1,98 @@
+//! Where a worker's pieces go.
+ghost use Rattle.std.specs.Prelude.{◌≡◌, ◌++◌, ◌∷◌, [], List, MatchResult, IfErr};
+
+use crossbeam_channel::Sender;
+use std::alloc::{Allocator, Global};
+use std::marker::Model;
+use std::sync::Wait;
+
+/// Takes messages from one thread, as the pieces that a worker makes.
+pub trait Port<M> {
+    /// What it has taken, in order, if it tells.
+    ghost taken: { Self → List M };
+
+    /// Whether it tells what it has taken.
+    ghost Tells: { Type 0 };
+
+    /// Takes the message, or hands it back.
+    fn send(&mut self, message: M) -> Result<(), M>
+        ensures handed_back { IfErr result (λ refused. refused ≡ message) }
+        ensures taken { Tells → MatchResult result
+            (λ _. taken self.new ≡ taken self.old ++ message ∷ [])
+            (λ _. taken self.new ≡ taken self.old) };
+}
+
+/// Keeps what it is sent, in order, and tells it. It refuses a message if there is no memory for it.
+///
+/// Contracts see the messages.
+#[derive(Drop)]
+pub struct KeepingPort<M, A: Allocator = Global> {
+    messages: Vec<M, A>,
+}
+
+impl<M, A: Allocator> Model for KeepingPort<M, A> {
+    ghost use Rattle.std.specs.Prelude.{List};
+
+    ghost Value = { List M };
+
+    ghost view = { λ a. a.messages.items };
+}
+
+impl<M, A: Allocator> KeepingPort<M, A> {
+    /// It has taken nothing.
+    pub fn new(alloc: A) -> Self
+        ensures { result ≡ [] }
+    {
+        KeepingPort {
+            messages: Vec::new(alloc),
+        }
+    }
+
+    /// What it has taken, the earliest first.
+    pub fn items(&self) -> &[M]
+        ensures { result.now ≡ self.now }
+    {
+        self.messages.as_slice()
+    }
+}
+
+impl<M, A: Allocator> Port<M> for KeepingPort<M, A> {
+    ghost taken = { λ messages. messages };
+
+    ghost Tells = { Unit {0} };
+
+    fn send(&mut self, message: M) -> Result<(), M> {
+        match self.messages.push(message) {
+            Ok(()) => Ok(()),
+            Err(refused) => Err(refused.value),
+        }
+    }
+}
+
+/// Sends into a channel. It refuses a message if the receiver is gone or there is no memory, and
+/// tells nothing.
+#[derive(Drop)]
+pub struct ChannelPort<'r, M, R: Wait> {
+    rt: &'r R,
+    to: Sender<M>,
+}
+
+impl<'r, M, R: Wait> ChannelPort<'r, M, R> {
+    /// Sends into this channel, and waits by this handle while another thread holds the channel's lock.
+    pub fn new(rt: &'r R, to: Sender<M>) -> Self {
+        ChannelPort { rt, to }
+    }
+}
+
+impl<M: Drop, R: Wait> Port<M> for ChannelPort<'_, M, R> {
+    ghost taken = { λ _. [] };
+
+    ghost Tells = { ⊥ };
+
+    fn send(&mut self, message: M) -> Result<(), M> {
+        match self.to.send(self.rt, message) {
+            Ok(()) => Ok(()),
+            Err(refused) => Err(refused.into_inner()),
+        }
+    }
+}
