@@ -18,7 +18,7 @@ AreMorsels-none = record { numbers = refl; runs = All-nil _; bytes = All-nil _; 
 pub runs_of-append : (xs : List MorselView) (x : MorselView) → runs_of (xs ++ x ∷ []) ≡ runs_of xs ++ x.bytes ∷ []
 runs_of-append xs x = map-append (λ morsel. morsel.bytes) xs (x ∷ [])
 
-numbered-last : (number start : ℕ) (runs : List (List ℕ)) (run : List ℕ) →
+pub numbered-last : (number start : ℕ) (runs : List (List ℕ)) (run : List ℕ) →
     numbered number start (runs ++ run ∷ []) ≡ numbered number start runs ++ record
     { number = number + length runs; start = start + length (concat runs); bytes = run } ∷ []
 numbered-last number start [] run =

@@ -97,7 +97,7 @@ two_bytes : (high low n : ℕ) → high < 256 → low < 256 → high * 256 + (lo
 two_bytes high low n p q e = (omega arith, omega arith, omega arith)
 
 -- where the cursor finds a body, a frame stands
-frame_found : (bytes : List ℕ) (size : ℕ) → AreBytes bytes → HasFirst bytes size →
+pub frame_found : (bytes : List ℕ) (size : ℕ) → AreBytes bytes → HasFirst bytes size →
     (bytes ≡ frame_of (take size (drop 2 bytes)) ++ drop size (drop 2 bytes)) × IsShort (take size (drop 2 bytes))
 frame_found [] size b h = absurd (omega (arith, h.prefix))
 frame_found (high ∷ []) size b h = absurd (omega (arith, h.prefix))

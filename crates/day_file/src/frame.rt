@@ -10,7 +10,7 @@ use std::alloc::Allocator;
 use std::marker::Model;
 
 /// The bytes of the length that stands before each body.
-pub(crate) const LENGTH_BYTES: usize = 2;
+pub const LENGTH_BYTES: usize = 2;
 
 /// A frame of a day file. Its place is the number of bytes before it, from the file's start.
 #[derive(Clone, Copy, Debug, PartialEq, Eq)]
@@ -41,8 +41,8 @@ impl<'a> Model for Frames<'a> {
 }
 
 impl<'a> Frames<'a> {
-    // The frames of these bytes, of which the first stands at this place.
-    pub(crate) fn of(place: u64, bytes: &'a [u8]) -> Self
+    /// The frames of a part of a file, of which the first stands at this place.
+    pub fn of(place: u64, bytes: &'a [u8]) -> Self
         requires { place + length bytes.now ≤ LONGEST_FILE }
         ensures whole { (all : List PlacedBody) → StandsFrom place all bytes.now →
             result.frames ≡ all }

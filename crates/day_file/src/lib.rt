@@ -21,7 +21,7 @@ pub use counted::Counted;
 pub use cutter::Cutter;
 pub use cutting::{CutFault, cut, cut_at};
 pub use day::{DayFile, frames};
-pub use frame::{Frame, Frames, append_frame};
+pub use frame::{Frame, Frames, LENGTH_BYTES, append_frame};
 pub use law::{one_cut, one_cut_at, one_reading};
 pub use lists::OutOfMemory;
 pub use lists::limits::{LONGEST_FILE, MOST_MORSELS};

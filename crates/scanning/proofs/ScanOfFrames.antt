@@ -17,15 +17,14 @@ use Rattle.answers.proofs.RowsOfFrames.{rows_more}
 use Rattle.answers.specs.DayRows.{DayRows, counted_rows_at, joined, no_rows, rows_of}
 use Rattle.answers.specs.Messages.{counted, messages_of}
 use Rattle.morsel_rows.specs.Partitions.{MorselRowsView, in_partitions}
-use Rattle.scanning.specs.Scans.{wrong_at, wrong_in}
+use Rattle.scanning.specs.Scans.{ScanView, TakesIn, scan_of, wrong_at, wrong_in}
 use Rattle.scanning.specs.declared.wrong.WrongLength.{WrongLength}
 
 -- what a loop over frames has found in those before the ones that are left
-pub record IsScanning (n : ℕ) (as_of : Option ℕ) (all left : List PlacedBody) (rows : MorselRowsView) (wrong : Option WrongLength) : Type 0 where
+pub record IsScanning (n : ℕ) (as_of : Option ℕ) (all left : List PlacedBody) (scan : ScanView) : Type 0 where
   pub front : List PlacedBody
   pub split : all ≡ front ++ left
-  pub rows_are : rows ≡ in_partitions n (rows_of (counted as_of (messages_of front)))
-  pub wrong_is : wrong ≡ wrong_in front
+  pub is : scan ≡ scan_of n as_of front
 
 -- one message more, as it is added to rows in partitions
 abbrev pub AddsCounted : Option ℕ → ℕ → Message → MorselRowsView → MorselRowsView → Type 0
@@ -33,30 +32,22 @@ AddsCounted as_of place message old new =
     (n : ℕ) (rows : DayRows) → 0 < n → n ≤ MOST_PARTITIONS → old ≡ in_partitions n rows
     → new ≡ in_partitions n (joined rows (counted_rows_at as_of place message))
 
-split_more : (all front left : List PlacedBody) (frame : PlacedBody) (rest : List PlacedBody) → all ≡ front ++ left → left ≡ frame ∷ rest
-    → all ≡ (front ++ frame ∷ []) ++ rest
-split_more all front left frame rest split step = split ∙ ap (λ l. front ++ l) step ∙ sym (append_assoc front (frame ∷ []) rest)
-
 -- what is told of a frame, where its length is wrong or right
-abbrev told_by_test : PlacedBody → Bool → Option WrongLength
+abbrev pub told_by_test : PlacedBody → Bool → Option WrongLength
 told_by_test frame wrong = cond wrong (Some (record { place = frame.place; fault = length_fault_of frame.body })) None
 
 -- a frame of a right length
-pub reads : (n : ℕ) (as_of : Option ℕ) (all left : List PlacedBody) (frame : PlacedBody) (rest : List PlacedBody) (old new : MorselRowsView)
-    (wrong : Option WrongLength) → 0 < n → n ≤ MOST_PARTITIONS → IsScanning n as_of all left old wrong → left ≡ frame ∷ rest
-    → has_wrong_length frame.body ≡ false → AddsCounted as_of frame.place (message_of frame.body) old new → IsScanning n as_of all rest new wrong
-reads n as_of all left frame rest old new wrong some most so_far step right adds = record {
-  front = so_far.front ++ frame ∷ [];
-  split = split_more all so_far.front left frame rest so_far.split step;
-  rows_are = adds n (rows_of (counted as_of (messages_of so_far.front))) some most so_far.rows_are
-      ∙ ap (in_partitions n) (sym (rows_more as_of so_far.front frame));
-  wrong_is = so_far.wrong_is ∙ sym none;
-}
-  where
-    none : wrong_in (so_far.front ++ frame ∷ []) ≡ wrong_in so_far.front
-    none = ap (least_by (λ (w : WrongLength). w.place))
-        (filter_map-append wrong_at so_far.front (frame ∷ []) ∙ ap (λ b. filter_map wrong_at so_far.front ++ cons_option (told_by_test frame b) []) right
-        ∙ append-nil (filter_map wrong_at so_far.front))
+pub reads : (as_of : Option ℕ) (frame : PlacedBody) (old new : MorselRowsView) (wrong : Option WrongLength) → has_wrong_length frame.body ≡ false
+    → AddsCounted as_of frame.place (message_of frame.body) old new
+    → TakesIn as_of (frame ∷ []) (record { rows = old; wrong = wrong }) (record { rows = new; wrong = wrong })
+reads as_of frame old new wrong right adds n front some most so_far =
+    let rows = adds n (rows_of (counted as_of (messages_of front))) some most (ap (λ (scan : ScanView). scan.rows) so_far)
+    ∙ ap (in_partitions n) (sym (rows_more as_of front frame)) in
+    let none : wrong_in (front ++ frame ∷ []) ≡ wrong_in front = ap (least_by (λ (w : WrongLength). w.place))
+    (filter_map-append wrong_at front (frame ∷ []) ∙ ap (λ b. filter_map wrong_at front ++ cons_option (told_by_test frame b) []) right
+    ∙ append-nil (filter_map wrong_at front)) in
+    let same = ap (λ (scan : ScanView). scan.wrong) so_far ∙ sym none in
+    λ i. record { rows = rows i; wrong = same i }
 
 -- what is skipped gives no rows
 none_of_skipped : (as_of : Option ℕ) (place : ℕ) → counted_rows_at as_of place Skipped ≡ no_rows
@@ -64,36 +55,37 @@ none_of_skipped None place = refl
 none_of_skipped (Some moment) place = refl
 
 -- a frame of a wrong length
-pub passes : (n : ℕ) (as_of : Option ℕ) (all left : List PlacedBody) (frame : PlacedBody) (rest : List PlacedBody) (rows : MorselRowsView)
-    (wrong next : Option WrongLength) (told : WrongLength) → IsScanning n as_of all left rows wrong → left ≡ frame ∷ rest → has_wrong_length frame.body ≡ true
-    → told ≡ record { place = frame.place; fault = length_fault_of frame.body } → next ≡ least_by (λ w. w.place) (option_to_list wrong ++ told ∷ [])
-    → IsScanning n as_of all rest rows next
-passes n as_of all left frame rest rows wrong next told so_far step is told_is later = record {
+pub passes : (as_of : Option ℕ) (frame : PlacedBody) (rows : MorselRowsView) (wrong next : Option WrongLength) (told : WrongLength)
+    → has_wrong_length frame.body ≡ true → told ≡ record { place = frame.place; fault = length_fault_of frame.body }
+    → next ≡ least_by (λ w. w.place) (option_to_list wrong ++ told ∷ [])
+    → TakesIn as_of (frame ∷ []) (record { rows = rows; wrong = wrong }) (record { rows = rows; wrong = next })
+passes as_of frame rows wrong next told is told_is later n front some most so_far =
+    let so_many = rows_of (counted as_of (messages_of front)) in
+    let no_more : rows_of (counted as_of (messages_of (front ++ frame ∷ []))) ≡ so_many =
+    rows_more as_of front frame
+    ∙ ap (λ message. joined so_many (counted_rows_at as_of frame.place message)) (skipped_of_wrong_length frame.body is)
+    ∙ ap (joined so_many) (none_of_skipped as_of frame.place) ∙ joined_none so_many in
+    let tells : Some told ≡ wrong_at frame = ap Some told_is ∙ sym (ap (told_by_test frame) is) in
+    let same = ap (λ (scan : ScanView). scan.rows) so_far ∙ ap (in_partitions n) (sym no_more) in
+    let least = later
+    ∙ ap₂ (λ one other. least_by (λ (w : WrongLength). w.place) (option_to_list one ++ option_to_list other))
+    (ap (λ (scan : ScanView). scan.wrong) so_far) tells
+    ∙ sym (least_more (λ (w : WrongLength). w.place) wrong_at front frame) in
+    λ i. record { rows = same i; wrong = least i }
+
+-- a turn of the loop
+pub scan_goes_on : (n : ℕ) (as_of : Option ℕ) (all left : List PlacedBody) (frame : PlacedBody) (rest : List PlacedBody) (old new : ScanView)
+    → 0 < n → n ≤ MOST_PARTITIONS → IsScanning n as_of all left old → left ≡ frame ∷ rest → TakesIn as_of (frame ∷ []) old new
+    → IsScanning n as_of all rest new
+scan_goes_on n as_of all left frame rest old new some most so_far step takes = record {
   front = so_far.front ++ frame ∷ [];
-  split = split_more all so_far.front left frame rest so_far.split step;
-  rows_are = so_far.rows_are ∙ ap (in_partitions n) (sym no_more);
-  wrong_is = later
-      ∙ ap₂ (λ one other. least_by (λ (w : WrongLength). w.place) (option_to_list one ++ option_to_list other)) so_far.wrong_is tells
-      ∙ sym (least_more (λ (w : WrongLength). w.place) wrong_at so_far.front frame);
+  split = so_far.split ∙ ap (λ l. so_far.front ++ l) step ∙ sym (append_assoc so_far.front (frame ∷ []) rest);
+  is = takes n so_far.front some most so_far.is;
 }
-  where
-    so_many : DayRows
-    so_many = rows_of (counted as_of (messages_of so_far.front))
-
-    no_more : rows_of (counted as_of (messages_of (so_far.front ++ frame ∷ []))) ≡ so_many
-    no_more = rows_more as_of so_far.front frame
-        ∙ ap (λ message. joined so_many (counted_rows_at as_of frame.place message)) (skipped_of_wrong_length frame.body is)
-        ∙ ap (joined so_many) (none_of_skipped as_of frame.place) ∙ joined_none so_many
-
-    tells : Some told ≡ wrong_at frame
-    tells = ap Some told_is ∙ sym (ap (told_by_test frame) is)
 
 -- where no frame is left, the scan is of all
-pub scan_ends : (n : ℕ) (as_of : Option ℕ) (all left : List PlacedBody) (rows : MorselRowsView) (wrong : Option WrongLength)
-    → IsScanning n as_of all left rows wrong → left ≡ []
-    → (rows ≡ in_partitions n (rows_of (counted as_of (messages_of all)))) × (wrong ≡ wrong_in all)
-scan_ends n as_of all left rows wrong so_far none =
-    let front : so_far.front ≡ all = sym (so_far.split ∙ ap (λ l. so_far.front ++ l) none ∙ append-nil so_far.front) in (
-      so_far.rows_are ∙ ap (λ frames. in_partitions n (rows_of (counted as_of (messages_of frames)))) front,
-      so_far.wrong_is ∙ ap wrong_in front,
-    )
+pub scan_ends : (n : ℕ) (as_of : Option ℕ) (all left : List PlacedBody) (scan : ScanView) → IsScanning n as_of all left scan → left ≡ []
+    → scan ≡ scan_of n as_of all
+scan_ends n as_of all left scan so_far none =
+    let front : so_far.front ≡ all = sym (so_far.split ∙ ap (λ l. so_far.front ++ l) none ∙ append-nil so_far.front) in
+    so_far.is ∙ ap (scan_of n as_of) front

@@ -5,7 +5,7 @@ use Rattle.std.specs.Prelude.{option_to_list, if◌then◌else◌}
 use Rattle.std.specs.List.{concat}
 use Rattle.std.specs.Option.{option_eq}
 use Rattle.lists.specs.Least.{least_by}
-use Rattle.lists.specs.declared.limits.TheConstants.{LONGEST_FILE}
+use Rattle.lists.specs.declared.limits.TheConstants.{LONGEST_FILE, MOST_PARTITIONS}
 use Rattle.itch_messages.specs.Body.{has_wrong_length, length_fault_of}
 use Rattle.day_file.specs.Cuts.{IsRun, MorselView, is_same_morsel}
 use Rattle.day_file.specs.Frames.{PlacedBody}
@@ -50,6 +50,12 @@ scan_of n as_of frames = record {
   rows = in_partitions n (rows_of (counted as_of (messages_of frames)));
   wrong = wrong_in frames;
 }
+
+-- where the old scan is of some frames, the new is of those and of these behind them
+abbrev pub TakesIn : Option ℕ → List PlacedBody → ScanView → ScanView → Type 0
+TakesIn as_of more old new =
+    (n : ℕ) (frames : List PlacedBody) → 0 < n → n ≤ MOST_PARTITIONS →
+    old ≡ scan_of n as_of frames → new ≡ scan_of n as_of (frames ++ more)
 
 -- the value of an input
 abbrev pub scanned : ScanInputView → ScanView

@@ -4,6 +4,7 @@
 
 mod input;
 mod inputs;
+mod open_scan;
 mod output;
 mod total;
 mod work;
@@ -12,6 +13,7 @@ mod wrong;
 pub use input::ScanInput;
 pub use inputs::scan_inputs;
 pub use lists::OutOfMemory;
+pub use open_scan::OpenScan;
 pub use output::Scanned;
 pub use total::ScanTotal;
 pub use work::ScanWork;

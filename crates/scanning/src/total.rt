@@ -31,7 +31,7 @@ impl Model for ScanTotal {
 
 impl ScanTotal {
     /// The total of no morsels.
-    pub(crate) fn empty(alloc: Global) -> Self
+    pub fn empty(alloc: Global) -> Self
         ensures { result ≡ no_scans }
     {
         ScanTotal {
@@ -41,7 +41,7 @@ impl ScanTotal {
     }
 
     /// Takes in what the scan of one morsel more gives. Without memory it stays as it was.
-    pub(crate) fn add(&mut self, scanned: &Scanned) -> Result<(), OutOfMemory>
+    pub fn add(&mut self, scanned: &Scanned) -> Result<(), OutOfMemory>
         ensures ok { OnOk result (self.new ≡ with_scan self.old scanned.now) }
         ensures err { OnErr result (self.new ≡ self.old) }
     {

@@ -5,12 +5,10 @@ ghost use Rattle.scanning.specs.EqualScans.{equal_scans, equal_totals};
 
 use crate::OutOfMemory;
 use crate::input::ScanInput;
+use crate::open_scan::OpenScan;
 use crate::output::Scanned;
 use crate::total::ScanTotal;
-use crate::wrong::{WrongLength, earlier};
 use gathering::Work;
-use itch_messages::read;
-use morsel_rows::MorselRows;
 use std::alloc::Global;
 
 /// Scans morsels. The morsels of one cut may be scanned, with one moment and one number of
@@ -37,18 +35,11 @@ impl Work for ScanWork {
 
     fn run(alloc: Global, input: &ScanInput) -> Result<Scanned, OutOfMemory> {
         let as_of = input.as_of();
-        let mut rows = MorselRows::new(alloc, input.parts())?;
-        let mut wrong = None;
+        let mut scan = OpenScan::new(alloc, input.parts())?;
         for frame in input.morsel().frames() {
-            match read(frame.body) {
-                Ok(message) => rows.add_counted(as_of, frame.place, &message)?,
-                Err(fault) => {
-                    let place = frame.place;
-                    wrong = earlier(wrong, Some(WrongLength { place, fault }));
-                }
-            }
+            scan.take_in(as_of, frame)?;
         }
-        Scanned::of(alloc, rows, wrong)
+        scan.finish(alloc)
     }
 
     fn empty(alloc: Global) -> ScanTotal {

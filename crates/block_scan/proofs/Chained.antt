@@ -1,0 +1,179 @@
+-- Pieces that follow each other.
+use Rattle.std.proofs.Common.{◌≡◌, ℕ, ◌+◌, ◌<◌, ◌≤◌, List, [], ◌∷◌, ◌++◌, length, take_at, drop_at, refl, sym, ap, ap₂, ◌∙◌, subst, arith}
+use Rattle.std.proofs.Common.{append-nil, Bool, true, false, map, nat_lt, ◌⊎◌, inl, inr, ⊎_elim, Err, Ok, OnOk, Result, Ok, OnOk, Result}
+use Rattle.std.specs.List.{concat}
+use Rattle.std.proofs.lemmas.Bool.Decides.{nat_tests}
+use Rattle.std.proofs.lemmas.List.{length-append}
+use Rattle.std.proofs.lemmas.List.Elements.{All-append, All-cons, All-nil}
+use Rattle.std.proofs.lemmas.List.Folds.{concat-append}
+use Rattle.lists.proofs.Lists.{map_more}
+use Rattle.day_file.specs.Cuts.{AreBytes, IsRun, MorselView}
+use Rattle.day_file.specs.Frames.{IsStuck, IsTruncatedAt, IsWhole, PlacedBody, StandsFrom}
+use Rattle.day_file.specs.Kept.{numbered}
+use Rattle.day_file.specs.Walk.{frames_of}
+use Rattle.day_file.proofs.CutFrames.{frames_of_cut}
+use Rattle.day_file.proofs.CutsAt.{IsWhole-spelling}
+use Rattle.day_file.proofs.Joined.{truncated_later}
+use Rattle.day_file.proofs.Kept.{numbered-last}
+use Rattle.day_file.proofs.Walks.{walk_whole}
+use Rattle.scanning.specs.Scans.{ScanInputView, ScanTotalView, inputs_of, scan_of, total_of, with_scan}
+use Rattle.scanning.proofs.TotalOfScans.{total_more}
+use Rattle.block_scan.specs.Blocks.{GaveWhole, IsBlocksFault}
+use Rattle.block_scan.specs.Pieces.{IsChained, IsFollowedBy, IsJoined, IsPiece, EndsBy}
+use Rattle.block_scan.specs.ScannedBlocks.{IsScannedWhole}
+use Rattle.block_scan.specs.declared.fault.BlocksFault.{BlocksFault}
+use Rattle.block_scan.specs.declared.fault.BlocksFault.TheVariants.{ReadFailed, TooLong, Truncated, OutOfMemory}
+use Rattle.block_scan.specs.declared.piece.Piece.{Piece}
+use Rattle.block_scan.specs.declared.piece.Tail.TheVariants.{Whole, Cut}
+use Rattle.block_scan.specs.declared.request.Request.{Request}
+
+-- ---- one run more
+
+pub whole_run : (place : ℕ) (frames : List PlacedBody) (bytes : List ℕ) → StandsFrom place frames bytes → IsWhole bytes
+whole_run place frames bytes s = subst IsWhole (sym s.whole) (IsWhole-spelling frames s.short)
+
+concat_more : (runs : List (List ℕ)) (run : List ℕ) → concat (runs ++ run ∷ []) ≡ concat runs ++ run
+concat_more runs run = concat-append runs (run ∷ []) ∙ ap (λ l. concat runs ++ l) (append-nil run)
+
+-- the total with one run more, which stands behind the others
+total_with : (request : Request) (place : ℕ) (runs : List (List ℕ)) (frames : List PlacedBody) (run : List ℕ) → StandsFrom place frames run
+    → place ≡ length (concat runs)
+    → total_of (inputs_of request.as_of request.parts (runs ++ run ∷ []))
+    ≡ with_scan (total_of (inputs_of request.as_of request.parts runs)) (scan_of request.parts request.as_of frames)
+total_with request place runs frames run stands here =
+    let input : MorselView → ScanInputView = λ morsel. record { morsel = morsel; as_of = request.as_of; parts = request.parts } in
+    let last : MorselView = record { number = 0 + length runs; start = 0 + length (concat runs); bytes = run } in
+    let inputs : inputs_of request.as_of request.parts (runs ++ run ∷ []) ≡ inputs_of request.as_of request.parts runs ++ input last ∷ [] =
+    ap (map input) (numbered-last 0 0 runs run) ∙ map_more input (numbered 0 0 runs) last in
+    let at : place ≡ last.start = omega (arith, here) in
+    let walked : frames_of last ≡ frames = walk_whole last.start run frames (subst (λ k. StandsFrom k frames run) at stands) in
+    ap total_of inputs ∙ total_more (inputs_of request.as_of request.parts runs) (input last)
+    ∙ ap (λ l. with_scan (total_of (inputs_of request.as_of request.parts runs)) (scan_of request.parts request.as_of l)) walked
+
+-- ---- a piece more
+
+less_or_same : (a b : ℕ) → a ≤ b → (a < b) ⊎ (a ≡ b)
+less_or_same a b h = go (nat_lt a b) refl
+  where
+    go : (q : Bool) → nat_lt a b ≡ q → (a < b) ⊎ (a ≡ b)
+    go true e = inl (grind (arith, nat_tests))
+    go false e =
+        let past : b ≤ a = grind (arith, nat_tests) in
+        inr (omega (arith, h, past))
+
+module _ {S : Type 0} (GaveAt : S → ℕ → List ℕ → Type 0) (EndsAt : S → ℕ → Type 0)
+    (gave_more : (s : S) (place : ℕ) (xs ys : List ℕ) → GaveAt s place xs → GaveAt s (place + length xs) ys → GaveAt s place (xs ++ ys))
+    (gave_front : (s : S) (place : ℕ) (xs ys : List ℕ) → GaveAt s place (xs ++ ys) → GaveAt s place xs) where
+  -- the bytes of a piece behind those of the runs
+  gave_behind : (source : S) (at start : ℕ) (runs : List (List ℕ)) (bytes : List ℕ) → GaveAt source 0 (concat runs) → at ≡ length (concat runs) → start ≡ at
+      → GaveAt source start bytes → GaveAt source 0 (concat runs ++ bytes)
+  gave_behind source at start runs bytes p here begins q =
+      gave_more source 0 (concat runs) bytes p (subst (λ k. GaveAt source k bytes) (omega (arith, here, begins)) q)
+
+  -- a piece without a frame
+  chain_same : (source : S) (request : Request) (at : ℕ) (old new : ScanTotalView) (piece : Piece) → IsChained GaveAt EndsAt source request at old
+      → IsPiece GaveAt EndsAt source request piece → piece.start ≡ at → piece.start ≡ piece.end → new ≡ old
+      → IsChained GaveAt EndsAt source request piece.end new
+  chain_same source request at old new piece chained is begins none same = record {
+    runs = chained.runs;
+    each = chained.each;
+    bytes = chained.bytes;
+    gave = chained.gave;
+    at_is = sym none ∙ begins ∙ chained.at_is;
+    within = is.within;
+    are = same ∙ chained.are;
+  }
+
+  -- one with frames
+  chain_longer : (source : S) (request : Request) (at : ℕ) (old new : ScanTotalView) (piece : Piece) → IsChained GaveAt EndsAt source request at old
+      → IsPiece GaveAt EndsAt source request piece → piece.start ≡ at → piece.start < piece.end → new ≡ with_scan old piece.scanned
+      → IsChained GaveAt EndsAt source request piece.end new
+  chain_longer source request at old new piece chained is begins some joined =
+      let runs = chained.runs in
+      let run = is.bytes in
+      let long : 0 < length run = omega (arith, some, is.end_is) in
+      let one : IsRun run = record { some = long; whole = whole_run piece.start is.frames run is.stands } in
+      record {
+        runs = runs ++ run ∷ [];
+        each = All-append IsRun runs (run ∷ []) chained.each (All-cons IsRun run [] one (All-nil _));
+        bytes = All-append AreBytes runs (run ∷ []) chained.bytes (All-cons AreBytes run [] is.are (All-nil _));
+        gave = subst (GaveAt source 0) (sym (concat_more runs run))
+            (gave_behind source at piece.start runs run chained.gave chained.at_is begins (gave_front source piece.start run is.rest is.gave));
+        at_is = omega (arith, is.end_is, begins, chained.at_is, ap length (concat_more runs run), length-append (concat runs) run);
+        within = is.within;
+        are = joined ∙ ap₂ with_scan chained.are is.scan ∙ sym (total_with request piece.start runs is.frames run is.stands (begins ∙ chained.at_is));
+      }
+
+  -- either
+  pub chain_more : (source : S) (request : Request) (at : ℕ) (old new : ScanTotalView) (piece : Piece) → IsChained GaveAt EndsAt source request at old
+      → IsPiece GaveAt EndsAt source request piece → piece.start ≡ at → IsJoined piece old new → IsChained GaveAt EndsAt source request piece.end new
+  chain_more source request at old new piece chained is begins joined =
+      ⊎_elim
+      (λ some. chain_longer source request at old new piece chained is begins some (joined.some some))
+      (λ none. chain_same source request at old new piece chained is begins none (joined.none none))
+      (less_or_same piece.start piece.end (omega (arith, is.end_is)))
+
+  -- where a piece ends with the source, the chain is the whole
+  pub chain_whole : (source : S) (request : Request) (at : ℕ) (old new : ScanTotalView) (piece : Piece) → IsChained GaveAt EndsAt source request at old
+      → IsPiece GaveAt EndsAt source request piece → piece.start ≡ at → (piece.tail ≡ Whole) × IsJoined piece old new
+      → IsScannedWhole GaveAt EndsAt source request.limit request.as_of request.parts new
+  chain_whole source request at old new piece chained is begins joined =
+      let longer = chain_more source request at old new piece chained is begins joined.1 in
+      let tail = subst (EndsBy GaveAt EndsAt source request.limit piece.end is.rest) joined.0 is.tail in
+      record {
+        runs = longer.runs;
+        each = longer.each;
+        bytes = longer.bytes;
+        gave = record {
+          gave = longer.gave;
+          ended = subst (EndsAt source) longer.at_is tail;
+          within = omega (arith, longer.at_is, longer.within);
+        };
+        are = longer.are;
+      }
+
+  -- where it ends at a frame that is cut off, the source is truncated there
+  pub chain_cut : (source : S) (request : Request) (at : ℕ) (total : ScanTotalView) (piece : Piece) → IsChained GaveAt EndsAt source request at total
+      → IsPiece GaveAt EndsAt source request piece → piece.start ≡ at → piece.tail ≡ Cut
+      → (day : List ℕ) × GaveWhole GaveAt EndsAt request.limit source day × IsTruncatedAt day piece.end
+  chain_cut source request at total piece chained is begins cut =
+      let tail = subst (EndsBy GaveAt EndsAt source request.limit piece.end is.rest) cut is.tail in
+      let before = concat chained.runs in
+      let behind = is.bytes ++ is.rest in
+      let day = before ++ behind in
+      let long : length day ≡ piece.end + length is.rest =
+      omega (arith, length-append before behind, length-append is.bytes is.rest, is.end_is, begins, chained.at_is) in
+      let here : IsTruncatedAt behind (length is.bytes) = record {
+        front = subst IsWhole (sym (take_at is.bytes is.rest (length is.bytes) refl)) (whole_run piece.start is.frames is.bytes is.stands);
+        within = omega (arith, tail.0, length-append is.bytes is.rest);
+        stuck = subst IsStuck (sym (drop_at is.bytes is.rest (length is.bytes) refl)) tail.1;
+      } in
+      let place : length before + length is.bytes ≡ piece.end = omega (arith, is.end_is, begins, chained.at_is) in
+      let front : IsWhole before = (_, frames_of_cut chained.runs chained.each) in (
+        day,
+        record {
+          gave = gave_behind source at piece.start chained.runs behind chained.gave chained.at_is begins is.gave;
+          ended = subst (EndsAt source) (sym long) tail.2;
+          within = omega (arith, long, tail.3);
+        },
+        subst (IsTruncatedAt day) place
+            (truncated_later day (length before) (length is.bytes) (subst IsWhole (sym (take_at before behind (length before) refl)) front)
+            (subst (λ l. IsTruncatedAt l (length is.bytes)) (sym (drop_at before behind (length before) refl)) here)),
+      )
+
+  -- what a refusal behind a piece says
+  pub chain_fault : (FailsAt : S → ℕ → Type 0) (source : S) (request : Request) (at : ℕ) (old new : ScanTotalView) (piece : Piece)
+      → IsChained GaveAt EndsAt source request at old → IsPiece GaveAt EndsAt source request piece → piece.start ≡ at
+      → (fault : BlocksFault) → IsFollowedBy piece old new (Err fault) → IsBlocksFault GaveAt EndsAt FailsAt source request.limit fault
+  chain_fault FailsAt source request at old new piece chained is begins ReadFailed told = absurd told
+  chain_fault FailsAt source request at old new piece chained is begins TooLong told = absurd told
+  chain_fault FailsAt source request at old new piece chained is begins (Truncated place) told =
+      let cut = chain_cut source request at old piece chained is begins told.0 in
+      (cut.0, cut.1, subst (IsTruncatedAt cut.0) (sym told.1) cut.2)
+  chain_fault FailsAt source request at old new piece chained is begins OutOfMemory told = tt
+
+-- ---- a fact that doesn't hang on the result
+
+pub known_on_ok : {T E P : Type 0} (r : Result T E) → P → OnOk r P
+known_on_ok (Ok x) p = p
+known_on_ok (Err y) p = tt

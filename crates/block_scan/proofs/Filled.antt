@@ -1,0 +1,103 @@
+-- What a piece has read and walked so far.
+use Rattle.std.proofs.Common.{◌≡◌, ℕ, ◌+◌, ◌-◌, ◌<◌, ◌≤◌, List, [], ◌∷◌, ◌++◌, length, take, drop, refl, sym, ap, ◌∙◌, subst, arith, append_assoc}
+use Rattle.std.proofs.lemmas.List.{length-append, length-drop, take-append-drop, take-take, length-take-le}
+use Rattle.std.proofs.lemmas.List.Edits.{take-paste}
+use Rattle.std.proofs.lemmas.List.Elements.{All-append}
+use Rattle.std.proofs.lemmas.Slice.{put_mid-paste}
+use Rattle.std.proofs.Math.Seq.{take-append-add}
+use borrow.Rule.Slice.PartMut.{put_mid}
+use lib.Seq.{paste}
+use Rattle.day_file.specs.Cuts.{AreBytes}
+use Rattle.day_file.specs.Frames.{PlacedBody, IsStuck, StandsFrom}
+use Rattle.day_file.proofs.Joined.{StandsFrom-append}
+use Rattle.scanning.specs.Scans.{ScanView, scan_of}
+use Rattle.block_scan.specs.Pieces.{IsAskable, IsWalked}
+use Rattle.block_scan.specs.declared.request.Request.{Request}
+
+-- the bytes of whole frames from the start on were read and walked, and behind them those that the buffer begins with were read
+pub record IsFilling {S : Type 0} (GaveAt : S → ℕ → List ℕ → Type 0) (source : S) (request : Request) (start target place filled : ℕ) (buffer : List ℕ)
+    (scan : ScanView) : Type 0 where
+  pub frames : List PlacedBody
+  pub bytes : List ℕ
+  pub room : 65537 < length buffer
+  pub filled_is : length (take filled buffer) ≡ filled
+  pub gave : GaveAt source start (bytes ++ take filled buffer)
+  pub stands : StandsFrom start frames bytes
+  pub are : AreBytes bytes
+  pub place_is : place ≡ start + length bytes
+  pub within : place + filled ≤ request.limit
+  pub scan_is : scan ≡ scan_of request.parts request.as_of frames
+  pub stuck : place < target → IsStuck (take filled buffer)
+  pub short : place < target → filled < 65538
+
+-- what is read goes behind what the buffer begins with
+pub filled_more : (buffer into : List ℕ) (filled room count : ℕ) → room ≡ length into → filled + room ≤ length buffer → count ≤ room
+    → length (take filled buffer) ≡ filled → take (filled + count) (put_mid filled room buffer into) ≡ take filled buffer ++ take count into
+filled_more buffer into filled room count n fits few long =
+    let pasted : put_mid filled room buffer into ≡ paste buffer filled into room = put_mid-paste filled room buffer into into room refl refl n in
+    let whole : take (filled + room) (paste buffer filled into room) ≡ take filled buffer ++ take room into = take-paste buffer filled into room
+    (omega (arith, fits)) (omega (arith, n)) in
+    ap (take (filled + count)) pasted
+    ∙ sym (take-take (filled + count) (filled + room) (paste buffer filled into room) (omega (arith, few)))
+    ∙ ap (take (filled + count)) whole
+    ∙ ap (λ k. take (k + count) (take filled buffer ++ take room into)) (sym long)
+    ∙ take-append-add (take filled buffer) (take room into) count
+    ∙ ap (λ l. take filled buffer ++ l) (take-take count room into few)
+
+module _ {S : Type 0} (GaveAt : S → ℕ → List ℕ → Type 0)
+    (gave_more : (s : S) (place : ℕ) (xs ys : List ℕ) → GaveAt s place xs → GaveAt s (place + length xs) ys → GaveAt s place (xs ++ ys)) where
+  -- the bytes of a reading behind what was read
+  gave_on : (source : S) (start place filled : ℕ) (bytes rest piece : List ℕ) → GaveAt source start (bytes ++ rest) → place ≡ start + length bytes
+      → length rest ≡ filled → GaveAt source (place + filled) piece → GaveAt source start (bytes ++ (rest ++ piece))
+  gave_on source start place filled bytes rest piece p here n q =
+      let at : place + filled ≡ start + length (bytes ++ rest) = omega (arith, here, n, length-append bytes rest) in
+      subst (GaveAt source start) (append_assoc bytes rest piece) (gave_more source start (bytes ++ rest) piece p (subst (λ k. GaveAt source k piece) at q))
+
+  -- a turn of the loop: some bytes more are in the buffer, which now begins with all, and of those some were walked and the others kept
+  pub fills_more : (source : S) (request : Request) (start target place filled count walked : ℕ) (buffer all last piece : List ℕ) (scan new : ScanView)
+      → IsAskable request → IsFilling GaveAt source request start target place filled buffer scan → GaveAt source (place + filled) piece
+      → all ≡ take filled buffer ++ piece → length all ≡ filled + count → place + filled + count ≤ request.limit
+      → IsWalked request.as_of all place target walked scan new → take (filled + count - walked) last ≡ drop walked all → length last ≡ length buffer
+      → IsFilling GaveAt source request start target (place + walked) (filled + count - walked) last new
+  fills_more source request start target place filled count walked buffer all last piece scan new ask old gave all_is n fits w kept long =
+      let halves : all ≡ take walked all ++ drop walked all = sym (take-append-drop walked all) in
+      let whole : GaveAt source start (old.bytes ++ all) = subst (λ l. GaveAt source start (old.bytes ++ l)) (sym all_is)
+      (gave_on source start place filled old.bytes (take filled buffer) piece old.gave old.place_is old.filled_is gave) in
+      let front : length (take walked all) ≡ walked = length-take-le walked all w.within in
+      record {
+        frames = old.frames ++ w.frames;
+        bytes = old.bytes ++ take walked all;
+        room = omega (arith, long, old.room);
+        filled_is = omega (arith, ap length kept, length-drop walked all, n);
+        gave = subst (GaveAt source start)
+            (ap (λ l. old.bytes ++ l) halves ∙ sym (append_assoc old.bytes (take walked all) (drop walked all))
+            ∙ ap (λ l. (old.bytes ++ take walked all) ++ l) (sym kept)) whole;
+        stands = StandsFrom-append start old.frames w.frames old.bytes (take walked all) old.stands
+            (subst (λ k. StandsFrom k w.frames (take walked all)) old.place_is w.stands);
+        are = All-append (λ byte. byte < 256) old.bytes (take walked all) old.are w.are;
+        place_is = omega (arith, old.place_is, length-append old.bytes (take walked all), front);
+        within = omega (arith, fits, n, w.within);
+        scan_is = w.takes request.parts old.frames ask.some ask.most old.scan_is;
+        stuck = λ h. subst IsStuck (sym kept) (w.ends h);
+        short = λ h. omega (arith, w.short h, n, w.within);
+      }
+
+-- ---- a byte behind the limit
+
+one_byte : (P : List ℕ → Type 0) (bytes : List ℕ) → length bytes ≡ 1 → P bytes → (byte : ℕ) × P (byte ∷ [])
+one_byte P [] n p = absurd (omega (arith, n))
+one_byte P (byte ∷ []) n p = (byte, p)
+one_byte P (byte ∷ next ∷ bytes) n p = absurd (omega (arith, n))
+
+-- where bytes were read that end one behind the limit, the last of them stands at the limit
+pub gave_last : {S : Type 0} (GaveAt : S → ℕ → List ℕ → Type 0)
+    (gave_back : (s : S) (place : ℕ) (xs ys : List ℕ) → GaveAt s place (xs ++ ys) → GaveAt s (place + length xs) ys)
+    (source : S) (limit place : ℕ) (bytes : List ℕ) → place ≤ limit → place + length bytes ≡ limit + 1 → GaveAt source place bytes
+    → (byte : ℕ) × GaveAt source limit (byte ∷ [])
+gave_last GaveAt gave_back source limit place bytes within past gave =
+    let n = limit - place in
+    let front : length (take n bytes) ≡ n = length-take-le n bytes (omega (arith, past)) in
+    let here : place + length (take n bytes) ≡ limit = omega (arith, front, within) in
+    let back = gave_back source place (take n bytes) (drop n bytes) (subst (GaveAt source place) (sym (take-append-drop n bytes)) gave) in
+    let one : length (drop n bytes) ≡ 1 = omega (arith, length-drop n bytes, past, within) in
+    one_byte (GaveAt source limit) (drop n bytes) one (subst (λ k. GaveAt source k (drop n bytes)) here back)

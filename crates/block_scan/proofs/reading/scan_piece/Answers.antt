@@ -1,0 +1,43 @@
+use Rattle.std.proofs.Common.{◌≡◌, ◌≤◌, ◌+◌, ◌-◌, [], ◌++◌, length, take, arith, ap, ◌∙◌, length-drop, refl, rules}
+use Rattle.std.proofs.lemmas.List.{length-append, length-take-le}
+use Rattle.std.proofs.lemmas.List.Elements.{All-nil}
+use borrow.Rule.Slice.PartMut.{put_mid}
+use Rattle.day_file.proofs.Readings.{IsStuck-nil}
+use Rattle.block_scan.proofs.Filled.{fills_more, filled_more}
+use Rattle.block_scan.proofs.reading.scan_piece.Goals as goal
+
+pub loop-place-init : goal.loop-place-init
+loop-place-init g c = record {
+  frames = [];
+  bytes = [];
+  room = c.requires.room;
+  filled_is = refl;
+  gave = g.met.S.BlockSource.gave_nothing c.args.source.now c.args.start;
+  stands = record { places = tt; short = All-nil _; whole = refl };
+  are = All-nil _;
+  place_is = omega arith;
+  within = omega (arith, c.requires.start);
+  scan_is = c.in_ok-scan.ensures c.args.request.as_of;
+  stuck = λ h. IsStuck-nil;
+  short = λ h. omega arith;
+}
+
+pub loop-place-preserved : goal.loop-place-preserved
+loop-place-preserved g c =
+    let l = c.loop-place in
+    let i = l.invariant in
+    let told = c.in_ok-count.ensures in
+    let count = c.in_ok-count.count in
+    let into = c.read_some.new.into in
+    let room = length l.buffer - l.filled in
+    let below = i.short c.loop-place-test.true in
+    let into_is : room ≡ length into = omega (arith, below, i.room, c.read_some.auto.into, length-drop l.filled l.buffer) in
+    let few : count ≤ room = omega (arith, into_is, told.count) in
+    let all = take (l.filled + count) (put_mid l.filled room l.buffer into) in
+    let all_is : all ≡ take l.filled l.buffer ++ take count into =
+    filled_more l.buffer into l.filled room count into_is (omega (arith, below, i.room)) few i.filled_is in
+    let n : length all ≡ l.filled + count =
+    omega (arith, ap length all_is, length-append (take l.filled l.buffer) (take count into), i.filled_is, length-take-le count into told.count) in
+    fills_more g.S.BlockSource.GaveAt g.met.S.BlockSource.gave_more c.args.source.now c.args.request c.args.start c.args.target l.place l.filled count
+    c.in_ok-walked.walked l.buffer all c.keep_rest.new.buffer (take count into) l.scan c.walk.new.scan c.requires.request i told.gave all_is n
+    (omega (arith, told.within)) c.in_ok-walked.ensures c.keep_rest.ensures.rest (c.keep_rest.ensures.len ∙ search rules)

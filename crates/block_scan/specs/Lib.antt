@@ -1,0 +1,4 @@
+pub mod Blocks
+pub mod Pieces
+pub mod ScannedBlocks
+pub mod Slices

@@ -1,0 +1,85 @@
+-- What is known of a piece of a source that was read and scanned.
+-- Derived: what is promised of `scan_blocks` speaks of the whole source alone.
+use Rattle.std.specs.Prelude.{◌≡◌, ℕ, ◌+◌, ◌<◌, ◌≤◌, List, ◌++◌, length, take, drop, All}
+use Rattle.std.specs.Prelude.{Option, None, Some, Result, Ok, Err}
+use Rattle.std.specs.List.{concat}
+use Rattle.lists.specs.declared.limits.TheConstants.{LONGEST_FILE, MOST_PARTITIONS}
+use Rattle.day_file.specs.Cuts.{AreBytes, IsRun}
+use Rattle.day_file.specs.Frames.{IsStuck, PlacedBody, StandsFrom}
+use Rattle.scanning.specs.Scans.{ScanTotalView, ScanView, TakesIn, inputs_of, scan_of, total_of, with_scan}
+use Rattle.block_scan.specs.Blocks.{IsBlocksFault}
+use Rattle.block_scan.specs.declared.fault.BlocksFault.{BlocksFault}
+use Rattle.block_scan.specs.declared.fault.BlocksFault.TheVariants.{ReadFailed, TooLong, Truncated, OutOfMemory}
+use Rattle.block_scan.specs.declared.piece.Piece.{Piece}
+use Rattle.block_scan.specs.declared.piece.Tail.{Tail}
+use Rattle.block_scan.specs.declared.piece.Tail.TheVariants.{More, Whole, Cut}
+use Rattle.block_scan.specs.declared.request.Request.{Request}
+
+-- the limit is no longer than a file may be, and there may be so many partitions
+pub record IsAskable (request : Request) : Type 0 where
+  pub limit : request.limit ≤ LONGEST_FILE
+  pub some : 0 < request.parts
+  pub most : request.parts ≤ MOST_PARTITIONS
+
+-- what a walk over bytes did, which stand at this place: the frames of so many of them were taken in, and it ended at
+-- the target or where no whole frame stands
+pub record IsWalked (as_of : Option ℕ) (bytes : List ℕ) (place target walked : ℕ) (old new : ScanView)
+    : Type 0 where
+  pub frames : List PlacedBody
+  pub within : walked ≤ length bytes
+  pub stands : StandsFrom place frames (take walked bytes)
+  pub are : AreBytes (take walked bytes)
+  pub takes : TakesIn as_of frames old new
+  pub ends : place + walked < target → IsStuck (drop walked bytes)
+  pub short : place + walked < target → length bytes < walked + 65538
+
+-- a total, and the same with the scan of a piece, if that has a frame
+pub record IsJoined (piece : Piece) (old new : ScanTotalView) : Type 0 where
+  pub none : piece.start ≡ piece.end → new ≡ old
+  pub some : piece.start < piece.end → new ≡ with_scan old piece.scanned
+
+-- what follows from a piece: more is to come behind it, or it was the last, or it is cut off
+abbrev pub IsFollowedBy : Piece → ScanTotalView → ScanTotalView → Result (Option ℕ) BlocksFault → Type 0
+IsFollowedBy piece old new (Ok (Some end)) = (piece.tail ≡ More) × (end ≡ piece.end) × IsJoined piece old new
+IsFollowedBy piece old new (Ok None) = (piece.tail ≡ Whole) × IsJoined piece old new
+IsFollowedBy piece old new (Err (Truncated place)) = (piece.tail ≡ Cut) × (place ≡ piece.end)
+IsFollowedBy piece old new (Err OutOfMemory) = Unit {0}
+IsFollowedBy piece old new (Err ReadFailed) = ⊥
+IsFollowedBy piece old new (Err TooLong) = ⊥
+
+-- S is a source. `GaveAt` says which bytes it gave to readings from a place on, and `EndsAt` that one found none there.
+module _ {S : Type 0} (GaveAt : S → ℕ → List ℕ → Type 0) (EndsAt : S → ℕ → Type 0) where
+  -- how a piece ended, at this place, behind which these bytes were read too
+  abbrev pub EndsBy : S → ℕ → ℕ → List ℕ → Tail → Type 0
+  EndsBy source limit end rest More = Unit {0}
+  EndsBy source limit end rest Whole = EndsAt source end
+  EndsBy source limit end rest Cut =
+      (0 < length rest) × IsStuck rest × EndsAt source (end + length rest) × (end + length rest ≤ limit)
+
+  -- a piece: bytes that were read from its start on, the scan of their frames, and how it ended
+  pub record IsPiece (source : S) (request : Request) (piece : Piece) : Type 0 where
+    pub frames : List PlacedBody
+    pub bytes : List ℕ
+    pub rest : List ℕ
+    pub gave : GaveAt source piece.start (bytes ++ rest)
+    pub stands : StandsFrom piece.start frames bytes
+    pub are : AreBytes bytes
+    pub end_is : piece.end ≡ piece.start + length bytes
+    pub within : piece.end ≤ request.limit
+    pub scan : piece.scanned ≡ scan_of request.parts request.as_of frames
+    pub tail : EndsBy source request.limit piece.end rest piece.tail
+
+  -- what comes of a block: a piece, or why there is none
+  abbrev pub IsTried : (S → ℕ → Type 0) → S → Request → Result Piece BlocksFault → Type 0
+  IsTried FailsAt source request (Ok piece) = IsPiece source request piece
+  IsTried FailsAt source request (Err fault) = IsBlocksFault GaveAt EndsAt FailsAt source request.limit fault
+
+  -- the total of the scans of runs of frames, which the source gave up to this place
+  pub record IsChained (source : S) (request : Request) (at : ℕ) (total : ScanTotalView) : Type 0 where
+    pub runs : List (List ℕ)
+    pub each : All IsRun runs
+    pub bytes : All AreBytes runs
+    pub gave : GaveAt source 0 (concat runs)
+    pub at_is : at ≡ length (concat runs)
+    pub within : at ≤ request.limit
+    pub are : total ≡ total_of (inputs_of request.as_of request.parts runs)

@@ -1,0 +1,63 @@
+//! Guesses of where a frame begins.
+ghost use Rattle.std.specs.Prelude.{◌≤◌, ◌<◌, length};
+
+use crate::source::BlockSource;
+use itch_messages::read;
+
+/// How many frames in a row must look like messages.
+const CHAIN: usize = 16;
+
+/// The shortest and the longest body of a message.
+const SHORTEST: usize = 12;
+
+const LONGEST: usize = 50;
+
+/// A place at or behind this one where a frame seems to begin, within the limit. Nothing more is promised
+/// of it: what is found from there on counts only where the piece before it ends there.
+pub(crate) fn guess<S: BlockSource>(source: &S, from: u64, limit: u64, buffer: &mut [u8]) -> u64
+    requires room { 0 < length buffer.old }
+    requires from { from ≤ limit }
+    ensures { result ≤ limit }
+{
+    if from == 0 {
+        return 0;
+    }
+    let Ok(count) = source.read_at(from, buffer) else {
+        return from;
+    };
+    for offset in 0..count {
+        if is_likely(&buffer[..count], offset) {
+            return limit.min(from.saturating_add(offset as u64));
+        }
+    }
+    from
+}
+
+/// Whether so many frames that look like messages stand one after the other from here.
+fn is_likely(bytes: &[u8], from: usize) -> bool {
+    let Some(mut rest) = bytes.get(from..) else {
+        return false;
+    };
+    for _ in 0..CHAIN {
+        let Some((prefix, after)) = rest.split_at_checked(2) else {
+            return false;
+        };
+        let length = usize::from(prefix[0]) * 256 + usize::from(prefix[1]);
+        let Some((body, left)) = after.split_at_checked(length) else {
+            return false;
+        };
+        if !is_body(body) {
+            return false;
+        }
+        rest = left;
+    }
+    true
+}
+
+/// Whether this looks like the body of a message: a capital letter, and the length of its type.
+fn is_body(body: &[u8]) -> bool {
+    if body.len() < SHORTEST || body.len() > LONGEST {
+        return false;
+    }
+    body[0].is_ascii_uppercase() && read(body).is_ok()
+}

@@ -1,0 +1,23 @@
+//! Pieces of a source that were read and scanned.
+
+use scanning::Scanned;
+
+/// How a piece ended.
+#[derive(Clone, Copy, Debug, PartialEq, Eq)]
+pub(crate) enum Tail {
+    /// At the first frame at or behind its target.
+    More,
+    /// At the end of the source, behind whole frames.
+    Whole,
+    /// At a frame that the end of the source cuts.
+    Cut,
+}
+
+/// The scan of the whole frames between two places.
+#[derive(Drop)]
+pub(crate) struct Piece {
+    pub(crate) start: u64,
+    pub(crate) end: u64,
+    pub(crate) scanned: Scanned,
+    pub(crate) tail: Tail,
+}

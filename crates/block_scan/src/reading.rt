@@ -1,0 +1,109 @@
+//! Pieces that are read and scanned through one buffer.
+ghost use Rattle.std.specs.Prelude.{◌≡◌, ◌≤◌, ◌<◌, ◌+◌, ◌-◌, length, take, drop, IfErr, IfOk, OnOk};
+ghost use Rattle.lists.specs.declared.limits.TheConstants.{LONGEST_FILE};
+ghost use Rattle.block_scan.specs.Blocks.{IsBlocksFault};
+ghost use Rattle.block_scan.specs.Pieces.{IsAskable, IsTried};
+
+use crate::fault::BlocksFault;
+use crate::piece::{Piece, Tail};
+use crate::request::Request;
+use crate::source::BlockSource;
+use crate::walking::walk;
+use lists::limits::LONGEST_FILE;
+use scanning::OpenScan;
+use std::alloc::Global;
+
+/// Refuses a source that has a byte behind the limit.
+pub(crate) fn refuse_longer<S: BlockSource>(source: &S, limit: u64) -> Result<(), BlocksFault>
+    ensures asked { OnOk result (S.EndsAt source.now limit) }
+    ensures fault { IfErr result (IsBlocksFault S.GaveAt S.EndsAt S.FailsAt source.now limit) }
+{
+    let mut byte = [0u8; 1];
+    if source.read_at(limit, &mut byte)? > 0 {
+        return Err(BlocksFault::TooLong);
+    }
+    Ok(())
+}
+
+/// Reads from the start on, and scans the whole frames that it reads, up to the first one at or behind
+/// the target, or to the source's end. Of the bytes it keeps no more than the buffer has room for.
+pub(crate) fn scan_piece<S: BlockSource>(
+    alloc: Global,
+    source: &S,
+    request: Request,
+    start: u64,
+    target: u64,
+    buffer: &mut [u8],
+) -> Result<Piece, BlocksFault>
+    requires request { IsAskable request }
+    requires start { start ≤ request.limit }
+    requires room { 65537 < length buffer.old }
+    ensures tried { IsTried S.GaveAt S.EndsAt S.FailsAt source.now request result }
+    ensures start { IfOk result (λ piece. piece.start ≡ start) }
+    ensures more { IfOk result (λ piece. piece.tail ≡ Tail.More → target ≤ piece.end) }
+{
+    let mut scan = OpenScan::new(alloc, request.parts)?;
+    let mut place = start;
+    let mut filled = 0;
+    while place < target {
+        let read = place + filled as u64;
+        let count = read_some(source, request.limit, read, &mut buffer[filled..])?;
+        if count == 0 {
+            let tail = if filled == 0 { Tail::Whole } else { Tail::Cut };
+            let scanned = scan.finish(alloc)?;
+            return Ok(Piece {
+                start,
+                end: place,
+                scanned,
+                tail,
+            });
+        }
+        filled += count;
+        let walked = walk(&buffer[..filled], place, target, request.as_of, &mut scan)?;
+        keep_rest(buffer, walked, filled);
+        filled -= walked;
+        place += walked as u64;
+    }
+    let scanned = scan.finish(alloc)?;
+    Ok(Piece {
+        start,
+        end: place,
+        scanned,
+        tail: Tail::More,
+    })
+}
+
+/// Reads at this place what there is room for, and says how many bytes those are. A byte behind the limit
+/// is a refusal, and none behind that is asked for.
+fn read_some<S: BlockSource>(
+    source: &S,
+    limit: u64,
+    place: u64,
+    into: &mut [u8],
+) -> Result<usize, BlocksFault>
+    requires limit { limit ≤ LONGEST_FILE }
+    requires place { place ≤ limit }
+    requires room { 0 < length into.old }
+    ensures count { IfOk result (λ n. n ≤ length into.new) }
+    ensures gave { IfOk result (λ n. S.GaveAt source.now place (take n into.new)) }
+    ensures within { IfOk result (λ n. place + n ≤ limit) }
+    ensures end { IfOk result (λ n. n ≡ 0 → S.EndsAt source.now place) }
+    ensures fault { IfErr result (IsBlocksFault S.GaveAt S.EndsAt S.FailsAt source.now limit) }
+{
+    let room = (into.len() as u64).min(limit + 1 - place) as usize;
+    let count = source.read_at(place, &mut into[..room])?;
+    if place + count as u64 > limit {
+        return Err(BlocksFault::TooLong);
+    }
+    Ok(count)
+}
+
+/// Moves the bytes between these two places to the front.
+fn keep_rest(buffer: &mut [u8], from: usize, to: usize)
+    requires from { from ≤ to }
+    requires to { to ≤ length buffer.old }
+    ensures len { length buffer.new ≡ length buffer.old }
+    ensures rest { take (to - from) buffer.new ≡ drop from (take to buffer.old) }
+{
+    buffer.copy_within(from..to, 0);
+}

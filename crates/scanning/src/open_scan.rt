@@ -1,0 +1,68 @@
+//! A scan under way.
+ghost use Rattle.std.specs.Prelude.{◌≡◌, ◌<◌, ◌≤◌, ℕ, [], ◌∷◌, IfOk, OnOk, Option};
+ghost use Rattle.lists.specs.declared.limits.TheConstants.{MOST_PARTITIONS};
+ghost use Rattle.day_file.specs.Placed.{placed_body};
+ghost use Rattle.scanning.specs.Scans.{TakesIn, scan_of};
+
+use crate::OutOfMemory;
+use crate::output::Scanned;
+use crate::wrong::{WrongLength, earlier};
+use day_file::Frame;
+use itch_messages::read;
+use lists::limits::MOST_PARTITIONS;
+use morsel_rows::MorselRows;
+use std::alloc::Global;
+use std::marker::Model;
+
+/// What the frames that were taken in so far give: the rows of their messages that count, and the least
+/// wrong length.
+#[derive(Drop)]
+pub struct OpenScan {
+    rows: MorselRows,
+    wrong: Option<WrongLength>,
+}
+
+impl Model for OpenScan {
+    ghost use Rattle.scanning.specs.Scans.{ScanView};
+
+    ghost Value = { ScanView };
+
+    ghost view = { λ scan. record { rows = scan.rows; wrong = scan.wrong } };
+}
+
+impl OpenScan {
+    /// The scan of no frames, whose rows will stand in so many partitions.
+    pub fn new(alloc: Global, parts: u32) -> Result<Self, OutOfMemory>
+        requires { (0 < parts) × (parts ≤ MOST_PARTITIONS) }
+        ensures { IfOk result (λ scan. (as_of : Option ℕ) → scan ≡ scan_of parts as_of []) }
+    {
+        Ok(OpenScan {
+            rows: MorselRows::new(alloc, parts)?,
+            wrong: None,
+        })
+    }
+
+    /// Takes in one frame more: its message, if that counts up to this moment, in seconds since
+    /// midnight, or its wrong length.
+    #[inline(always)]
+    pub fn take_in(&mut self, as_of: Option<u32>, frame: Frame<'_>) -> Result<(), OutOfMemory>
+        ensures { OnOk result (TakesIn as_of (placed_body frame.entry ∷ []) self.old self.new) }
+    {
+        match read(frame.body) {
+            Ok(message) => self.rows.add_counted(as_of, frame.place, &message)?,
+            Err(fault) => {
+                let place = frame.place;
+                self.wrong = earlier(self.wrong, Some(WrongLength { place, fault }));
+            }
+        }
+        Ok(())
+    }
+
+    /// Ends the scan. Its rows are put where totals can share them.
+    pub fn finish(self, alloc: Global) -> Result<Scanned, OutOfMemory>
+        ensures { IfOk result (λ scanned. scanned ≡ self) }
+    {
+        let OpenScan { rows, wrong } = self;
+        Scanned::of(alloc, rows, wrong)
+    }
+}
