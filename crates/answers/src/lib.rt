@@ -20,4 +20,4 @@ pub use moment::counts;
 pub use row::{Row, row_of};
 pub use rows::Rows;
 pub use text::Text;
-pub use texts::{text_of_bars, text_of_sales};
+pub use texts::{text_of_bars, text_of_listings, text_of_sales, text_of_tables};

@@ -1,42 +1,77 @@
-ghost use Rattle.std.specs.Prelude.{◌≡◌};
+ghost use Rattle.std.specs.Prelude.{◌≡◌, ◌<◌, ◌^◌, IfOk, IfSome, length};
+ghost use Rattle.std.specs.List.{flat_map};
 
-use std::alloc::{Allocator, Global};
+use crate::OutOfMemory;
+use std::alloc::{AllocError, Allocator, Global};
 use std::marker::Model;
 
-/// The text of an answer.
+/// The text of an answer, in pieces that threads may have made: it is all of them, one after another.
 #[derive(Debug, Drop)]
 pub struct Text<A: Allocator = Global> {
-    bytes: Vec<u8, A>,
+    pieces: Vec<Vec<u8, A>, A>,
 }
 
 impl<A: Allocator> Model for Text<A> {
-    ghost use Rattle.std.specs.Prelude.{ℕ, List};
+    ghost use Rattle.std.specs.Prelude.{ℕ, List, ◌<◌, ◌^◌, length};
+    ghost use Rattle.std.specs.List.{flat_map};
 
     ghost Value = { List ℕ };
 
-    ghost view = { λ text. text.bytes.items };
+    ghost view = { λ text. flat_map (λ piece. piece.items) text.pieces.items };
+
+    ghost invariant = { λ text. length (flat_map (λ piece. piece.items) text.pieces.items) < 2 ^ 64 };
 }
 
 impl<A: Allocator> Text<A> {
-    /// These bytes as a text.
-    pub fn of(bytes: Vec<u8, A>) -> Self
-        ensures { result ≡ bytes.items }
+    /// The text of these pieces. It is refused if they have 2^64 bytes or more, for which no machine
+    /// has memory.
+    pub fn of(pieces: Vec<Vec<u8, A>, A>) -> Result<Self, OutOfMemory>
+        ensures { IfOk result (λ text. text ≡ flat_map (λ piece. piece.items) pieces.items) }
     {
-        Text { bytes }
+        match length_of(pieces.as_slice()) {
+            Some(_) => Ok(Text { pieces }),
+            None => Err(AllocError),
+        }
     }
 
-    /// Its bytes.
-    pub fn items(&self) -> &[u8]
-        ensures { result.now ≡ self.now }
+    /// Its pieces, in order.
+    pub fn pieces(&self) -> &[Vec<u8, A>]
+        ensures value { flat_map (λ piece. piece.items) result.now ≡ self.now }
+        ensures short { length self.now < 2 ^ 64 }
     {
-        self.bytes.as_slice()
+        self.pieces.as_slice()
     }
 
-    /// Gives the vector back, and takes no memory.
-    pub fn into_vec(self) -> Vec<u8, A>
-        ensures { result.items ≡ self }
+    /// Its bytes in one vector, in memory of `alloc`.
+    pub fn joined<B: Allocator>(&self, alloc: B) -> Result<Vec<u8, B>, OutOfMemory>
+        ensures { IfOk result (λ bytes. bytes.items ≡ self.now) }
     {
-        let Text { bytes } = self;
-        bytes
+        join(alloc, self.pieces())
     }
+}
+
+/// How many bytes the pieces have, if fewer than 2^64.
+fn length_of<A: Allocator>(pieces: &[Vec<u8, A>]) -> Option<u64>
+    ensures { IfSome result (λ length_is. length_is
+        ≡ length (flat_map (λ piece. piece.items) pieces.now)) }
+{
+    let mut length = 0u64;
+    for piece in pieces {
+        length = length.checked_add(piece.len() as u64)?;
+    }
+    Some(length)
+}
+
+/// The bytes of all pieces, one after another.
+fn join<A: Allocator, B: Allocator>(
+    alloc: B,
+    pieces: &[Vec<u8, A>],
+) -> Result<Vec<u8, B>, OutOfMemory>
+    ensures { IfOk result (λ bytes. bytes.items ≡ flat_map (λ piece. piece.items) pieces.now) }
+{
+    let mut bytes = Vec::new(alloc);
+    for piece in pieces {
+        bytes.extend_from_slice(piece.as_slice())?;
+    }
+    Ok(bytes)
 }

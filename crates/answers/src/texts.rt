@@ -1,15 +1,22 @@
-ghost use Rattle.std.specs.Prelude.{◌≡◌, ◌<◌, All, IfOk};
+ghost use Rattle.std.specs.Prelude.{◌≡◌, ◌<◌, ◌++◌, All, IfOk, List, map, nat_eq};
+ghost use Rattle.std.specs.List.{IsDistinct, flat_map};
+ghost use Rattle.std.specs.List.Sorted.{IsPermutation};
 ghost use Rattle.lists.specs.declared.limits.TheConstants.{TIME_LIMIT};
+ghost use Rattle.bars.specs.Bars.{AllSumsFit, IsUnionOf, all_bars};
 ghost use Rattle.bars.specs.Texts.{IsWritable, bars_text};
+ghost use Rattle.bars.specs.declared.bar.Bar.{Bar as TheBar};
+ghost use Rattle.probe.specs.declared.rows.Sale.{Sale as TheSale};
+ghost use Rattle.time_and_sales.specs.Listings.{IsByPlace};
 ghost use Rattle.time_and_sales.specs.Names.{last_row, name_text};
 ghost use Rattle.time_and_sales.specs.Texts.{listing_text};
 
 use crate::OutOfMemory;
 use crate::text::Text;
-use bars::Bar;
+use bars::{Bar, BarTable};
 use probe::Sale;
-use std::alloc::Allocator;
-use time_and_sales::Names;
+use std::alloc::{Allocator, Global};
+use std::thread::Threads;
+use time_and_sales::{Listing, Names};
 
 /// The text of time and sales: a header line, then a line for each of these sales, in their order.
 pub fn text_of_sales<A: Allocator + Copy>(
@@ -26,7 +33,7 @@ pub fn text_of_sales<A: Allocator + Copy>(
     for sale in sales {
         time_and_sales::write_sale(&mut bytes, sale, &names.name(sale.locate))?;
     }
-    Ok(Text::of(bytes))
+    of_one(alloc, bytes)
 }
 
 /// The text of a table of bars: a header line, then a line for each of these bars, in their order.
@@ -44,5 +51,67 @@ pub fn text_of_bars<A: Allocator + Copy>(
     for bar in table {
         bars::write_bar(&mut bytes, bar, &names.name(bar.locate))?;
     }
-    Ok(Text::of(bytes))
+    of_one(alloc, bytes)
+}
+
+/// The text of time and sales of all listings: a header line, then a line for each sale, by place.
+/// Threads make it, each a part for a range of places; there are so many ranges, or one.
+pub fn text_of_listings<R: Threads + Sync>(
+    rt: &R,
+    alloc: Global,
+    listings: &[&Listing],
+    names: &Names,
+    ranges: u32,
+) -> Result<Text, OutOfMemory>
+    requires apart { IsDistinct nat_eq (map (λ sale. sale.place)
+        (flat_map (λ listing. listing) (map (λ listing. listing.now) listings.now))) }
+    requires times { All (λ sale. sale.time < TIME_LIMIT)
+        (flat_map (λ listing. listing) (map (λ listing. listing.now) listings.now)) }
+    ensures { IfOk result (λ text. (all : List TheSale) → IsByPlace all →
+        IsPermutation (flat_map (λ listing. listing) (map (λ listing. listing.now) listings.now)) all →
+        text ≡ listing_text (λ locate. name_text locate (last_row names.now locate)) all) }
+{
+    let mut header = Vec::new(alloc);
+    time_and_sales::write_header(&mut header)?;
+    let lines = time_and_sales::lines_in_ranges(rt, alloc, listings, names, ranges)?;
+    of_all(header, lines)
+}
+
+/// The text of the bars of all tables, those of one locate and start made one: a header line, then a
+/// line for each bar, by locate and then by start. Threads make it, each a part for a range of
+/// locates; there are so many ranges, or one.
+pub fn text_of_tables<R: Threads + Sync>(
+    rt: &R,
+    alloc: Global,
+    tables: &[&BarTable],
+    names: &Names,
+    ranges: u32,
+) -> Result<Text, OutOfMemory>
+    requires sums { AllSumsFit (all_bars (map (λ table. table.now) tables.now)) }
+    requires starts { All (λ bar. bar.start < TIME_LIMIT) (all_bars (map (λ table. table.now) tables.now)) }
+    ensures { IfOk result (λ text. (all : List TheBar) →
+        IsUnionOf (all_bars (map (λ table. table.now) tables.now)) all →
+        text ≡ bars_text (λ locate. name_text locate (last_row names.now locate)) all) }
+{
+    let mut header = Vec::new(alloc);
+    bars::write_header(&mut header)?;
+    let lines = bars::lines_in_ranges(rt, alloc, tables, names, ranges)?;
+    of_all(header, lines)
+}
+
+/// The text of one piece.
+fn of_one<A: Allocator>(alloc: A, bytes: Vec<u8, A>) -> Result<Text<A>, OutOfMemory>
+    ensures { IfOk result (λ text. text ≡ bytes.items) }
+{
+    let mut pieces = Vec::new(alloc);
+    pieces.push(bytes)?;
+    Text::of(pieces)
+}
+
+/// The text of a header and its lines.
+fn of_all(header: Vec<u8>, mut lines: Vec<Vec<u8>>) -> Result<Text, OutOfMemory>
+    ensures { IfOk result (λ text. text ≡ header.items ++ flat_map (λ piece. piece.items) lines.items) }
+{
+    lines.insert(0, header)?;
+    Text::of(lines)
 }

@@ -200,6 +200,14 @@ AreBarsOf-union width lists tables table are union = record {
   each = λ key. union.each key ∙ bars_of_all width key lists tables None [] are refl;
 }
 
+-- and the table of all these sales is the union of their tables
+pub union_of_bars : (width : ℕ) (lists : List (List Sale)) (tables : List (List Bar)) (table : List Bar) → AreBarsOfEach width lists tables
+    → AreBarsOf width (all_sales lists) table → IsUnionOf (all_bars tables) table
+union_of_bars width lists tables table are of = record {
+  rise = of.rise;
+  each = λ key. of.each key ∙ sym (bars_of_all width key lists tables None [] are refl);
+}
+
 -- ---- what the loops keep
 
 -- one more part

@@ -35,6 +35,10 @@ bar_line bar name =
 abbrev pub bars_header : List ℕ
 bars_header = codes "symbol,start,first,high,low,last,volume,trades,average\n"
 
+-- the line of each bar, under the name of its locate
+abbrev pub lines_text : (ℕ → List ℕ) → List Bar → List ℕ
+lines_text name bars = flat_map (λ bar. bar_line bar (name bar.locate)) bars
+
 -- the header and the line of each bar, under the name of its locate
 abbrev pub bars_text : (ℕ → List ℕ) → List Bar → List ℕ
-bars_text name bars = bars_header ++ flat_map (λ bar. bar_line bar (name bar.locate)) bars
+bars_text name bars = bars_header ++ lines_text name bars

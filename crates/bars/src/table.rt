@@ -186,7 +186,10 @@ fn merge_bars<A: Allocator>(
 }
 
 /// One list of the bars of all parts, by key, those of one key made one.
-fn unite<A: Allocator + Clone>(alloc: A, parts: &[&[Bar]]) -> Result<Vec<Bar, A>, OutOfMemory>
+pub(crate) fn unite<A: Allocator + Clone>(
+    alloc: A,
+    parts: &[&[Bar]],
+) -> Result<Vec<Bar, A>, OutOfMemory>
     requires traded { All IsTraded (all_bars (map (λ part. part.now) parts.now)) }
     requires sums { AllSumsFit (all_bars (map (λ part. part.now) parts.now)) }
     ensures union { IfOk result

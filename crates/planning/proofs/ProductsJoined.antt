@@ -1,16 +1,19 @@
 -- What is listed of many lists of sales, joined: one listing, or one table.
-use Rattle.std.proofs.Common.{◌≡◌, ℕ, ◌<◌, All, List, [], ◌∷◌, Result, Ok, Err, IfOk, filter_map, map, nat_eq, IsPermutation, refl, sym, ap, ◌∙◌, subst}
+use Rattle.std.proofs.Common.{◌≡◌, ℕ, ◌<◌, All, List, [], ◌∷◌, ◌++◌, Result, Ok, Err, IfOk, filter_map, map, nat_eq, IsPermutation, refl, sym, ap, ◌∙◌, subst}
 use Rattle.std.proofs.Common.{arith}
 use Rattle.std.specs.List.{IsDistinct}
 use Rattle.std.proofs.lemmas.Bool.Decides.{nat_tests}
-use Rattle.std.proofs.lemmas.List.Elements.{All-weaker}
-use Rattle.std.proofs.lemmas.List.Sorted.{All-permutation, IsPermutation-append, IsPermutation-map, IsPermutation-refl, IsPermutation-trans}
+use Rattle.std.proofs.lemmas.List.Elements.{All-append, All-cons, All-head, All-nil, All-tail, All-weaker}
+use Rattle.std.proofs.lemmas.List.Sorted.{All-permutation, IsPermutation-append, IsPermutation-map, IsPermutation-refl, IsPermutation-sym, IsPermutation-trans}
 use Rattle.std.proofs.lemmas.Map.Keys.{IsDistinct-IsPermutation}
 use Rattle.lists.specs.declared.limits.TheConstants.{TIME_LIMIT}
 use Rattle.probe.specs.declared.rows.Sale.{Sale}
-use Rattle.bars.specs.Bars.{AllSumsFit, AreBarsOfEach, IsTraded, all_bars, all_sales}
+use Rattle.bars.specs.Bars.{AllSumsFit, AreBarsOfEach, IsTraded, IsUnionOf, all_bars, all_sales}
+use Rattle.bars.specs.Texts.{IsWritable}
 use Rattle.bars.specs.declared.bar.Bar.{Bar}
-use Rattle.bars.proofs.SumsAreBounded.{all_sums_fit}
+use Rattle.bars.proofs.JoinedTables.{union_of_bars}
+use Rattle.bars.proofs.SumsAreBounded.{all_sums_fit, table_is_writable}
+use Rattle.time_and_sales.specs.Listings.{IsByPlace}
 use Rattle.query.specs.Meaning.{Meaning}
 use Rattle.query.specs.declared.query.What.{What}
 use Rattle.query.specs.declared.query.What.TheVariants.{Sales, Bars}
@@ -20,7 +23,7 @@ use Rattle.answers.specs.Messages.{Placed}
 use Rattle.buckets.specs.FoundRows.{TotalView}
 use Rattle.buckets.specs.Products.{bars_of, by_place, product_of}
 use Rattle.buckets.specs.declared.product.Product.{Product}
-use Rattle.buckets.proofs.ProductsOfSales.{bars_of_are, by_place_is}
+use Rattle.buckets.proofs.ProductsOfSales.{bars_of_are, by_place_is, by_place_rises}
 use Rattle.planning.specs.Gathered.{AreGatheredOf, AreProductsOf, listing_of, table_of}
 use Rattle.planning.proofs.BucketsOfMessages.{lists_in, lists_listable, products_found}
 
@@ -93,3 +96,51 @@ gathered_products query total names messages what products of is same = record {
   are = same ∙ ap (λ (t : TotalView). t.products) of.total_is ∙ products_found of.parts query messages
       ∙ ap (λ w. map (product_of w) (lists_in of.parts query messages)) is;
 }
+
+-- ---- what is told of all at once
+
+all_left : {X : Type 0} (P : X → Type 0) (xs ys : List X) → All P (xs ++ ys) → All P xs
+all_left P [] ys all = All-nil P
+all_left P (x ∷ xs) ys all = All-cons P x xs (All-head P x (xs ++ ys) all) (all_left P xs ys (All-tail P x (xs ++ ys) all))
+
+all_right : {X : Type 0} (P : X → Type 0) (xs ys : List X) → All P (xs ++ ys) → All P ys
+all_right P [] ys all = all
+all_right P (x ∷ xs) ys all = all_right P xs ys (All-tail P x (xs ++ ys) all)
+
+-- each bar of tables of some sales starts before a limit of their times
+starts_fit : (width : ℕ) (lists : List (List Sale)) (tables : List (List Bar)) → AreBarsOfEach width lists tables → All IsTraded (all_bars tables)
+    → All (λ sale. sale.time < TIME_LIMIT) (all_sales lists) → All (λ bar. bar.start < TIME_LIMIT) (all_bars tables)
+starts_fit width [] [] are traded times = All-nil (λ (bar : Bar). bar.start < TIME_LIMIT)
+starts_fit width [] (table ∷ tables) are traded times = absurd are
+starts_fit width (sales ∷ lists) [] are traded times = absurd are
+starts_fit width (sales ∷ lists) (table ∷ tables) are traded times =
+    let fits = λ (s : Sale). s.time < TIME_LIMIT in
+    let here = table_is_writable width sales table are.0 (all_left IsTraded table (all_bars tables) traded) (all_left fits sales (all_sales lists) times) in
+    All-append (λ (bar : Bar). bar.start < TIME_LIMIT) table (all_bars tables)
+    (All-weaker IsWritable (λ (bar : Bar). bar.start < TIME_LIMIT) (λ bar fit. fit.0) table here)
+    (starts_fit width lists tables are.1 (all_right IsTraded table (all_bars tables) traded) (all_right fits sales (all_sales lists) times))
+
+pub tables_starts : (width : ℕ) (lists : List (List Sale)) (products : List Product) (tables : List (List Bar)) → AreProductsOf (Bars width) lists products
+    → tables ≡ filter_map table_of products → All IsTraded (all_bars tables) → All (λ bar. bar.start < TIME_LIMIT) (all_bars tables)
+tables_starts width lists products tables of same traded =
+    starts_fit width lists tables (tables_are width lists products tables of same) traded (times_fit (all_sales lists) of.listable.stamped)
+
+-- the table of all sales is the union of the tables of each list
+pub tables_union : (width : ℕ) (lists : List (List Sale)) (products : List Product) (tables : List (List Bar)) → AreProductsOf (Bars width) lists products
+    → tables ≡ filter_map table_of products → IsUnionOf (all_bars tables) (bars_of width (all_sales lists))
+tables_union width lists products tables of same =
+    union_of_bars width lists tables (bars_of width (all_sales lists)) (tables_are width lists products tables of same) (bars_of_are width (all_sales lists))
+
+pub listing_of_all : (lists : List (List Sale)) (products : List Product) (listings : List (List Sale)) → AreProductsOf Sales lists products
+    → listings ≡ filter_map listing_of products → IsPermutation (all_sales listings) (by_place (all_sales lists))
+listing_of_all lists products listings of same =
+    IsPermutation-trans (all_sales listings) (all_sales lists) (by_place (all_sales lists))
+    (IsPermutation-sym (all_sales lists) (all_sales listings) (listings_are lists products listings of same)) (by_place_is (all_sales lists))
+
+pub all_listed_rises : (lists : List (List Sale)) (products : List Product) → AreProductsOf Sales lists products → IsByPlace (by_place (all_sales lists))
+all_listed_rises lists products of = by_place_rises (all_sales lists) of.listable.apart
+
+pub listings_times : (lists : List (List Sale)) (products : List Product) (listings : List (List Sale)) → AreProductsOf Sales lists products
+    → listings ≡ filter_map listing_of products → All (λ sale. sale.time < TIME_LIMIT) (all_sales listings)
+listings_times lists products listings of same =
+    listing_fits lists products listings (all_sales listings) of same (IsPermutation-refl (all_sales listings))

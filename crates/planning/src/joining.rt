@@ -43,7 +43,7 @@ pub fn answer_of(
 }
 
 /// The first fault in the references.
-fn fault_of(total: &BucketTotal) -> Option<DayFault>
+pub(crate) fn fault_of(total: &BucketTotal) -> Option<DayFault>
     ensures { result ≡ fault_from total.now.repeated total.now.unknown }
 {
     match (total.repeated(), total.unknown()) {
@@ -108,7 +108,7 @@ fn text_of_tables(
 }
 
 /// The tables among what is listed.
-fn tables<'a>(
+pub(crate) fn tables<'a>(
     alloc: Global,
     products: &'a [Arc<Product, Global>],
 ) -> Result<Vec<&'a BarTable>, OutOfMemory>

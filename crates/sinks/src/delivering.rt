@@ -1,8 +1,10 @@
 //! A whole text written to a sink.
-ghost use Rattle.std.specs.Prelude.{◌≡◌, ◌≤◌, false, length, take, is_err, IfErr, OnOk};
+ghost use Rattle.std.specs.Prelude.{◌≡◌, ◌<◌, ◌≤◌, ◌^◌, false, length, take, is_err, IfErr, IfOk, OnOk};
+ghost use Rattle.std.specs.List.{flat_map};
 
 use crate::sink::Sink;
 use day_file::DeviceFailed;
+use std::alloc::Allocator;
 
 /// A sink failed, and had taken the first `written` bytes of the text.
 #[derive(Clone, Copy, Debug, PartialEq, Eq)]
@@ -26,6 +28,55 @@ pub fn deliver<K: Sink>(sink: &mut K, text: &[u8]) -> Result<(), WriteFailed>
             written: text.len() as u64,
         }),
     }
+}
+
+/// Writes a whole text that lies in pieces, one after another, and passes it on.
+pub fn deliver_pieces<K: Sink, A: Allocator>(
+    sink: &mut K,
+    pieces: &[Vec<u8, A>],
+) -> Result<(), WriteFailed>
+    requires whole { K.has_failed sink.old ≡ false }
+    requires short { length (flat_map (λ piece. piece.items) pieces.now) < 2 ^ 64 }
+    ensures ok { OnOk result (K.Took sink.old sink.new (flat_map (λ piece. piece.items) pieces.now)) }
+    ensures flushed { OnOk result (K.HasFlushed sink.new) }
+    ensures written { IfErr result (λ refused.
+        refused.written ≤ length (flat_map (λ piece. piece.items) pieces.now)) }
+    ensures took { IfErr result (λ refused. K.Took sink.old sink.new
+        (take refused.written (flat_map (λ piece. piece.items) pieces.now))) }
+    ensures failed { K.has_failed sink.new ≡ is_err result }
+{
+    let written = put_pieces(sink, pieces)?;
+    if sink.flush().is_err() {
+        return Err(WriteFailed { written });
+    }
+    Ok(())
+}
+
+/// Writes all pieces, and tells how many bytes they have.
+fn put_pieces<K: Sink, A: Allocator>(
+    sink: &mut K,
+    pieces: &[Vec<u8, A>],
+) -> Result<u64, WriteFailed>
+    requires whole { K.has_failed sink.old ≡ false }
+    requires short { length (flat_map (λ piece. piece.items) pieces.now) < 2 ^ 64 }
+    ensures ok { OnOk result (K.Took sink.old sink.new (flat_map (λ piece. piece.items) pieces.now)) }
+    ensures count { IfOk result (λ count. count ≡ length (flat_map (λ piece. piece.items) pieces.now)) }
+    ensures written { IfErr result (λ refused.
+        refused.written ≤ length (flat_map (λ piece. piece.items) pieces.now)) }
+    ensures took { IfErr result (λ refused. K.Took sink.old sink.new
+        (take refused.written (flat_map (λ piece. piece.items) pieces.now))) }
+    ensures failed { K.has_failed sink.new ≡ is_err result }
+{
+    let mut written = 0;
+    for piece in pieces {
+        match put_all(sink, piece.as_slice()) {
+            Ok(()) => written += piece.len() as u64,
+            Err(refused) => return Err(WriteFailed {
+                written: written + refused.written,
+            }),
+        }
+    }
+    Ok(written)
 }
 
 fn put_all<K: Sink>(sink: &mut K, text: &[u8]) -> Result<(), WriteFailed>

@@ -7,5 +7,5 @@ mod sink;
 
 pub use counted_sink::CountedSink;
 pub use day_file::DeviceFailed;
-pub use delivering::{WriteFailed, deliver};
+pub use delivering::{WriteFailed, deliver, deliver_pieces};
 pub use sink::Sink;

@@ -1,5 +1,8 @@
 pub mod DigitsJoined
 pub mod LastRows
+pub mod MadeTexts
 pub mod MergedListings
+pub mod RangesJoined
+pub mod SalesInRanges
 pub mod SortedByPlace
 pub mod TrailingSpaces

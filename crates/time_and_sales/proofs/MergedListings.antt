@@ -36,7 +36,7 @@ parts_give gives h (p ∷ parts) = ((λ j g. (YieldsList-from_vec p.items (h p j
 not_before : (a b : Sale) → place_cmp a b ≡ Less → before b a ≡ false
 not_before a b h = grind (arith, nat_tests)
 
-in_order_by : (sales : List Sale) → IsByPlace sales → (k : ℕ) (d : Sale) → k + 1 < length sales → before (get_or sales (k + 1) d) (get_or sales k d) ≡ false
+pub in_order_by : (sales : List Sale) → IsByPlace sales → (k : ℕ) (d : Sale) → k + 1 < length sales → before (get_or sales (k + 1) d) (get_or sales k d) ≡ false
 in_order_by [] up k d h = absurd (omega arith)
 in_order_by (sale ∷ sales) up zero d h =
     not_before sale (get_or sales 0 d)

@@ -1,0 +1,14 @@
+use Rattle.std.proofs.Common.{◌++◌, ap₂, get_or, ◌∙◌}
+use Rattle.probe.specs.declared.rows.Kind.TheVariants.{E}
+use Rattle.probe.specs.declared.rows.Sale.{Sale}
+use Rattle.time_and_sales.specs.Names.{last_row, name_text}
+use Rattle.time_and_sales.specs.Texts.{sale_line}
+use Rattle.time_and_sales.proofs.SalesInRanges.{lines_more}
+use Rattle.time_and_sales.proofs.ranges.lines.Goals as goal
+
+pub loop-sale-preserved : goal.loop-sale-preserved
+loop-sale-preserved c =
+    let nothing : Sale = record { place = 0; time = 0; locate = 0; kind = E; price = 0; shares = 0; trade_no = 0 } in
+    c.in_ok-write_sale.ensures.ok
+    ∙ ap₂ (λ l name. l ++ sale_line (get_or c.args.sales.now c.loop-sale.sale-index nothing) name) c.loop-sale.invariant c.name.ensures
+    ∙ lines_more (λ locate. name_text locate (last_row c.args.names.now locate)) c.args.sales.now c.loop-sale.sale-index nothing c.loop-sale-test.true

@@ -1,0 +1,25 @@
+use Rattle.std.proofs.Common.{ℕ, List, ◌<◌, ◌∙◌, All, ap, subst, sym}
+use Rattle.std.proofs.lemmas.Result.{IfOk-weaker}
+use Rattle.lists.specs.declared.limits.TheConstants.{TIME_LIMIT}
+use Rattle.probe.specs.declared.rows.Sale.{Sale}
+use Rattle.time_and_sales.specs.Names.{last_row, name_text}
+use Rattle.time_and_sales.specs.Parted.{is_in_first}
+use Rattle.time_and_sales.specs.Texts.{lines_text}
+use Rattle.time_and_sales.proofs.SalesInRanges.{listed, range_has, range_is}
+use Rattle.time_and_sales.proofs.ranges.range_lines.Goals as goal
+
+pub lines-requires : goal.lines-requires
+lines-requires c =
+    let p = is_in_first (λ (s : Sale). s.place) c.args.bounds.now in
+    subst (All (λ (s : Sale). s.time < TIME_LIMIT)) (sym c.as_slice.ensures.value)
+    (range_has (λ (s : Sale). s.time < TIME_LIMIT) p (listed c.args.listings.now) c.in_ok-sales.sales.items c.requires.times c.in_ok-sales.ensures.permutation)
+
+pub returns : goal.returns
+returns c =
+    let p = is_in_first (λ (s : Sale). s.place) c.args.bounds.now in
+    let name : ℕ → List ℕ = λ locate. name_text locate (last_row c.args.names.now locate) in
+    IfOk-weaker c.lines.result _ _ (λ text e all up perm.
+    e ∙ ap (lines_text name)
+    (c.as_slice.ensures.value
+    ∙ range_is p (listed c.args.listings.now) all c.in_ok-sales.sales.items up perm c.in_ok-sales.ensures.by_place c.in_ok-sales.ensures.permutation))
+    c.lines.ensures

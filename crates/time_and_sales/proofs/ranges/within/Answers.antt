@@ -1,0 +1,13 @@
+use Rattle.std.proofs.Common.{not, filter, get_or, ltb, sym, ap, ◌∙◌, arith}
+use Rattle.probe.specs.declared.rows.Sale.{Sale}
+use Rattle.time_and_sales.proofs.RangesJoined.{no_bound, two_bounds}
+use Rattle.time_and_sales.proofs.ranges.within.Goals as goal
+
+pub returns-in-empty : goal.returns-in-empty
+returns-in-empty c = sym (no_bound (λ (s : Sale). s.place) c.args.bounds.now c.args.sales.now (omega (arith, c.in-empty.len_below)))
+
+pub returns-in-len2-up : goal.returns-in-len2-up
+returns-in-len2-up c =
+    let bounds = c.args.bounds.now in
+    c.from-in-len2-up.ensures ∙ ap (filter (λ (s : Sale). not (ltb s.place (get_or bounds 0 0)))) c.below.ensures.value
+    ∙ two_bounds (λ (s : Sale). s.place) bounds c.args.sales.now (omega (arith, c.in-len2-up.len_at_least))

@@ -1,0 +1,184 @@
+//! The lines of many listings, of ranges of places by threads.
+ghost use Rattle.std.specs.Prelude.{◌≡◌, ◌<◌, ◌≤◌, All, IfOk, List, drop, filter, length, map, nat_eq, nat_lt, not, slice_index};
+ghost use Rattle.std.specs.List.{IsDistinct, flat_map};
+ghost use Rattle.std.specs.List.Sorted.{IsNonDecreasing, IsPermutation};
+ghost use Rattle.lists.specs.declared.limits.TheConstants.{TIME_LIMIT};
+ghost use Rattle.probe.specs.declared.rows.Sale.{Sale};
+ghost use Rattle.time_and_sales.specs.Listings.{IsByPlace};
+ghost use Rattle.time_and_sales.specs.Names.{last_row, name_text};
+ghost use Rattle.time_and_sales.specs.Parted.{is_in_first};
+ghost use Rattle.time_and_sales.specs.Texts.{lines_text};
+
+use crate::OutOfMemory;
+use crate::directory::Names;
+use crate::listings::Listing;
+use crate::pieces::{bounds_of, texts_of};
+use crate::texts::write_sale;
+use probe::Sale;
+use std::alloc::Global;
+use std::thread::Threads;
+
+/// The lines of the sales of all listings, by place, in pieces that stand for one text when they are
+/// joined. There are so many pieces, or one: each is of the sales in a range of places, which a thread
+/// of its own puts in order and writes. It is refused if a thread was refused memory.
+pub fn lines_in_ranges<R: Threads + Sync>(
+    rt: &R,
+    alloc: Global,
+    listings: &[&Listing],
+    names: &Names,
+    ranges: u32,
+) -> Result<Vec<Vec<u8>>, OutOfMemory>
+    requires apart { IsDistinct nat_eq (map (λ sale. sale.place)
+        (flat_map (λ listing. listing) (map (λ listing. listing.now) listings.now))) }
+    requires times { All (λ sale. sale.time < TIME_LIMIT)
+        (flat_map (λ listing. listing) (map (λ listing. listing.now) listings.now)) }
+    ensures { IfOk result (λ texts. (all : List Sale) → IsByPlace all →
+        IsPermutation (flat_map (λ listing. listing) (map (λ listing. listing.now) listings.now)) all →
+        flat_map (λ text. text.items) texts.items
+        ≡ lines_text (λ locate. name_text locate (last_row names.now locate)) all) }
+{
+    let places = places_of(alloc, longest(listings), ranges)?;
+    let bounds = bounds_of(alloc, places.as_slice())?;
+    lines_from(rt, alloc, listings, names, bounds.as_slice())
+}
+
+/// The sales of the longest listing.
+fn longest<'a>(listings: &[&'a Listing]) -> &'a [Sale] {
+    let mut longest: &[Sale] = &[];
+    for listing in listings {
+        if longest.len() < listing.items().len() {
+            longest = listing.items();
+        }
+    }
+    longest
+}
+
+/// The places at which so many parts of the sales, one as long as the other, begin; but not the first.
+fn places_of(alloc: Global, sales: &[Sale], parts: u32) -> Result<Vec<u64>, OutOfMemory> {
+    let mut places = Vec::new(alloc);
+    for part in 1..parts {
+        let before = sales.len() / parts as usize * part as usize;
+        if let Some(sale) = sales.get(before) {
+            places.push(sale.place)?;
+        }
+    }
+    Ok(places)
+}
+
+/// The lines of the sales of all listings, in a piece for each bound: those from this bound on and
+/// below the next.
+fn lines_from<R: Threads + Sync>(
+    rt: &R,
+    alloc: Global,
+    listings: &[&Listing],
+    names: &Names,
+    bounds: &[u64],
+) -> Result<Vec<Vec<u8>>, OutOfMemory>
+    requires apart { IsDistinct nat_eq (map (λ sale. sale.place)
+        (flat_map (λ listing. listing) (map (λ listing. listing.now) listings.now))) }
+    requires times { All (λ sale. sale.time < TIME_LIMIT)
+        (flat_map (λ listing. listing) (map (λ listing. listing.now) listings.now)) }
+    requires some { 0 < length bounds.now }
+    requires first { slice_index bounds.now 0 ≡ 0 }
+    requires rise { IsNonDecreasing bounds.now }
+    ensures { IfOk result (λ texts. (all : List Sale) → IsByPlace all →
+        IsPermutation (flat_map (λ listing. listing) (map (λ listing. listing.now) listings.now)) all →
+        flat_map (λ text. text.items) texts.items
+        ≡ lines_text (λ locate. name_text locate (last_row names.now locate)) all) }
+{
+    texts_of(
+        rt,
+        alloc,
+        bounds.len(),
+        &|i: usize| -> Result<Vec<u8>, OutOfMemory>
+            requires { (i < length bounds.now)
+                × IsDistinct nat_eq (map (λ sale. sale.place)
+                (flat_map (λ listing. listing) (map (λ listing. listing.now) listings.now)))
+                × All (λ sale. sale.time < TIME_LIMIT)
+                (flat_map (λ listing. listing) (map (λ listing. listing.now) listings.now)) }
+            ensures { IfOk result (λ text. (all : List Sale) → IsByPlace all →
+                IsPermutation (flat_map (λ listing. listing) (map (λ listing. listing.now) listings.entry.now)) all →
+                text.items ≡ lines_text (λ locate. name_text locate (last_row names.entry.now locate))
+                (filter (is_in_first (λ sale. sale.place) (drop i bounds.entry.now)) all)) }
+        { range_lines(alloc, listings, names, &bounds[i..]) },
+    )
+}
+
+/// The lines of the sales of all listings that are in the first range.
+fn range_lines(
+    alloc: Global,
+    listings: &[&Listing],
+    names: &Names,
+    bounds: &[u64],
+) -> Result<Vec<u8>, OutOfMemory>
+    requires apart { IsDistinct nat_eq (map (λ sale. sale.place)
+        (flat_map (λ listing. listing) (map (λ listing. listing.now) listings.now))) }
+    requires times { All (λ sale. sale.time < TIME_LIMIT)
+        (flat_map (λ listing. listing) (map (λ listing. listing.now) listings.now)) }
+    ensures { IfOk result (λ text. (all : List Sale) → IsByPlace all →
+        IsPermutation (flat_map (λ listing. listing) (map (λ listing. listing.now) listings.now)) all →
+        text.items ≡ lines_text (λ locate. name_text locate (last_row names.now locate))
+        (filter (is_in_first (λ sale. sale.place) bounds.now) all)) }
+{
+    let sales = range_of(alloc, listings, bounds)?;
+    lines(alloc, sales.as_slice(), names)
+}
+
+/// The sales of all listings that are in the first range, by place.
+fn range_of(alloc: Global, listings: &[&Listing], bounds: &[u64]) -> Result<Vec<Sale>, OutOfMemory>
+    requires apart { IsDistinct nat_eq (map (λ sale. sale.place)
+        (flat_map (λ listing. listing) (map (λ listing. listing.now) listings.now))) }
+    ensures permutation { IfOk result (λ sales. IsPermutation
+        (filter (is_in_first (λ sale. sale.place) bounds.now)
+        (flat_map (λ listing. listing) (map (λ listing. listing.now) listings.now))) sales.items) }
+    ensures by_place { IfOk result (λ sales. IsByPlace sales.items) }
+{
+    let mut sales = Vec::new(alloc);
+    for listing in listings {
+        sales.extend_from_slice(within(listing.items(), bounds))?;
+    }
+    sales.sort_by_key(|sale| sale.place)?;
+    Ok(sales)
+}
+
+/// The sales that are in the first range.
+fn within<'a>(sales: &'a [Sale], bounds: &[u64]) -> &'a [Sale]
+    requires { IsByPlace sales.now }
+    ensures { result.now ≡ filter (is_in_first (λ sale. sale.place) bounds.now) sales.now }
+{
+    match bounds {
+        [] => &[],
+        [low] => from(sales, *low),
+        [low, high, ..] => from(below(sales, *high), *low),
+    }
+}
+
+/// The sales whose places are below this one.
+fn below(sales: &[Sale], place: u64) -> &[Sale]
+    requires { IsByPlace sales.now }
+    ensures value { result.now ≡ filter (λ sale. nat_lt sale.place place) sales.now }
+    ensures by_place { IsByPlace result.now }
+{
+    &sales[..sales.partition_point(|sale| sale.place < place)]
+}
+
+/// The sales whose places are this one or greater.
+fn from(sales: &[Sale], place: u64) -> &[Sale]
+    requires { IsByPlace sales.now }
+    ensures { result.now ≡ filter (λ sale. not (nat_lt sale.place place)) sales.now }
+{
+    &sales[sales.partition_point(|sale| sale.place < place)..]
+}
+
+/// The lines of sales, each under the name of its locate.
+fn lines(alloc: Global, sales: &[Sale], names: &Names) -> Result<Vec<u8>, OutOfMemory>
+    requires { All (λ sale. sale.time < TIME_LIMIT) sales.now }
+    ensures { IfOk result (λ text. text.items
+        ≡ lines_text (λ locate. name_text locate (last_row names.now locate)) sales.now) }
+{
+    let mut text = Vec::new(alloc);
+    for sale in sales {
+        write_sale(&mut text, sale, &names.name(sale.locate))?;
+    }
+    Ok(text)
+}
