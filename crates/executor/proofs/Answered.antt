@@ -51,9 +51,13 @@ module _ (runs : List (List ℕ)) (query : Meaning) (parts : ℕ) (are : AreRuns
   abbrev pub given : Pair
   given = outcome_of total_found (linked_to (link runs query parts) (total_of (inputs_of query.as_of parts runs)))
 
+  pub given_of : (total : ScanTotalView) (to : LinkView) (r : Pair) → total ≡ total_of (inputs_of query.as_of parts runs) → to ≡ link runs query parts
+      → r ≡ outcome_of total_found (linked_to to total) → r ≡ given
+  given_of total to r same linked is = is ∙ (λ i. outcome_of total_found (linked_to (linked i) (same i)))
+
   pub given_by : (inputs : List ScanInputView) (to : LinkView) (r : Pair) → inputs ≡ inputs_of query.as_of parts runs → to ≡ link runs query parts
       → r ≡ outcome_of total_found (linked_to to (total_of inputs)) → r ≡ given
-  given_by inputs to r same linked is = is ∙ (λ i. outcome_of total_found (linked_to (linked i) (total_of (same i))))
+  given_by inputs to r same linked is = given_of (total_of inputs) to r (ap total_of same) linked is
 
   abbrev found : Pair
   found = pair.Finished (total_found (buckets runs query parts)) (all_directory scanned.morsels)

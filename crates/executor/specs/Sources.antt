@@ -1,30 +1,53 @@
--- The answer to a query over what is read of a source, as a step of a run.
+-- The steps of a run: the query of its words, the answer over what is read of a source, and what is handed to a sink.
 -- Derived: what is promised of a run is `Ran`.
-use Rattle.std.specs.Prelude.{◌≡◌, ℕ, List, Result, Bool, true, false}
+use Rattle.std.specs.Prelude.{◌≡◌, ℕ, ◌≤◌, List, length, take, Some, Result, Ok, Err}
 use Rattle.answers.specs.Answers.{IsAnswer}
+use Rattle.query.specs.Faults.{first_query_fault}
 use Rattle.query.specs.Meaning.{Meaning}
-use Rattle.streaming.specs.Streams.{GaveAll, GaveMore, GaveSome, HasTooMany}
+use Rattle.query.specs.Words.{words_of}
 use Rattle.answers.specs.declared.day_fault.DayFault.{DayFault}
-use Rattle.executor.specs.Runs.{IsTruncatedOrFew}
+use Rattle.executor.specs.Readings.{Reading}
 use Rattle.executor.specs.declared.run_fault.RunFault.{RunFault}
 use Rattle.executor.specs.declared.run_fault.RunFault.TheVariants as fault
 
-module _ {S : Type 0} (Gave : S → S → List ℕ → Type 0) (HasEnded : S → Type 0) (has_failed : S → Bool)
-    (limit target : ℕ) (before after : S) where
-  -- all was read, and this is the answer to the query over it
-  pub record AnswersSource (query : Meaning) (answer : Result (List ℕ) DayFault) : Type 0 where
-    pub day : List ℕ
-    pub read : GaveAll Gave HasEnded limit before after day
-    pub few : IsTruncatedOrFew target day
-    pub answers : IsAnswer day query answer
-    pub fine : has_failed after ≡ false
+-- what a refusal says of the words that should be a query
+abbrev pub IsQueryRefusal : List ℕ → RunFault → Type 0
+IsQueryRefusal words (fault.Query f) = first_query_fault (words_of words) ≡ Some f
+IsQueryRefusal words fault.OutOfMemory = Unit {0}
+IsQueryRefusal words _ = ⊥
 
-  -- what a refusal says of the source, which failed exactly where the refusal says so
-  abbrev pub IsSourceRefusal : RunFault → Type 0
-  IsSourceRefusal fault.ReadFailed = GaveSome Gave limit before after × (has_failed after ≡ true)
-  IsSourceRefusal (fault.TooLong most) = GaveMore Gave limit before after × (most ≡ limit) × (has_failed after ≡ false)
-  IsSourceRefusal fault.TooManyMorsels =
-      ((day : List ℕ) × GaveAll Gave HasEnded limit before after day × HasTooMany target day)
-      × (has_failed after ≡ false)
-  IsSourceRefusal fault.OutOfMemory = GaveSome Gave limit before after × (has_failed after ≡ false)
-  IsSourceRefusal _ = ⊥
+-- all was read, and this is the answer to the query over it
+pub record IsAnswered (reading : Reading) (query : Meaning) (answer : Result (List ℕ) DayFault) : Type 0 where
+  pub day : List ℕ
+  pub read : reading.all day
+  pub answers : IsAnswer day query answer
+
+-- what a refusal says of the source
+abbrev pub IsSourceRefusal : Reading → ℕ → RunFault → Type 0
+IsSourceRefusal reading limit fault.ReadFailed = reading.failed
+IsSourceRefusal reading limit (fault.TooLong most) = reading.longer × (most ≡ limit)
+IsSourceRefusal reading limit fault.TooManyMorsels = reading.too_many
+IsSourceRefusal reading limit fault.OutOfMemory = reading.some
+IsSourceRefusal reading limit _ = ⊥
+
+module _ {K : Type 0} (Took : K → K → List ℕ → Type 0) (HasFlushed : K → Type 0) (before after : K) where
+  -- the answer is a text, which the sink took and passed on
+  pub record IsWritten (answer : Result (List ℕ) DayFault) : Type 0 where
+    pub text : List ℕ
+    pub is : answer ≡ Ok text
+    pub took : Took before after text
+    pub flushed : HasFlushed after
+
+  -- the answer is a text, of which the sink took the first bytes
+  pub record IsWrittenInPart (answer : Result (List ℕ) DayFault) (written : ℕ) : Type 0 where
+    pub text : List ℕ
+    pub is : answer ≡ Ok text
+    pub within : written ≤ length text
+    pub took : Took before after (take written text)
+
+  -- the sink has the text, or its first bytes; or the answer is a fault, and the sink was left alone
+  abbrev pub IsHandedOver : Result (List ℕ) DayFault → Result (Unit {0}) RunFault → Type 0
+  IsHandedOver answer (Ok done) = IsWritten answer
+  IsHandedOver answer (Err (fault.Day f)) = (answer ≡ Err f) × (after ≡ before)
+  IsHandedOver answer (Err (fault.WriteFailed written)) = IsWrittenInPart answer written
+  IsHandedOver answer (Err _) = ⊥

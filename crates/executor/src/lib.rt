@@ -7,9 +7,11 @@ mod run_fault;
 mod settings;
 
 pub use answers::{Answer, DayFault, Text, one_answer};
+pub use block_scan::{BlockSource, FileBlocks, Memory};
 pub use calls::answer::answer;
 pub use calls::rehearse::{Rehearsal, rehearse};
 pub use calls::run::run;
+pub use calls::run_blocks::run_blocks;
 pub use day_file::{Counted, Cut, DayFile, DeviceFailed, LONGEST_FILE, Source};
 pub use laws::{all_arrived_answers, each_once_answers, one_rehearsal};
 pub use lists::OutOfMemory;

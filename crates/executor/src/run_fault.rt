@@ -16,8 +16,8 @@ pub enum RunFault {
     /// The source gave more than `limit` bytes.
     #[error("file is longer than {limit} bytes")]
     TooLong { limit: u64 },
-    /// The day file isn't truncated, and has more than 65,536 morsels of the size that the settings ask
-    /// for.
+    /// The day file isn't truncated, is cut while it is read, and has more than 65,536 morsels of the size
+    /// that the settings ask for.
     #[error("more than {MOST_MORSELS} morsels")]
     TooManyMorsels,
     /// The day file has a fault.

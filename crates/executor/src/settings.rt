@@ -5,13 +5,14 @@ ghost use Rattle.lists.specs.declared.limits.TheConstants.{MOST_PARTITIONS};
 use pipelines::Crew;
 
 /// How a query is answered. The crew, the morsel and the parts have effect on speed and memory alone: no
-/// text of an answer and no fault of a day depends on them. A file whose morsels are too many for the
-/// target is refused, in place of an answer.
+/// text of an answer and no fault of a day depends on them. A file that is cut while it is read, and whose
+/// morsels are too many for the target, is refused, in place of an answer.
 #[derive(Clone, Copy, Debug, PartialEq, Eq)]
 pub struct Settings {
     /// How many threads work, and how many gather what they find.
     pub crew: Crew,
-    /// The least size of a morsel, in bytes: 1 to 1,073,741,824. What a thread takes at once is one.
+    /// The least size of a morsel, in bytes: 1 to 1,073,741,824. What a thread takes at once is one. A file
+    /// that is read at places is not cut into morsels, and the size has no part in it.
     pub morsel: u64,
     /// How many partitions the order references are divided into: 1 to 256.
     pub parts: u32,

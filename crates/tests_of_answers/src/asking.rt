@@ -59,7 +59,7 @@ pub fn told_by_plain(
 ) -> Result<Result<Vec<u8>, DayFault>, Fail> {
     let query = asked(rt, alloc, text)?;
     match plain(alloc, &file_of(bytes)?, &query)? {
-        Answer::Printed(text) => Ok(Ok(text.into_vec())),
+        Answer::Printed(text) => Ok(Ok(text.joined(alloc)?)),
         Answer::Faulty(fault) => Ok(Err(fault)),
     }
 }

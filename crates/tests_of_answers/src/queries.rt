@@ -36,7 +36,7 @@ pub fn is_answered<R: Abort + Threads + Wait + Sync>(
         (Err(fault), Err(want)) => assert!(rt; *fault == want, "{forms:?}"),
         _ => assert!(rt; false, "{forms:?}"),
     }
-    for workers in [1, 2, 64] {
+    for workers in [1, 2, 3, 64] {
         let (told, written) = told_by_run(rt, alloc, text, &bytes, workers);
         match &plain {
             Ok(text) => {

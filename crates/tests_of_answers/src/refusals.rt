@@ -20,7 +20,7 @@ fn told_within<'a>(
     let query = asked(rt, heap, QUERY)?;
     match plain(heap, &DayFile::of_bytes(bytes), &query)? {
         Answer::Printed(text) => Ok(text),
-        Answer::Faulty(_) => Ok(Text::of(Vec::new(heap))),
+        Answer::Faulty(_) => Text::of(Vec::new(heap)),
     }
 }
 
@@ -31,7 +31,10 @@ fn a_refused_growth_is_told_by_plain(rt: HostRuntime) -> Result<(), Fail> {
     for step in 0..400u32 {
         let heap = LocalHeap::new(rt.alloc(), step as usize * 16)?;
         match told_within(&rt, &heap, bytes.as_slice()) {
-            Ok(text) => assert!(rt; text.items() == NAMED_TEXT.as_bytes(), "at {step}"),
+            Ok(text) => {
+                let text = text.joined(rt.alloc())?;
+                assert!(rt; text.as_slice() == NAMED_TEXT.as_bytes(), "at {step}");
+            }
             Err(OutOfMemory) => refused = step,
         }
     }

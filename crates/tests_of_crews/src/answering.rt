@@ -18,10 +18,10 @@ pub const HEADER: &str = "time,symbol,kind,price,shares,number\n";
 /// The text, or the fault.
 pub type Told = Result<Vec<u8>, DayFault>;
 
-fn told_of(answer: Answer) -> Told {
+fn told_of(alloc: Global, answer: Answer) -> Result<Told, OutOfMemory> {
     match answer {
-        Answer::Printed(text) => Ok(text.into_vec()),
-        Answer::Faulty(fault) => Err(fault),
+        Answer::Printed(text) => Ok(Ok(text.joined(alloc)?)),
+        Answer::Faulty(fault) => Ok(Err(fault)),
     }
 }
 
@@ -32,7 +32,7 @@ pub fn text(alloc: Global, text: &str) -> Result<Told, OutOfMemory> {
 
 /// What `plain` tells.
 pub fn told_by_plain(alloc: Global, file: &DayFile, query: &Query) -> Result<Told, OutOfMemory> {
-    Ok(told_of(plain(alloc, file, query)?))
+    told_of(alloc, plain(alloc, file, query)?)
 }
 
 /// Two workers.
@@ -53,7 +53,7 @@ pub fn told_by<G: Gate, R: Threads + Wait + Sync>(
 ) -> Result<Told, OutOfMemory>
     requires { (0 < parts) × (parts ≤ MOST_PARTITIONS) }
 {
-    Ok(told_of(answer(rt, alloc, cut, query, parts, crew, gate)?))
+    told_of(alloc, answer(rt, alloc, cut, query, parts, crew, gate)?)
 }
 
 /// What `answer` tells of a query over these frames, with a morsel for each and so many partitions.

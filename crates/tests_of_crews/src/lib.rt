@@ -4,6 +4,8 @@
 #[cfg(test)]
 mod answering;
 #[cfg(test)]
+mod blocks;
+#[cfg(test)]
 mod days;
 #[cfg(test)]
 mod gatherers;

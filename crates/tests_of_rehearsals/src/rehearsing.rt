@@ -34,16 +34,16 @@ pub fn text(alloc: Global, text: &str) -> Result<Told, Fail> {
     Ok(Ok(Ok(Vec::from_slice(alloc, text.as_bytes())?)))
 }
 
-fn told_of(answer: Answer) -> Result<Vec<u8>, DayFault> {
+fn told_of(alloc: Global, answer: Answer) -> Result<Result<Vec<u8>, DayFault>, OutOfMemory> {
     match answer {
-        Answer::Printed(text) => Ok(text.into_vec()),
-        Answer::Faulty(fault) => Err(fault),
+        Answer::Printed(text) => Ok(Ok(text.joined(alloc)?)),
+        Answer::Faulty(fault) => Ok(Err(fault)),
     }
 }
 
 /// What `plain` tells.
 pub fn told_by_plain(alloc: Global, file: &DayFile, query: &Query) -> Result<Told, OutOfMemory> {
-    Ok(Ok(told_of(plain(alloc, file, query)?)))
+    Ok(Ok(told_of(alloc, plain(alloc, file, query)?)?))
 }
 
 /// What `rehearse` tells.
@@ -60,7 +60,7 @@ pub fn told_by(
         return Err(Fail::from("a test has a shape that no rehearsal has"));
     }
     match rehearse(alloc, cut, query, parts, gatherers, events1, events2)? {
-        Rehearsal::Finished(answer) => Ok(Ok(told_of(answer))),
+        Rehearsal::Finished(answer) => Ok(Ok(told_of(alloc, answer)?)),
         Rehearsal::Missing { pipeline, task } => Ok(Err((pipeline, task))),
     }
 }

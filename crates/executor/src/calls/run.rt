@@ -1,19 +1,21 @@
 ghost use Rattle.std.specs.Prelude.{◌≡◌, false, IfErr, IfOk};
 ghost use Rattle.std.specs.List.{concat};
 ghost use Rattle.answers.specs.Answers.{IsAnswer, told_by};
+ghost use Rattle.executor.specs.Readings.{of_stream};
 ghost use Rattle.executor.specs.Runs.{Ran, is_read_failed, is_write_failed};
-ghost use Rattle.executor.specs.Sources.{AnswersSource, IsSourceRefusal};
+ghost use Rattle.executor.specs.Sources.{IsAnswered, IsSourceRefusal};
 
 use crate::OutOfMemory;
 use crate::calls::answer::answer_inputs;
+use crate::calls::ends::{hand_over, query_of};
 use crate::run_fault::RunFault;
 use crate::settings::Settings;
 use answers::{Answer, DayFault};
 use day_file::Cut;
 use pipelines::FreeGate;
-use query::{Query, QueryFault, parse};
+use query::Query;
 use scanning::scan_inputs;
-use sinks::{Sink, WriteFailed, deliver};
+use sinks::Sink;
 use std::alloc::{AllocError, Global};
 use std::sync::Wait;
 use std::thread::Threads;
@@ -32,24 +34,14 @@ pub fn run<R: Threads + Wait + Sync, S: Source, K: Sink>(
 ) -> Result<(), RunFault>
     requires source { S.has_failed source.old ≡ false }
     requires sink { K.has_failed sink.old ≡ false }
-    ensures ran { Ran S.Gave S.HasEnded K.Took K.HasFlushed query_text.now
-        settings.limit settings.morsel source.old source.new sink.old sink.new result }
+    ensures ran { Ran (of_stream S.Gave S.HasEnded settings.limit settings.morsel source.old source.new)
+        K.Took K.HasFlushed query_text.now settings.limit sink.old sink.new result }
     ensures read_failed { S.has_failed source.new ≡ is_read_failed result }
     ensures write_failed { K.has_failed sink.new ≡ is_write_failed result }
 {
-    let query = match parse(alloc, query_text) {
-        Ok(query) => query,
-        Err(QueryFault::OutOfMemory) => return Err(RunFault::OutOfMemory),
-        Err(fault) => return Err(RunFault::Query(fault)),
-    };
-    match answer_source(rt, alloc, source, &query, settings) {
-        Ok(Answer::Printed(text)) => match deliver(sink, text.items()) {
-            Ok(()) => Ok(()),
-            Err(WriteFailed { written }) => Err(RunFault::WriteFailed { written }),
-        },
-        Ok(Answer::Faulty(fault)) => Err(RunFault::Day(fault)),
-        Err(fault) => Err(fault),
-    }
+    let query = query_of(alloc, query_text)?;
+    let answer = answer_source(rt, alloc, source, &query, settings)?;
+    hand_over(answer, sink)
 }
 
 /// The answer to a query over all that a source gives.
@@ -62,10 +54,11 @@ fn answer_source<R: Threads + Wait + Sync, S: Source>(
 ) -> Result<Answer, RunFault>
     requires { S.has_failed source.old ≡ false }
     ensures answers { IfOk result (λ answer.
-        AnswersSource S.Gave S.HasEnded S.has_failed settings.limit settings.morsel source.old source.new
+        IsAnswered (of_stream S.Gave S.HasEnded settings.limit settings.morsel source.old source.new)
         query.now (told_by answer)) }
-    ensures refused { IfErr result (IsSourceRefusal S.Gave S.HasEnded S.has_failed
-        settings.limit settings.morsel source.old source.new) }
+    ensures refused { IfErr result (IsSourceRefusal
+        (of_stream S.Gave S.HasEnded settings.limit settings.morsel source.old source.new) settings.limit) }
+    ensures read_failed { S.has_failed source.new ≡ is_read_failed result }
 {
     let limit = settings.limit;
     let cut = match read_cut(alloc, source, limit, settings.morsel) {

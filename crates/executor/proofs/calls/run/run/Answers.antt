@@ -1,53 +1,11 @@
-use Rattle.std.proofs.Common.{◌≤◌, ℕ, List, Result, length, take, refl, ap, subst}
-use Rattle.answers.specs.Answers.{IsAnswer, told_by}
-use Rattle.answers.specs.declared.day_fault.DayFault.{DayFault}
+use Rattle.executor.specs.Readings.{of_stream}
+use Rattle.executor.proofs.HandedOver.{ran}
+use Rattle.answers.specs.Answers.{told_by}
 use Rattle.executor.proofs.calls.run.run.Goals as goal
 
-pub returns-in-Ok-deliver-clause-ran : goal.returns-in-Ok-deliver-clause-ran
-returns-in-Ok-deliver-clause-ran g c =
-    let found = c.in-Ok-Printed.ensures.answers in
-    record {
-      text = c.in-Ok-Printed.text;
-      answers = record {
-        query = c.in-Ok.query;
-        day = found.day;
-        means = c.in-Ok.ensures.meaning;
-        read = found.read;
-        few = found.few;
-        answers = subst (λ (told : Result (List ℕ) DayFault). IsAnswer found.day c.in-Ok.query told) (ap told_by c.in-Ok-Printed.field-0-is) found.answers;
-      };
-      took = subst (g.K.Sink.Took c.args.sink.now c.deliver.new.sink) c.items.ensures c.in-Ok-deliver.ensures.ok;
-      flushed = c.in-Ok-deliver.ensures.flushed;
-    }
-
-pub returns-in-Ok-Faulty-clause-ran : goal.returns-in-Ok-Faulty-clause-ran
-returns-in-Ok-Faulty-clause-ran g c =
-    let found = c.in-Ok-Faulty.ensures.answers in (
-      record {
-        query = c.in-Ok.query;
-        day = found.day;
-        means = c.in-Ok.ensures.meaning;
-        read = found.read;
-        few = found.few;
-        answers = subst (λ (told : Result (List ℕ) DayFault). IsAnswer found.day c.in-Ok.query told) (ap told_by c.in-Ok-Faulty.field-0-is) found.answers;
-      },
-      refl,
-    )
-
-pub returns-in-Ok-Printed-clause-ran : goal.returns-in-Ok-Printed-clause-ran
-returns-in-Ok-Printed-clause-ran g c =
-    let found = c.in-Ok-Printed.ensures.answers in
-    record {
-      text = c.in-Ok-Printed.text;
-      answers = record {
-        query = c.in-Ok.query;
-        day = found.day;
-        means = c.in-Ok.ensures.meaning;
-        read = found.read;
-        few = found.few;
-        answers = subst (λ (told : Result (List ℕ) DayFault). IsAnswer found.day c.in-Ok.query told) (ap told_by c.in-Ok-Printed.field-0-is) found.answers;
-      };
-      within = subst (λ text. c.in-Err-deliver.field-0.written ≤ length text) c.items.ensures c.in-Err-deliver.ensures.written;
-      took = subst (λ text. g.K.Sink.Took c.args.sink.now c.deliver.new.sink (take c.in-Err-deliver.field-0.written text)) c.items.ensures
-          c.in-Err-deliver.ensures.took;
-    }
+pub returns-clause-ran : goal.returns-clause-ran
+returns-clause-ran g c =
+    let settings = c.args.settings in
+    ran (of_stream g.S.Source.Gave g.S.Source.HasEnded settings.limit settings.morsel c.args.source.now c.answer_source.new.source)
+    g.K.Sink.Took g.K.Sink.HasFlushed c.args.query_text.now settings.limit c.args.sink.now c.hand_over.new.sink
+    c.in_ok-query.query (told_by c.in_ok-answer.answer) c.in_ok-query.ensures.query c.in_ok-answer.ensures.answers c.hand_over.result c.hand_over.ensures.handed

@@ -1,0 +1,55 @@
+-- What is known of a source after a run, whichever kind of source it is.
+-- To be believed.
+use Rattle.std.specs.Prelude.{◌≡◌, ℕ, ◌≤◌, ◌⊎◌, List, length}
+use Rattle.lists.specs.declared.limits.TheConstants.{MOST_MORSELS}
+use Rattle.day_file.specs.Cuts.{IsCutBy}
+use Rattle.day_file.specs.Frames.{IsTruncatedAt}
+use Rattle.streaming.specs.Streams.{GaveAll, GaveMore, GaveSome, HasTooMany}
+use Rattle.block_scan.specs.Blocks.{GaveMoreAt, GaveWhole}
+
+-- each field is what is known where a run says so
+pub record Reading : Type 1 where
+  -- all that the source had to give, which isn't more than the limit, was read, and is these bytes
+  pub all : List ℕ → Type 0
+  -- it was read in part, or not at all
+  pub some : Type 0
+  -- it gave more than the limit
+  pub longer : Type 0
+  -- a call of it failed
+  pub failed : Type 0
+  -- all that it had to give has too many morsels
+  pub too_many : Type 0
+  -- nothing was read of it
+  pub untouched : Type 0
+
+-- these bytes are truncated, or their cut by the target has no more morsels than are allowed
+abbrev pub IsTruncatedOrFew : ℕ → List ℕ → Type 0
+IsTruncatedOrFew target day =
+    ((place : ℕ) × IsTruncatedAt day place)
+    ⊎ ((runs : List (List ℕ)) × IsCutBy target runs day × (length runs ≤ MOST_MORSELS))
+
+-- of a stream, whose bytes come in order and are cut by the target: S is its states, of which these were before and
+-- after. `Gave` says which bytes it gave from one state to a later one, and `HasEnded` that it said
+-- that no byte is left.
+abbrev pub of_stream : {S : Type 0} → (S → S → List ℕ → Type 0) → (S → Type 0) → ℕ → ℕ → S → S → Reading
+of_stream Gave HasEnded limit target before after = record {
+  all = λ day. GaveAll Gave HasEnded limit before after day × IsTruncatedOrFew target day;
+  some = GaveSome Gave limit before after;
+  longer = GaveMore Gave limit before after;
+  failed = GaveSome Gave limit before after;
+  too_many = (day : List ℕ) × GaveAll Gave HasEnded limit before after day × HasTooMany target day;
+  untouched = after ≡ before;
+}
+
+-- of a source that is read at places: S is sources. `GaveAt` says which bytes it gave to readings from a place on,
+-- `EndsAt` that a reading at a place found none there, and `FailsAt` that one failed. It has no state that a reading
+-- changes, and is cut into no morsels.
+abbrev pub of_blocks : {S : Type 0} → (S → ℕ → List ℕ → Type 0) → (S → ℕ → Type 0) → (S → ℕ → Type 0) → ℕ → S → Reading
+of_blocks GaveAt EndsAt FailsAt limit source = record {
+  all = GaveWhole GaveAt EndsAt limit source;
+  some = Unit {0};
+  longer = GaveMoreAt GaveAt limit source;
+  failed = (place : ℕ) × FailsAt source place;
+  too_many = ⊥;
+  untouched = Unit {0};
+}

@@ -1,0 +1,80 @@
+ghost use Rattle.std.specs.Prelude.{◌≡◌, false, IfErr, IfOk};
+ghost use Rattle.answers.specs.Answers.{told_by};
+ghost use Rattle.executor.specs.Readings.{of_blocks};
+ghost use Rattle.executor.specs.Runs.{Ran, is_write_failed};
+ghost use Rattle.executor.specs.Sources.{IsAnswered, IsSourceRefusal};
+
+use crate::calls::answer::answer_scans;
+use crate::calls::ends::{hand_over, query_of};
+use crate::run_fault::RunFault;
+use crate::settings::Settings;
+use answers::{Answer, DayFault};
+use block_scan::{BlockSource, BlocksFault, scan_blocks};
+use query::Query;
+use sinks::Sink;
+use std::alloc::{AllocError, Global};
+use std::sync::Wait;
+use std::thread::Threads;
+
+/// Answers a query over a whole day file that is read at places, as `run` does over one that is read in
+/// order: its blocks are read and scanned at once, by as many threads as the crew has workers, and their
+/// bytes are not kept. The answer is that of the bytes that were read, each once. `length` is how many bytes
+/// the file is expected to have; it has effect on speed alone, and so has the crew. The morsel of the
+/// settings has no part in it.
+///
+/// Nothing is written before every refusal but that of the sink is past. It waits for the threads.
+pub fn run_blocks<R: Threads + Wait + Sync, S: BlockSource + Sync, K: Sink>(
+    rt: &R,
+    alloc: Global,
+    source: &S,
+    length: u64,
+    query_text: &str,
+    settings: Settings,
+    sink: &mut K,
+) -> Result<(), RunFault>
+    requires { K.has_failed sink.old ≡ false }
+    ensures ran { Ran (of_blocks S.GaveAt S.EndsAt S.FailsAt settings.limit source.now)
+        K.Took K.HasFlushed query_text.now settings.limit sink.old sink.new result }
+    ensures write_failed { K.has_failed sink.new ≡ is_write_failed result }
+{
+    let query = query_of(alloc, query_text)?;
+    let answer = answer_blocks(rt, alloc, source, length, &query, settings)?;
+    hand_over(answer, sink)
+}
+
+/// The answer to a query over all that a source gives at places.
+fn answer_blocks<R: Threads + Wait + Sync, S: BlockSource + Sync>(
+    rt: &R,
+    alloc: Global,
+    source: &S,
+    length: u64,
+    query: &Query,
+    settings: Settings,
+) -> Result<Answer, RunFault>
+    ensures answers { IfOk result (λ answer. IsAnswered
+        (of_blocks S.GaveAt S.EndsAt S.FailsAt settings.limit source.now) query.now (told_by answer)) }
+    ensures refused { IfErr result (IsSourceRefusal
+        (of_blocks S.GaveAt S.EndsAt S.FailsAt settings.limit source.now) settings.limit) }
+{
+    let Settings {
+        crew,
+        parts,
+        limit,
+        ..
+    } = settings;
+    let as_of = query.as_of;
+    let scanned = scan_blocks(rt, alloc, source, as_of, parts, limit, length, crew.workers);
+    let total = match scanned {
+        Ok(total) => total,
+        Err(BlocksFault::ReadFailed) => return Err(RunFault::ReadFailed),
+        Err(BlocksFault::TooLong) => return Err(RunFault::TooLong { limit }),
+        Err(BlocksFault::Truncated { place }) => {
+            return Ok(Answer::Faulty(DayFault::Truncated { place }));
+        }
+        Err(BlocksFault::OutOfMemory) => return Err(RunFault::OutOfMemory),
+    };
+    match answer_scans(rt, alloc, total, query, parts, crew) {
+        Ok(answer) => Ok(answer),
+        Err(AllocError) => Err(RunFault::OutOfMemory),
+    }
+}
