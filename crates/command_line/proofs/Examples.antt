@@ -1,9 +1,10 @@
 -- What the program's command line makes of some words.
-use Rattle.std.proofs.Common.{◌≡◌, refl, List, [], ◌∷◌, Some, codes}
+use Rattle.std.proofs.Common.{◌≡◌, refl, List, [], ◌∷◌, Some, codes, false, true}
 use Rattle.clap.specs.Words.{Text, fault_of, first_of, matches_of, one_of}
 use Rattle.clap.specs.declared.error.kind.ErrorKind.TheVariants as kind
 use Rattle.clap.proofs.OnLiterals.{clap_on_literals}
 use Rattle.command_line.specs.Arguments.{the_app}
+use Rattle.command_line.specs.Jobs.{is_given}
 
 abbrev plain : List Text
 plain = codes "itch_bars" ∷ codes "day" ∷ codes "sales" ∷ []
@@ -31,9 +32,19 @@ given : (one_of (codes "workers") (matches_of the_app full) ≡ Some (codes "8")
 unfolding clap_on_literals
 given = (refl, refl, refl, refl, refl, refl)
 
+morsel_is_given : (is_given (codes "morsel") (matches_of the_app plain) ≡ false)
+    × (is_given (codes "morsel") (matches_of the_app full) ≡ true)
+unfolding clap_on_literals
+morsel_is_given = (refl, refl)
+
 asks_for_help : fault_of the_app (codes "itch_bars" ∷ codes "--help" ∷ []) ≡ kind.DisplayHelp ∷ []
 unfolding clap_on_literals
 asks_for_help = refl
+
+asks_for_the_version : (fault_of the_app (codes "itch_bars" ∷ codes "--version" ∷ []) ≡ kind.DisplayVersion ∷ [])
+    × (fault_of the_app (codes "itch_bars" ∷ codes "-V" ∷ []) ≡ kind.DisplayVersion ∷ [])
+unfolding clap_on_literals
+asks_for_the_version = (refl, refl)
 
 no_query : fault_of the_app (codes "itch_bars" ∷ codes "day" ∷ []) ≡ kind.MissingRequiredArgument ∷ []
 unfolding clap_on_literals

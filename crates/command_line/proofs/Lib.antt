@@ -1,3 +1,4 @@
+mod Ended
 mod Examples
 mod Found
 mod LineParts

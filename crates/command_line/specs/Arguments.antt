@@ -2,6 +2,7 @@
 -- To be believed.
 use Rattle.std.specs.Prelude.{[], ◌∷◌, Some, codes, pos, true}
 use Rattle.lists.specs.declared.limits.TheConstants.{LARGEST_MORSEL, MOST_GATHERERS, MOST_PARTITIONS, MOST_WORKERS}
+use Rattle.clap.specs.Simple.{on_top}
 use Rattle.clap.specs.Words.{App, Rule, new_app, new_rule, with_rule}
 use Rattle.clap.specs.declared.builder.action.ArgAction.TheVariants.{Set}
 use Rattle.clap.specs.declared.builder.value_parser.ValueParser.TheVariants.{Signed, Unsigned}
@@ -54,7 +55,11 @@ gatherers_rule = record (new_rule (codes "gatherers")) {
   defaults = codes "1" ∷ [];
 }
 
+-- a command line that also has `--version` and `-V`
+abbrev pub with_version : App → App
+with_version app = on_top (λ shape. record shape { has_version = true }) app
+
 -- the program's command line
 abbrev pub the_app : App
-the_app = with_rule (with_rule (with_rule (with_rule (with_rule (with_rule (new_app (codes "itch_bars"))
+the_app = with_rule (with_rule (with_rule (with_rule (with_rule (with_rule (with_version (new_app (codes "itch_bars")))
     file_rule) query_rule) workers_rule) morsel_rule) partitions_rule) gatherers_rule

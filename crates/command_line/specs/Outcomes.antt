@@ -1,12 +1,13 @@
 -- The program's outcome: its status, and what it does to its devices.
 -- To be believed.
-use Rattle.std.specs.Prelude.{◌≡◌, ◌≤◌, ℕ, Bool, false, true, List, Result, Ok, Err, length}
+use Rattle.std.specs.Prelude.{◌≡◌, ◌==◌, ◌≤◌, ℕ, Bool, false, true, List, Result, Ok, Err, length}
 use Rattle.std.specs.Prelude.{string_bytes, take}
 use Rattle.command_line.specs.FaultLines.{line_of, status_of}
 use Rattle.command_line.specs.declared.arguments.Job.{Job}
 use Rattle.command_line.specs.declared.arguments.WordsFault.{WordsFault}
 use Rattle.command_line.specs.declared.arguments.WordsFault.TheVariants as words
-use Rattle.executor.specs.Runs.{Ran, is_read_failed, is_write_failed}
+use Rattle.executor.specs.Readings.{Reading}
+use Rattle.executor.specs.Runs.{Ran, is_write_failed}
 use Rattle.executor.specs.declared.run_fault.RunFault.{RunFault}
 use Rattle.executor.specs.declared.run_fault.RunFault.TheVariants as fault
 
@@ -27,22 +28,23 @@ module _ {L : Type 0} (Took : L → L → List ℕ → Type 0) (HasFlushed : L �
   Reported (Ok done) = after ≡ before
   Reported (Err f) = Delivered (line_of f)
 
--- the job did to its source and its output what a run of its query does, each of which failed exactly where the
--- outcome says so; this is the outcome's status, and the line of the outcome's fault went to the errors
-abbrev pub Did : {S K L : Type 0}
-    → (S → S → List ℕ → Type 0) → (S → Type 0) → (S → Bool)
+-- over what is known of its source, the job did to its output what a run of its query does, and the output failed
+-- exactly where the outcome says so; this is the outcome's status, and the line of the outcome's fault went to the
+-- errors
+abbrev pub Did : {K L : Type 0} → Reading
     → (K → K → List ℕ → Type 0) → (K → Type 0) → (K → Bool)
     → (L → L → List ℕ → Type 0) → (L → Type 0) → (L → Bool)
-    → Job → S → S → K → K → L → L → ℕ → Type 0
-Did Gave HasEnded source_failed OutTook OutHasFlushed out_failed Took HasFlushed has_failed
-    job before after out out_after errors errors_after status =
+    → Job → K → K → L → L → ℕ → Type 0
+Did reading OutTook OutHasFlushed out_failed Took HasFlushed has_failed job out out_after errors errors_after status =
     (outcome : Result (Unit {0}) RunFault)
-    × Ran Gave HasEnded OutTook OutHasFlushed
-    (string_bytes job.query) job.settings.limit job.settings.morsel before after out out_after outcome
-    × (source_failed after ≡ is_read_failed outcome)
+    × Ran reading OutTook OutHasFlushed (string_bytes job.query) job.settings.limit out out_after outcome
     × (out_failed out_after ≡ is_write_failed outcome)
     × (status ≡ status_of_outcome outcome)
     × Reported Took HasFlushed has_failed errors errors_after outcome
+
+-- the status is that of a source that failed
+abbrev pub tells_failed_reading : ℕ → Bool
+tells_failed_reading status = status == status_of fault.ReadFailed
 
 module _ {K L : Type 0}
     (OutTook : K → K → List ℕ → Type 0) (OutHasFlushed : K → Type 0) (out_failed : K → Bool)
@@ -56,17 +58,18 @@ module _ {K L : Type 0}
     pub status_is : status ≡ status_of (fault.WriteFailed written)
     pub reported : Delivered Took HasFlushed has_failed errors errors_after (line_of (fault.WriteFailed written))
 
-  -- help is delivered to the output, and the errors have nothing; where that fails, they have the line of a
-  -- failed write
+  -- help or the version is delivered to the output, and the errors have nothing; where that fails, they have the
+  -- line of a failed write
   pub record Helped (text : List ℕ) : Type 0 where
     pub whole : out_failed out_after ≡ false
         → OutTook out out_after text × OutHasFlushed out_after × (status ≡ 0) × (errors_after ≡ errors)
     pub part : out_failed out_after ≡ true → IsCutShort text
 
-  -- help goes to the output, and what is wrong to the errors, of which want of memory is a fault's line; the output
-  -- takes nothing but help
+  -- help and the version go to the output, and what is wrong to the errors, of which want of memory is a fault's
+  -- line; the output takes nothing else
   abbrev pub Explained : WordsFault → Type 0
   Explained (words.Help text) = Helped (string_bytes text)
+  Explained (words.Version text) = Helped (string_bytes text)
   Explained (words.Wrong text) = (status ≡ 2)
       × Delivered Took HasFlushed has_failed errors errors_after (string_bytes text)
       × (out_after ≡ out)

@@ -6,31 +6,58 @@ ghost use Rattle.clap.specs.Words.{FailsBy, HasKind, Kinds, app_of, fault_of, fo
 ghost use Rattle.clap.specs.Words.{matches_of, rows_of, rule_of};
 ghost use Rattle.command_line.specs.Arguments.{file_rule, gatherers_rule, morsel_rule};
 ghost use Rattle.command_line.specs.Arguments.{partitions_rule, query_rule, the_app, workers_rule};
-ghost use Rattle.command_line.specs.Jobs.{HasSettingsOf, IsFaultOf, IsJobOf, IsWhole};
+ghost use Rattle.command_line.specs.Jobs.{HasSettingsOf, IsFaultOf, IsJobOf, IsWhole, is_given};
 
 use clap::error::ErrorKind;
+use clap::parser::ValueSource;
 use clap::{Arg, ArgAction, ArgMatches, Command, Error, value_parser};
 use executor::{Crew, Settings};
 use lists::limits::LONGEST_FILE;
 use std::alloc::{AllocError, Global};
 use std::io;
 
+/// What `--version` tells behind the program's name.
+const VERSION: &str = "0.1.0";
+
+/// How the program is called: the query is one word, which a shell takes in quotes.
+const USAGE: &str = "itch_bars [OPTIONS] <FILE> \"<QUERY>\"";
+
 /// What help says behind the options.
 const AFTER_HELP: &str = "\
+These numbers change the time and the memory that a run takes; no answer depends on them.
+Both are least for a file that is named, without --morsel: it isn't held in memory.
+
 Queries:
   sales        time and sales: a line for each sale of the day, by its place in the file
   bars 5 m     a line for each security and interval of 5 minutes; s, m or h, 1 s to 24 h
 Behind either, if wanted:
-  as of 16:00:00     only messages up to this moment count
-Behind these, `where` and some of these, joined by `and`:
-  symbol in MSFT,AAPL
-  time from 09:30:00 until 16:00:00
-  kind in E,C,P,Q    executions, executions with a price, trades, crosses
-As in: itch_bars day.itch \"bars 5 m where symbol in MSFT and kind in E,P\"
+  as of 16:00:00                       only messages up to this moment count
+Behind these, `where` and some of these, joined by `and`, each at most once:
+  symbol in MSFT,AAPL                  these securities
+  time from 09:30:00 until 16:00:00    from the start on, before the end
+  kind in E,C,P,Q                      executions, executions with a price, trades, crosses
+Symbols are case-sensitive; one that the file doesn't have gives no lines, and is no fault. No
+spaces stand in a list. The whole grammar is in docs/FORMATS.md of the program's repository.
 
-The answer goes to standard output, and a fault to standard error as one line.
-Statuses: 0 answered, 1 the file has a fault, 2 wrong words or query, 3 out of memory,
-4 the file can't be read, 5 the output can't be written";
+Columns:
+  sales        time,symbol,kind,price,shares,number
+  bars         symbol,start,first,high,low,last,volume,trades,average
+Times are of the exchange's clock, prices in dollars. An average of 410.5075+12750/25850 is
+410.5075 dollars and 12750/25850 of a ten-thousandth of a dollar.
+
+Examples:
+  itch_bars day.itch sales
+  itch_bars day.itch \"bars 5 m where symbol in MSFT and kind in E,P\"
+  zcat day.itch.gz | itch_bars - \"sales as of 12:00:00 where symbol in MSFT,AAPL\"
+
+Output:
+The answer goes to standard output, and a fault to standard error as one line. The status is
+  0  the query was answered
+  1  the file has a fault, or is too long
+  2  the words or the query are wrong, or --morsel is too small for the file
+  3  memory ran out
+  4  the file can't be opened or read
+  5  the output can't be written";
 
 /// What the command line asks for.
 #[derive(Debug, Drop)]
@@ -39,6 +66,9 @@ pub struct Job {
     pub file: String,
     /// The text of the query.
     pub query: String,
+    /// Whether the words give a size of morsels, in which even a file is then held that can be read
+    /// by blocks.
+    pub morsel_given: bool,
     pub settings: Settings,
 }
 
@@ -47,6 +77,8 @@ pub struct Job {
 pub enum WordsFault {
     /// Help was asked for: status 0, where it can be written.
     Help { text: String },
+    /// The version was asked for: the same.
+    Version { text: String },
     /// The words are wrong: status 2.
     Wrong { text: String },
     /// A growth was refused: status 3.
@@ -114,7 +146,9 @@ fn clap_command<'a>(alloc: Global) -> Result<Command<'a>, AllocError>
     ensures { IfOk result (λ c. app_of c ≡ the_app) }
 {
     Command::new(alloc, "itch_bars")
+        .version(VERSION)
         .about("Answers a query over a day file of Nasdaq TotalView-ITCH 5.0")
+        .override_usage(USAGE)
         .after_help(AFTER_HELP)
         .arg(file_argument(alloc))?
         .arg(query_argument(alloc))?
@@ -132,7 +166,7 @@ fn file_argument<'a>(alloc: Global) -> Arg<'a>
     Arg::new(alloc, "FILE")
         .required(true)
         .action(ArgAction::Set)
-        .help("A day file, uncompressed; - is standard input")
+        .help("A day file, unpacked; - is standard input")
 }
 
 /// The query's text.
@@ -143,7 +177,7 @@ fn query_argument<'a>(alloc: Global) -> Arg<'a>
     Arg::new(alloc, "QUERY")
         .required(true)
         .action(ArgAction::Set)
-        .help("What to answer, as below")
+        .help("What to answer, as below; it is one word, so put it in quotes")
 }
 
 /// How many threads work.
@@ -157,7 +191,7 @@ fn workers_option<'a>(alloc: Global) -> Arg<'a>
         .action(ArgAction::Set)
         .value_parser(value_parser!(u32).range(1..=64))
         .default_value("4")
-        .help("Threads that work on the query, 1 to 64; no answer depends on them")
+        .help("Threads that work, 1 to 64: more take less time, up to one for each\nprocessor")
 }
 
 /// The least size of a morsel.
@@ -171,7 +205,10 @@ fn morsel_option<'a>(alloc: Global) -> Arg<'a>
         .action(ArgAction::Set)
         .value_parser(value_parser!(u64).range(1..=1_073_741_824))
         .default_value("1048576")
-        .help("Least size of a piece of the file, 1 to 1073741824; no answer depends on it")
+        .help(
+            "Least size of the pieces in which standard input is held, 1 to\n1073741824; \
+            a file is held in them only if this is given, and\nover 65536 of them are refused",
+        )
 }
 
 /// How many partitions there are.
@@ -185,7 +222,9 @@ fn partitions_option<'a>(alloc: Global) -> Arg<'a>
         .action(ArgAction::Set)
         .value_parser(value_parser!(u32).range(1..=256))
         .default_value("64")
-        .help("Partitions of the order references, 1 to 256; no answer depends on them")
+        .help(
+            "Parts of the orders, 1 to 256, each looked up by itself: more take\nless memory at once",
+        )
 }
 
 /// How many threads gather what the workers find.
@@ -199,7 +238,9 @@ fn gatherers_option<'a>(alloc: Global) -> Arg<'a>
         .action(ArgAction::Set)
         .value_parser(value_parser!(u32).range(1..=8))
         .default_value("1")
-        .help("Threads that gather what the workers find, 1 to 8; no answer depends on them")
+        .help(
+            "Threads that put together what the workers find, 1 to 8: more help\nwhere one can't keep up with them",
+        )
 }
 
 /// The job of what was matched.
@@ -212,8 +253,19 @@ fn job_of(alloc: Global, matches: &ArgMatches<'_>) -> Result<Job, AllocError>
     Ok(Job {
         file: String::from_str(alloc, file)?,
         query: String::from_str(alloc, query)?,
+        morsel_given: is_given(matches, "morsel"),
         settings: settings_of(matches),
     })
+}
+
+/// Whether the words give an option, so that its value isn't its default.
+fn is_given(matches: &ArgMatches<'_>, id: &str) -> bool
+    ensures { result ≡ is_given id.now (rows_of (found_of matches.now)) }
+{
+    match matches.value_source(id) {
+        Some(ValueSource::CommandLine) => true,
+        Some(ValueSource::DefaultValue) | None => false,
+    }
 }
 
 /// The settings of what was matched.
@@ -234,7 +286,7 @@ fn settings_of(matches: &ArgMatches<'_>) -> Settings
     }
 }
 
-/// Help, or what is wrong with the words.
+/// Help or the version, or what is wrong with the words.
 fn words_fault(alloc: Global, error: &Error) -> WordsFault
     ensures { (kinds : Kinds) → HasKind kinds error.now → IsFaultOf kinds result }
 {
@@ -244,6 +296,7 @@ fn words_fault(alloc: Global, error: &Error) -> WordsFault
     match error.kind() {
         ErrorKind::OutOfMemory => WordsFault::Memory,
         ErrorKind::DisplayHelp => WordsFault::Help { text },
+        ErrorKind::DisplayVersion => WordsFault::Version { text },
         _ => WordsFault::Wrong { text },
     }
 }

@@ -7,7 +7,7 @@ mod reports;
 
 pub use arguments::{Job, WordsFault, command, reading_fault};
 pub use executor::{
-    Counted, CountedSink, Crew, DayFault, LONGEST_FILE, QueryFault, RunFault, Settings, Sink,
-    Source,
+    BlockSource, Counted, CountedSink, Crew, DayFault, DeviceFailed, FileBlocks, LONGEST_FILE,
+    Memory, QueryFault, RunFault, Settings, Sink, Source,
 };
-pub use performing::{explain, perform, perform_opened, tell};
+pub use performing::{explain, perform, perform_blocks, perform_opened, tell};

@@ -4,7 +4,9 @@
 ghost use Rattle.std.specs.Prelude.{◌≡◌, false};
 
 pub use command_line::{Job, WordsFault, command, perform};
-use command_line::{Counted, CountedSink, Sink, explain, perform_opened, reading_fault};
+use command_line::{
+    Counted, CountedSink, FileBlocks, Sink, explain, perform_blocks, perform_opened, reading_fault,
+};
 use std::env;
 use std::fs::File;
 use std::process::ExitCode;
@@ -34,7 +36,8 @@ fn job_of_words(rt: &HostRuntime) -> Result<Job, WordsFault> {
     command(rt.alloc(), words.as_slice())
 }
 
-/// Opens the job's file and does the job on threads.
+/// Opens the job's file and does the job on threads. A regular file is read by blocks, where the words
+/// don't give a size of morsels; nothing else can be read at places.
 fn start<R: Threads + Wait + Sync, K: Sink, L: Sink>(
     rt: &HostRuntime,
     threads: &R,
@@ -50,5 +53,22 @@ fn start<R: Threads + Wait + Sync, K: Sink, L: Sink>(
         return perform(threads, rt.alloc(), job, &mut source, out, errors);
     }
     let file = File::open(rt, job.file.as_str()).ok();
-    perform_opened(threads, rt.alloc(), job, file.map(Counted::of), out, errors)
+    let by_blocks = if job.morsel_given {
+        None
+    } else {
+        file.as_ref().and_then(length_of_regular)
+    };
+    match (file, by_blocks) {
+        (Some(file), Some(length)) => {
+            let source = FileBlocks::of(file);
+            perform_blocks(threads, rt.alloc(), job, &source, length, out, errors)
+        }
+        (file, _) => perform_opened(threads, rt.alloc(), job, file.map(Counted::of), out, errors),
+    }
+}
+
+/// How many bytes a regular file has now; of anything else nothing is said.
+fn length_of_regular(file: &File) -> Option<u64> {
+    let metadata = file.metadata().ok()?;
+    metadata.is_file().then(|| metadata.len())
 }

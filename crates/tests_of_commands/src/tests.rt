@@ -2,7 +2,9 @@
 ghost use Rattle.std.specs.Prelude.{◌≡◌, ◌<◌, ◌≤◌, false};
 ghost use Rattle.lists.specs.declared.limits.TheConstants.{LARGEST_MORSEL, LONGEST_FILE};
 
-use command_line::{Counted, CountedSink, Crew, Job, LONGEST_FILE, Settings, perform};
+use command_line::{
+    Counted, CountedSink, Crew, Job, LONGEST_FILE, Memory, Settings, perform, perform_blocks,
+};
 use std::alloc::Global;
 use std::sync::Wait;
 use std::test::Fail;
@@ -33,6 +35,7 @@ fn job_in_morsels(alloc: Global, query: &str, limit: u64, morsel: u64) -> Result
     Ok(Job {
         file: String::from_str(alloc, "-")?,
         query: String::from_str(alloc, query)?,
+        morsel_given: false,
         settings: Settings {
             crew,
             morsel,
@@ -59,7 +62,7 @@ impl Outcome {
     }
 }
 
-/// What comes of a query over a day file.
+/// What comes of a query over a day file: the same by blocks as of a stream.
 fn performed<R: Threads + Wait + Sync>(
     rt: &R,
     alloc: Global,
@@ -67,7 +70,40 @@ fn performed<R: Threads + Wait + Sync>(
     query: &str,
 ) -> Result<Outcome, Fail> {
     let job = job(alloc, query, LONGEST_FILE)?;
-    Ok(performed_job(rt, alloc, day, &job))
+    let outcome = performed_job(rt, alloc, day, &job);
+    let by_blocks = performed_by_blocks(rt, alloc, day, &job);
+    let is_same = outcome.status == by_blocks.status
+        && outcome.out.as_slice() == by_blocks.out.as_slice()
+        && outcome.errors.as_slice() == by_blocks.errors.as_slice();
+    if !is_same {
+        return Err(Fail::from("another outcome by blocks"));
+    }
+    Ok(outcome)
+}
+
+/// What comes of a job over a day file that is read by blocks.
+fn performed_by_blocks<R: Threads + Wait + Sync>(
+    rt: &R,
+    alloc: Global,
+    day: &[u8],
+    job: &Job,
+) -> Outcome {
+    let mut out = Vec::new(alloc);
+    let mut errors = Vec::new(alloc);
+    let status = perform_blocks(
+        rt,
+        alloc,
+        job,
+        &Memory { bytes: day },
+        day.len() as u64,
+        &mut CountedSink::of(&mut out),
+        &mut CountedSink::of(&mut errors),
+    );
+    Outcome {
+        status,
+        out,
+        errors,
+    }
 }
 
 /// What comes of a job over a day file.

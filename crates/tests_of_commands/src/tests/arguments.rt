@@ -9,33 +9,59 @@ use std::test::Fail;
 const HELP: &str = "\
 Answers a query over a day file of Nasdaq TotalView-ITCH 5.0
 
-Usage: itch_bars [OPTIONS] <FILE> <QUERY>
+Usage: itch_bars [OPTIONS] <FILE> \"<QUERY>\"
 
 Arguments:
-  <FILE>   A day file, uncompressed; - is standard input
-  <QUERY>  What to answer, as below
+  <FILE>   A day file, unpacked; - is standard input
+  <QUERY>  What to answer, as below; it is one word, so put it in quotes
 
 Options:
-      --workers <N>     Threads that work on the query, 1 to 64; no answer depends on them [default: 4]
-      --morsel <BYTES>  Least size of a piece of the file, 1 to 1073741824; no answer depends on it [default: 1048576]
-      --partitions <N>  Partitions of the order references, 1 to 256; no answer depends on them [default: 64]
-      --gatherers <N>   Threads that gather what the workers find, 1 to 8; no answer depends on them [default: 1]
+      --workers <N>     Threads that work, 1 to 64: more take less time, up to one for each
+                        processor [default: 4]
+      --morsel <BYTES>  Least size of the pieces in which standard input is held, 1 to
+                        1073741824; a file is held in them only if this is given, and
+                        over 65536 of them are refused [default: 1048576]
+      --partitions <N>  Parts of the orders, 1 to 256, each looked up by itself: more take
+                        less memory at once [default: 64]
+      --gatherers <N>   Threads that put together what the workers find, 1 to 8: more help
+                        where one can't keep up with them [default: 1]
   -h, --help            Print help
+  -V, --version         Print version
+
+These numbers change the time and the memory that a run takes; no answer depends on them.
+Both are least for a file that is named, without --morsel: it isn't held in memory.
 
 Queries:
   sales        time and sales: a line for each sale of the day, by its place in the file
   bars 5 m     a line for each security and interval of 5 minutes; s, m or h, 1 s to 24 h
 Behind either, if wanted:
-  as of 16:00:00     only messages up to this moment count
-Behind these, `where` and some of these, joined by `and`:
-  symbol in MSFT,AAPL
-  time from 09:30:00 until 16:00:00
-  kind in E,C,P,Q    executions, executions with a price, trades, crosses
-As in: itch_bars day.itch \"bars 5 m where symbol in MSFT and kind in E,P\"
+  as of 16:00:00                       only messages up to this moment count
+Behind these, `where` and some of these, joined by `and`, each at most once:
+  symbol in MSFT,AAPL                  these securities
+  time from 09:30:00 until 16:00:00    from the start on, before the end
+  kind in E,C,P,Q                      executions, executions with a price, trades, crosses
+Symbols are case-sensitive; one that the file doesn't have gives no lines, and is no fault. No
+spaces stand in a list. The whole grammar is in docs/FORMATS.md of the program's repository.
 
-The answer goes to standard output, and a fault to standard error as one line.
-Statuses: 0 answered, 1 the file has a fault, 2 wrong words or query, 3 out of memory,
-4 the file can't be read, 5 the output can't be written
+Columns:
+  sales        time,symbol,kind,price,shares,number
+  bars         symbol,start,first,high,low,last,volume,trades,average
+Times are of the exchange's clock, prices in dollars. An average of 410.5075+12750/25850 is
+410.5075 dollars and 12750/25850 of a ten-thousandth of a dollar.
+
+Examples:
+  itch_bars day.itch sales
+  itch_bars day.itch \"bars 5 m where symbol in MSFT and kind in E,P\"
+  zcat day.itch.gz | itch_bars - \"sales as of 12:00:00 where symbol in MSFT,AAPL\"
+
+Output:
+The answer goes to standard output, and a fault to standard error as one line. The status is
+  0  the query was answered
+  1  the file has a fault, or is too long
+  2  the words or the query are wrong, or --morsel is too small for the file
+  3  memory ran out
+  4  the file can't be opened or read
+  5  the output can't be written
 ";
 
 /// What the words of a command line ask for: a job, or what comes of a fault of theirs.
@@ -84,10 +110,12 @@ fn words_ask_for_a_job(rt: HostRuntime) -> Result<(), Fail> {
         "day",
         "sales",
     ];
-    for (words, workers, morsel, parts, gatherers) in [
-        (defaults, 4, 1_048_576, 64, 1),
-        (most, 64, 1_048_576, 256, 8),
-        (least, 4, 1, 1, 1),
+    let given: &[&str] = &["itch_bars", "day", "sales", "--morsel", "1048576"];
+    for (words, workers, is_given, morsel, parts, gatherers) in [
+        (defaults, 4, false, 1_048_576, 64, 1),
+        (most, 64, false, 1_048_576, 256, 8),
+        (least, 4, true, 1, 1, 1),
+        (given, 4, true, 1_048_576, 64, 1),
     ] {
         let Ok(job) = asked(rt.alloc(), words)? else {
             return Err(Fail::from("no job"));
@@ -95,7 +123,7 @@ fn words_ask_for_a_job(rt: HostRuntime) -> Result<(), Fail> {
         assert!(rt; job.file.as_str() == "day" && job.query.as_str() == "sales");
         assert!(rt; job.settings.crew.workers == workers);
         assert!(rt; job.settings.crew.gatherers == gatherers);
-        assert!(rt; job.settings.morsel == morsel);
+        assert!(rt; job.settings.morsel == morsel && job.morsel_given == is_given);
         assert!(rt; job.settings.parts == parts);
     }
     Ok(())
@@ -180,7 +208,11 @@ fn words_that_cannot_be_read_are_reported(rt: HostRuntime) -> Result<(), Fail> {
     let WordsFault::Wrong { text } = reading_fault(alloc, ErrorKind::InvalidData) else {
         return Err(Fail::from("no wrong word"));
     };
-    assert!(rt; text.starts_with("error: a word is not valid UTF-8\n\nUsage: itch_bars"));
+    assert!(rt;
+        text.starts_with(
+            "error: a word is not valid UTF-8\n\nUsage: itch_bars [OPTIONS] <FILE> \"<QUERY>\"\n"
+        )
+    );
     Ok(())
 }
 
@@ -191,6 +223,17 @@ fn help_is_given_whole(rt: HostRuntime) -> Result<(), Fail> {
             return Err(Fail::from("a job"));
         };
         assert!(rt; outcome.is(0, HELP, ""));
+    }
+    Ok(())
+}
+
+#[test]
+fn the_version_is_told(rt: HostRuntime) -> Result<(), Fail> {
+    for words in [["itch_bars", "--version"], ["itch_bars", "-V"]] {
+        let Err(outcome) = asked(rt.alloc(), &words)? else {
+            return Err(Fail::from("a job"));
+        };
+        assert!(rt; outcome.is(0, "itch_bars 0.1.0\n", ""));
     }
     Ok(())
 }

@@ -1,10 +1,10 @@
 //! What goes to which of the program's two outputs, and what comes of devices that fail.
 ghost use Rattle.std.specs.Prelude.{◌≡◌, false};
 
-use super::job;
+use super::{job, performed_by_blocks};
 use command_line::{
-    Counted, CountedSink, LONGEST_FILE, RunFault, WordsFault, explain, perform, perform_opened,
-    tell,
+    BlockSource, Counted, CountedSink, DeviceFailed, LONGEST_FILE, RunFault, WordsFault, explain,
+    perform, perform_blocks, perform_opened, tell,
 };
 use std::io::{self, Write};
 use std::test::Fail;
@@ -59,6 +59,52 @@ impl Write for Interrupted {
     }
 }
 
+/// A file of which each reading fails.
+struct Unreadable;
+
+impl BlockSource for Unreadable {
+    ghost GaveAt = { λ s place bytes. Unit {0} };
+
+    ghost EndsAt = { λ s place. Unit {0} };
+
+    ghost FailsAt = { λ s place. Unit {0} };
+
+    ghost gave_nothing = { λ s place. tt };
+
+    ghost gave_more = { λ s place xs ys p q. tt };
+
+    ghost gave_front = { λ s place xs ys p. tt };
+
+    ghost gave_back = { λ s place xs ys p. tt };
+
+    fn read_at(&self, _place: u64, _into: &mut [u8]) -> Result<usize, DeviceFailed> {
+        Err(DeviceFailed)
+    }
+}
+
+#[test]
+fn files_read_by_blocks_that_fail_or_are_too_long(rt: HostRuntime) -> Result<(), Fail> {
+    let alloc = rt.alloc();
+    let day = Day::of(alloc, &NAMED)?.bytes;
+    let mut text = Vec::new(alloc);
+    let mut lines = Vec::new(alloc);
+    let status = perform_blocks(
+        &rt,
+        alloc,
+        &job(alloc, "sales", LONGEST_FILE)?,
+        &Unreadable,
+        112,
+        &mut CountedSink::of(&mut text),
+        &mut CountedSink::of(&mut lines),
+    );
+    assert!(rt; status == 4 && text.is_empty());
+    assert!(rt; lines.as_slice() == "fault: reading failed\n".as_bytes());
+    let short = job(alloc, "sales", 111)?;
+    let outcome = performed_by_blocks(&rt, alloc, day.as_slice(), &short);
+    assert!(rt; outcome.is(1, "", "fault: file is longer than 111 bytes\n"));
+    Ok(())
+}
+
 #[test]
 fn a_line_goes_out_by_two_bytes_and_is_flushed(rt: HostRuntime) -> Result<(), Fail> {
     let mut narrow = Narrow::of(Vec::new(rt.alloc()), 100);
@@ -74,11 +120,15 @@ fn faults_of_words_go_to_their_output(rt: HostRuntime) -> Result<(), Fail> {
     let help = WordsFault::Help {
         text: String::from_str(alloc, "how")?,
     };
+    let version = WordsFault::Version {
+        text: String::from_str(alloc, "which")?,
+    };
     let wrong = WordsFault::Wrong {
         text: String::from_str(alloc, "what")?,
     };
     for (fault, status, text, line) in [
         (help, 0, "how", ""),
+        (version, 0, "which", ""),
         (wrong, 2, "", "what"),
         (WordsFault::Memory, 3, "", "fault: out of memory\n"),
     ] {

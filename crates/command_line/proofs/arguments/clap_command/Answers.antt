@@ -1,13 +1,15 @@
 use Rattle.std.proofs.Common.{ap, ap₂, codes, ◌≡◌, ◌∙◌}
 use Rattle.std.proofs.lemmas.Result.{IfOk-weaker}
 use Rattle.clap.specs.Words.{app_of, new_app, with_rule}
+use Rattle.command_line.specs.Arguments.{with_version}
 use Rattle.clap.specs.Simple.{app_of_fields}
 use Rattle.command_line.proofs.arguments.clap_command.Goals as goal
 
 pub returns : goal.returns
 returns c =
-    let start_is : app_of c.after_help.result ≡ new_app (codes "itch_bars") =
-    ap app_of_fields c.after_help.ensures ∙ (ap app_of_fields c.about.ensures ∙ c.new.ensures.app) in
+    let start_is : app_of c.after_help.result ≡ with_version (new_app (codes "itch_bars")) =
+    ap app_of_fields c.after_help.ensures ∙ (ap app_of_fields c.override_usage.ensures ∙ (ap app_of_fields c.about.ensures
+    ∙ (ap app_of_fields c.version.ensures ∙ ap with_version c.new.ensures.app))) in
     IfOk-weaker c.arg-6.result _ _ (λ command h. h.shape c.gatherers_option.ensures.local
     ∙ ap₂ with_rule (c.in_ok-arg-5.ensures.shape c.partitions_option.ensures.local
     ∙ ap₂ with_rule (c.in_ok-arg-4.ensures.shape c.morsel_option.ensures.local

@@ -13,5 +13,6 @@ pub returns : goal.returns
 returns c = record {
   file = text_unwrapped (found_of c.args.matches.now) (codes "FILE") c.get_str.result _ c.get_str.ensures c.unwrap-file.ensures ∙ ap Some (search rules);
   query = text_unwrapped (found_of c.args.matches.now) (codes "QUERY") c.get_str-2.result _ c.get_str-2.ensures c.unwrap-query.ensures ∙ ap Some (search rules);
+  morsel_given = c.is_given.ensures;
   settings = c.settings_of.ensures;
 }

@@ -1,0 +1,35 @@
+-- What a run's outcome says of its status, and its status of the errors.
+use Rattle.std.proofs.Common.{◌≡◌, ℕ, Bool, List, Result, Ok, Err, refl, arith}
+use Rattle.command_line.specs.FaultLines.{status_of}
+use Rattle.command_line.specs.Outcomes.{Reported, status_of_outcome, tells_failed_reading}
+use Rattle.executor.specs.Runs.{is_read_failed}
+use Rattle.executor.specs.declared.run_fault.RunFault.{RunFault}
+use Rattle.executor.specs.declared.run_fault.RunFault.TheVariants as fault
+
+-- the status of a failed reading is no other outcome's
+pub read_failed_status : (outcome : Result (Unit {0}) RunFault) → is_read_failed outcome ≡ tells_failed_reading (status_of_outcome outcome)
+read_failed_status (Ok done) = refl
+read_failed_status (Err (fault.Query f)) = refl
+read_failed_status (Err fault.ReadFailed) = refl
+read_failed_status (Err (fault.TooLong limit)) = refl
+read_failed_status (Err fault.TooManyMorsels) = refl
+read_failed_status (Err (fault.Day f)) = refl
+read_failed_status (Err (fault.WriteFailed written)) = refl
+read_failed_status (Err fault.OutOfMemory) = refl
+
+-- no fault has the status of an answer
+no_fault_is_0 : (f : RunFault) → status_of f ≡ 0 → ⊥
+no_fault_is_0 (fault.Query f) zero = let bad : 2 ≡ 0 = zero in absurd (omega arith)
+no_fault_is_0 fault.ReadFailed zero = let bad : 4 ≡ 0 = zero in absurd (omega arith)
+no_fault_is_0 (fault.TooLong limit) zero = let bad : 1 ≡ 0 = zero in absurd (omega arith)
+no_fault_is_0 fault.TooManyMorsels zero = let bad : 2 ≡ 0 = zero in absurd (omega arith)
+no_fault_is_0 (fault.Day f) zero = let bad : 1 ≡ 0 = zero in absurd (omega arith)
+no_fault_is_0 (fault.WriteFailed written) zero = let bad : 5 ≡ 0 = zero in absurd (omega arith)
+no_fault_is_0 fault.OutOfMemory zero = let bad : 3 ≡ 0 = zero in absurd (omega arith)
+
+-- so with status 0 the errors have nothing
+pub quiet_at_0 : {L : Type 0} (Took : L → L → List ℕ → Type 0) (HasFlushed : L → Type 0) (has_failed : L → Bool) (before after : L)
+    (outcome : Result (Unit {0}) RunFault) → status_of_outcome outcome ≡ 0 → Reported Took HasFlushed has_failed before after outcome
+    → after ≡ before
+quiet_at_0 Took HasFlushed has_failed before after (Ok done) zero reported = reported
+quiet_at_0 Took HasFlushed has_failed before after (Err f) zero reported = absurd (no_fault_is_0 f zero)
