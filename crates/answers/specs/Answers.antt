@@ -1,6 +1,6 @@
 -- The answer to a query over a day file: the file's one fault, or the text made of all its messages that count.
 -- To be believed.
--- The language wants each name before it is used, so what stands last is what the others lead to: `IsAnswer`.
+-- The language wants each name before it is used, so what the others lead to, `IsAnswer`, stands near the end.
 use Rattle.std.specs.Prelude.{◌≡◌, ℕ, Bool, ◌&&◌, List, Option, Result, Ok, Err, filter_map, MatchOption, ◌⊎◌}
 use Rattle.std.specs.Option.{option_and_then}
 use Rattle.itch_messages.specs.Body.{length_fault_of}
@@ -47,8 +47,8 @@ use Rattle.answers.specs.declared.day_fault.DayFault.TheVariants.{
 
 -- ---- what is asked for
 
--- the sale of a message: an execution is one at its order's price, where a message before it gives that; of the others,
--- those that have a price of their own are one
+-- the sale of a message, if it has one: of an execution at the price of its order, where a message before it gives
+-- that; of another message at a price of its own, where it has one
 abbrev pub trade_at : List OrderRow → ℕ → Message → Option Sale
 trade_at rows place (Executed executed) =
     option_and_then (sale_of rows) (execution_at place (Executed executed))
@@ -94,7 +94,7 @@ IsAnswerToMessages messages query answer =
     (λ unknown. answer ≡ Err (UnknownReference unknown.place unknown.order_no)))
     (λ repeated. answer ≡ Err (RepeatedReference repeated.place repeated.order_no))
 
--- what is told of a frame whose length is wrong
+-- what is reported of a frame whose length is wrong
 abbrev pub wrong_length_at : PlacedBody → DayFault
 wrong_length_at frame =
     let fault = length_fault_of frame.body in
@@ -114,7 +114,7 @@ IsAnswer file query answer =
     ((place : ℕ) × IsTruncatedAt file place × (answer ≡ Err (Truncated place)))
     ⊎ ((frames : List PlacedBody) × StandsFor frames file × IsAnswerToFrames frames query answer)
 
--- what an answer tells: a text, or a fault
+-- what an answer of the code says: a text, or a fault
 abbrev pub told_by : {A : Type 0} → Answer A → Result (List ℕ) DayFault
 told_by (Printed text) = Ok text
 told_by (Faulty fault) = Err fault

@@ -28,7 +28,8 @@ placed_at place message = Some (record { place = place; message = message })
 abbrev pub messages_of : List PlacedBody → List Placed
 messages_of frames = filter_map (λ frame. placed_at frame.place (message_of frame.body)) frames
 
--- a message counts up to a moment, in seconds since midnight: its time is not past it. Without one, each counts
+-- a message counts up to a moment, in seconds since midnight: its time is not past it. Without a moment,
+-- each counts
 abbrev pub is_counted : Option ℕ → Message → Bool
 is_counted None message = true
 is_counted (Some moment) message =
@@ -92,7 +93,7 @@ own_priced_at place (Cross cross) = Some (record {
 })
 own_priced_at place _ = None
 
--- a break names the match number of the trade that it removes
+-- a break names a match number: each trade that has it is removed
 abbrev pub break_of : Message → Option ℕ
 break_of (Broken broken) = Some broken.trade_no
 break_of _ = None

@@ -25,7 +25,8 @@ abbrev pub has_key : ℕ → Key → Sale → Bool
 has_key width key sale =
     (sale.locate == key.locate) && (start_of width sale.time == key.start)
 
--- the bar of the sales of one key, in whatever order they stand: no sale, no bar
+-- the bar of the sales of one key, in whatever order they stand: first and last by place, high and low by price, the
+-- sums and the count. Of no sales there is no bar
 abbrev pub bar_of : Key → List Sale → Option Bar
 bar_of key [] = None
 bar_of key (sale ∷ sales) =
@@ -89,7 +90,7 @@ joined_bar a b =
       trades = a.trades + b.trades;
     }
 
--- the bar that there is, or both made one
+-- the bar that there is under a key in one of two tables, or both made one
 abbrev pub joined : Option Bar → Option Bar → Option Bar
 joined None b = b
 joined (Some a) None = Some a
@@ -106,14 +107,14 @@ CanJoin a b =
     (a.volume + b.volume < 2 ^ 128) × (a.notional + b.notional < 2 ^ 128)
     × (a.trades + b.trades < 2 ^ 64)
 
--- so do those of the bars that two tables have under one key
+-- the sums of the bars that two tables have under one key fit
 abbrev pub SumsFit : List Bar → List Bar → Type 0
 SumsFit one other =
     (key : Key) (a b : Bar) → found one key ≡ Some a → found other key ≡ Some b → CanJoin a b
 
 -- ---- many tables made one
 
--- the bars of one key made one, in the order of the list, with what there was before
+-- the bars of a list, all of one key, made one in its order, with what there was before
 abbrev pub joined_all : Option Bar → List Bar → Option Bar
 joined_all before [] = before
 joined_all before (bar ∷ bars) = joined_all (joined before (Some bar)) bars
@@ -132,7 +133,7 @@ pub record IsUnionOf (bars table : List Bar) : Type 0 where
   pub rise : IsByKey table
   pub each : (key : Key) → found table key ≡ joined_all None (under key bars)
 
--- the sums of all bars of one key fit into 128 bits, and their numbers of trades into 64
+-- under each key the sums of all bars of a list fit into 128 bits, and their numbers of trades into 64
 pub record AllSumsFit (bars : List Bar) : Type 0 where
   pub volume : (key : Key) → sum_by (λ bar. bar.volume) (under key bars) < 2 ^ 128
   pub notional : (key : Key) → sum_by (λ bar. bar.notional) (under key bars) < 2 ^ 128

@@ -7,7 +7,8 @@ use Rattle.lists.specs.declared.limits.TheConstants.{TIME_LIMIT}
 use Rattle.time_and_sales.specs.Texts.{price_text, seconds_text}
 use Rattle.bars.specs.declared.bar.Bar.{Bar}
 
--- the average price, exact: the quotient as a price, and the rest over the volume, not reduced
+-- the average price, exact: notional over volume as a price, rounded down, then `+`, the rest, `/` and the volume; the
+-- fraction isn't reduced, and counts ten-thousandths of a dollar
 abbrev pub average_text : ℕ → ℕ → List ℕ
 average_text notional volume = price_text (notional / volume)
     ++ codes "+" ++ decimal (notional % volume) ++ codes "/" ++ decimal volume
@@ -31,7 +32,7 @@ abbrev pub bar_line : Bar → List ℕ → List ℕ
 bar_line bar name =
     name ++ codes "," ++ seconds_text bar.start ++ prices_text bar ++ sums_text bar
 
--- the first line
+-- the first line of a table of bars
 abbrev pub bars_header : List ℕ
 bars_header = codes "symbol,start,first,high,low,last,volume,trades,average\n"
 

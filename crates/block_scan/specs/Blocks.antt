@@ -7,17 +7,18 @@ use Rattle.block_scan.specs.declared.fault.BlocksFault.TheVariants as fault
 
 -- S is a source, and `GaveAt` says which bytes it gave to readings from a place on.
 module _ {S : Type 0} (GaveAt : S → ℕ → List ℕ → Type 0) where
-  -- the source gave a byte behind the limit
+  -- the source gave a byte at the limit, counted from 0: one more than it may have
   abbrev pub GaveMoreAt : ℕ → S → Type 0
   GaveMoreAt limit source = (byte : ℕ) × GaveAt source limit (byte ∷ [])
 
-  -- the source gave these bytes from its start on, no more than the limit, and none behind them
+  -- readings gave these bytes from the source's start on, no more than the limit, and one found no byte behind them
   pub record GaveWhole (EndsAt : S → ℕ → Type 0) (limit : ℕ) (source : S) (day : List ℕ) : Type 0 where
     pub gave : GaveAt source 0 day
     pub ended : EndsAt source (length day)
     pub within : length day ≤ limit
 
--- what a refusal says of what the source gave
+-- What a refusal says of what the source gave: a reading failed at some place; it gave more than the limit; all that
+-- it gave is truncated there; and where memory was short, nothing.
 abbrev pub IsBlocksFault : {S : Type 0} → (S → ℕ → List ℕ → Type 0) → (S → ℕ → Type 0) → (S → ℕ → Type 0)
     → S → ℕ → BlocksFault → Type 0
 IsBlocksFault GaveAt EndsAt FailsAt source limit fault.ReadFailed = (place : ℕ) × FailsAt source place

@@ -1,4 +1,4 @@
-//! A source that is read and scanned at once.
+//! A source whose blocks are read and scanned side by side.
 ghost use Rattle.std.specs.Prelude.{◌≡◌, ◌<◌, ◌≤◌, IfErr, IfOk, OnOk, vec_len};
 ghost use Rattle.lists.specs.declared.limits.TheConstants.{LONGEST_FILE, MOST_PARTITIONS};
 ghost use Rattle.block_scan.specs.Blocks.{IsBlocksFault};
@@ -22,11 +22,11 @@ use std::thread::Threads;
 /// The bytes of a thread's buffer.
 const BUFFER: usize = 262_144;
 
-/// Reads a source of at most `limit` bytes to its end, and scans what it reads at once: the rows of the
-/// messages that count up to this moment, in seconds since midnight, in so many partitions, and the least
-/// wrong length. It reads in so many blocks, each on a thread of its own where one can be made; `length`
-/// is how many bytes are expected, and only tells where blocks begin. Of the bytes that were read it holds
-/// no more than 256 KiB a block.
+/// Reads a source of at most `limit` bytes to its end, and scans what it reads while it reads. It gives the
+/// rows of the messages that count up to this moment, in seconds since midnight, in so many partitions, and
+/// the wrong length of least place. It reads in so many blocks, each on a thread of its own where one can be
+/// made; `length` is how many bytes are expected, and only tells where blocks begin. Of the bytes that were
+/// read it holds no more than 256 KiB a block.
 ///
 /// The byte at `limit` is asked for first, so a source that is too long is refused before it is read.
 pub fn scan_blocks<R: Threads + Sync, S: BlockSource + Sync>(

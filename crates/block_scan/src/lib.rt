@@ -1,4 +1,4 @@
-//! A file that is read and scanned at once, by several threads. Each reads a block of it through one
+//! A file that several threads read and scan side by side. Each reads a block of it through one
 //! small buffer and keeps what the messages of the block give, not its bytes.
 #![tactic(auto)]
 

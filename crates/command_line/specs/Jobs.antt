@@ -44,8 +44,8 @@ pub record IsJobOf (rows : List Row) (job : Job) : Type 0 where
   pub morsel_given : job.morsel_given ≡ is_given (codes "morsel") rows
   pub settings : HasSettingsOf rows job.settings
 
--- the fault is help or the version only where this is what clap answers with, and wrong words only where it refuses
--- them otherwise; want of memory says nothing of the words
+-- the fault is help, or the version, only where this is among what clap may answer, and wrong words only where another
+-- refusal is; want of memory says nothing of the words
 abbrev pub IsFaultOf : Kinds → WordsFault → Type 0
 IsFaultOf kinds (fault.Help text) = IsAmong DisplayHelp kinds
 IsFaultOf kinds (fault.Version text) = IsAmong DisplayVersion kinds

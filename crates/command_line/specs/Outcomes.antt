@@ -18,7 +18,8 @@ status_of_outcome (Err f) = status_of f
 
 module _ {L : Type 0} (Took : L → L → List ℕ → Type 0) (HasFlushed : L → Type 0) (has_failed : L → Bool)
     (before after : L) where
-  -- the device took the whole text and passed it on, or it failed and took no more than its first bytes
+  -- the device took the whole text and passed it on, or it failed and took some first bytes of it: perhaps none,
+  -- perhaps all
   pub record Delivered (text : List ℕ) : Type 0 where
     pub whole : has_failed after ≡ false → Took before after text × HasFlushed after
     pub part : has_failed after ≡ true → (count : ℕ) × Took before after (take count text)
@@ -50,7 +51,8 @@ module _ {K L : Type 0}
     (OutTook : K → K → List ℕ → Type 0) (OutHasFlushed : K → Type 0) (out_failed : K → Bool)
     (Took : L → L → List ℕ → Type 0) (HasFlushed : L → Type 0) (has_failed : L → Bool)
     (out out_after : K) (errors errors_after : L) (status : ℕ) where
-  -- the output took the first bytes of a text and failed, and the errors have the line of that
+  -- the output took so many first bytes of a text, perhaps none or all, and failed, and the errors have the line of
+  -- that
   pub record IsCutShort (text : List ℕ) : Type 0 where
     pub written : ℕ
     pub within : written ≤ length text

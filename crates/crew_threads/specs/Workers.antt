@@ -6,7 +6,7 @@ use Rattle.dispatcher.specs.Seats.{claims, seen_tasks, WasGiven}
 use Rattle.dispatcher.specs.declared.seat.Seat.{Seat}
 use Rattle.gathering.specs.Views.{PieceView}
 
--- its last claim found no task, and each one before gave a task
+-- the seat's last claim found no task, and each one before gave a task
 pub record IsDone (tasks : ℕ) (s : Seat) : Type 0 where
   pub earlier : List ℕ
   pub last : ℕ
@@ -14,7 +14,7 @@ pub record IsDone (tasks : ℕ) (s : Seat) : Type 0 where
   pub gave : All (λ c. c < 2 * tasks) earlier
   pub found_none : 2 * tasks ≤ last
 
--- it marked, or saw marked, each task that it was given
+-- the seat marked, or saw marked, each task that it was given
 abbrev pub SawAllGiven : ℕ → Seat → Type 0
 SawAllGiven tasks s = (task : ℕ) → WasGiven tasks s task → Contains (seen_tasks s) task
 

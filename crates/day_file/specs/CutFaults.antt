@@ -7,15 +7,15 @@ use Rattle.day_file.specs.declared.cutting.CutFault.TheVariants.{Truncated, NotA
 use Rattle.day_file.specs.Frames.{IsTruncatedAt, IsWhole}
 use Rattle.day_file.specs.Cuts.{IsCutBy, IsCutAt, IsFirstBad}
 
--- the file is truncated there; or it is whole, and that is a bad end; or it has such a cut, of more
--- morsels than are allowed; or it has one of no more, and memory was refused
+-- what a refusal says of a file: it is truncated there; or it is whole, and that is a bad end; or it has such a cut,
+-- of more morsels than are allowed; or, where memory was short, it has such a cut, of no more than are allowed
 abbrev pub IsFaultOf : (ℕ → Type 0) → (List (List ℕ) → Type 0) → List ℕ → CutFault → Type 0
 IsFaultOf IsBad IsIt bytes (Truncated place) = IsTruncatedAt bytes place
 IsFaultOf IsBad IsIt bytes (NotABoundary end) = IsWhole bytes × IsBad end
 IsFaultOf IsBad IsIt bytes TooManyMorsels = (runs : List (List ℕ)) × IsIt runs × (MOST_MORSELS < length runs)
 IsFaultOf IsBad IsIt bytes OutOfMemory = (runs : List (List ℕ)) × IsIt runs × (length runs ≤ MOST_MORSELS)
 
--- what a refusal of `cut` says
+-- what a refusal of `cut`, or of a `Cutter`, says
 abbrev pub IsCutFault : ℕ → List ℕ → CutFault → Type 0
 IsCutFault target bytes fault = IsFaultOf (λ _. ⊥) (λ runs. IsCutBy target runs bytes) bytes fault
 

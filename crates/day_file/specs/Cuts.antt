@@ -10,7 +10,7 @@ pub record IsRun (bytes : List ℕ) : Type 0 where
   pub some : 0 < length bytes
   pub whole : IsWhole bytes
 
--- each number is a byte
+-- each number of a list is a byte
 abbrev pub AreBytes : List ℕ → Type 0
 AreBytes bytes = All (λ byte. byte < 256) bytes
 
@@ -27,7 +27,7 @@ start_of runs number = length (concat (take number runs))
 abbrev pub HasNoShorter : ℕ → List ℕ → Type 0
 HasNoShorter target run = (n : ℕ) → n < length run → IsWhole (take n run) → n < target
 
--- all but the last
+-- all runs but the last
 abbrev pub but_last : List (List ℕ) → List (List ℕ)
 but_last runs = take (length runs - 1) runs
 
@@ -51,8 +51,8 @@ pub record IsCutAt (ends : List ℕ) (runs : List (List ℕ)) (bytes : List ℕ)
 abbrev pub IsPlace : List ℕ → ℕ → Type 0
 IsPlace bytes place = (place < length bytes) × IsWhole (take place bytes)
 
--- the first of the ends that isn't greater than the one before it, the first one than `last`, or isn't the place of a
--- frame
+-- the first of the ends that isn't the place of a frame, or isn't greater than the end before it; `last` is the end
+-- before the first one
 abbrev pub IsFirstBad : List ℕ → ℕ → List ℕ → ℕ → Type 0
 IsFirstBad bytes last [] bad = ⊥
 IsFirstBad bytes last (end ∷ ends) bad =

@@ -13,7 +13,7 @@ pub record CutterView : Type 0 where
   pub past : ℕ
   pub rest : List ℕ
 
--- how many bytes were fed
+-- how many bytes were fed to a cutter
 abbrev pub fed_length : CutterView → ℕ
 fed_length cutter = (length (concat cutter.cut) + cutter.past) + length cutter.rest
 
@@ -23,7 +23,7 @@ pub record IsFullRun (target : ℕ) (bytes : List ℕ) : Type 0 where
   pub shortest : HasNoShorter target bytes
   pub full : target ≤ length bytes
 
--- these bytes were fed: full runs, of which those are kept that a cut may have, and the bytes behind them
+-- these bytes were fed to a cutter: full runs, of which those are kept that a cut may have, and the bytes behind them
 pub record HasFed (cutter : CutterView) (fed : List ℕ) : Type 0 where
   pub beyond : List (List ℕ)
   pub full : All (IsFullRun cutter.target) (cutter.cut ++ beyond)

@@ -45,7 +45,7 @@ IsWhole bytes = (frames : List PlacedBody) × StandsFor frames bytes
 abbrev pub IsStuck : List ℕ → Type 0
 IsStuck bytes = (body rest : List ℕ) → IsShort body → bytes ≡ frame_of body ++ rest → ⊥
 
--- whole frames stand before this place, and something after it, at whose head no frame stands
+-- whole frames stand before this place, and something after it, at whose head no whole frame stands
 pub record IsTruncatedAt (bytes : List ℕ) (place : ℕ) : Type 0 where
   pub front : IsWhole (take place bytes)
   pub within : place < length bytes

@@ -9,36 +9,39 @@ use Rattle.dispatcher.specs.declared.rule.View.{View}
 use Rattle.dispatcher.specs.declared.seat.Seat.{Seat}
 use Rattle.dispatcher.specs.declared.dispatcher.Dispatcher.{Dispatcher}
 
--- what no other dispatcher shares with it
+-- what no other dispatcher shares with a dispatcher
 abbrev pub identity : {A : Type 0} → Dispatcher A → TableId
 identity d = d.table.shared.table_id
 
--- how many tasks and seats it was made with
+-- a dispatcher's number of tasks
 abbrev pub tasks_of : {A : Type 0} → Dispatcher A → ℕ
 tasks_of d = d.tasks
 
+-- a dispatcher's number of seats
 abbrev pub seats_of : {A : Type 0} → Dispatcher A → ℕ
 seats_of d = d.seats
 
--- the dispatcher that it is a seat of
+-- the dispatcher that a seat is one of
 abbrev pub home : Seat → TableId
 home s = s.inner.table_id
 
+-- the seat's number
 abbrev pub number : Seat → ℕ
 number s = slice_index s.inner.me.0.numbers 0
 
--- its claims, the earliest first
+-- a seat's claims, the earliest first
 abbrev pub claims : Seat → List ℕ
 claims s = s.inner.me.0.claims
 
--- the tasks that it marked, the earliest first
+-- the tasks that a seat marked, the earliest first
 abbrev pub marked_tasks : Seat → List ℕ
 marked_tasks s = s.inner.me.0.marked
 
--- the tasks that it marked, or saw marked, the earliest first
+-- the tasks that a seat marked, or saw marked, the earliest first
 abbrev pub seen_tasks : Seat → List ℕ
 seen_tasks s = s.inner.me.0.seen
 
+-- the seat is one of this dispatcher's
 abbrev pub IsSeatOf : {A : Type 0} → Dispatcher A → Seat → Type 0
 IsSeatOf d s = home s ≡ identity d
 
@@ -46,15 +49,15 @@ IsSeatOf d s = home s ≡ identity d
 abbrev pub IsSameSeat : Seat → Seat → Type 0
 IsSameSeat s t = (home t ≡ home s) × (number t ≡ number s)
 
--- it has done nothing yet
+-- the seat has done nothing yet
 abbrev pub IsUnused : Seat → Type 0
 IsUnused s = (claims s ≡ []) × (marked_tasks s ≡ []) × (seen_tasks s ≡ [])
 
--- each claim so far gave a task
+-- each claim of the seat so far gave a task
 abbrev pub MayClaim : ℕ → Seat → Type 0
 MayClaim tasks s = All (λ c. c < 2 * tasks) (claims s)
 
--- some claim gave it the task
+-- some claim of the seat gave it the task
 abbrev pub WasGiven : ℕ → Seat → ℕ → Type 0
 WasGiven tasks s task = (c : ℕ) × Contains (claims s) c × Gives tasks c task
 
@@ -66,14 +69,15 @@ all_claims seats = flat_map claims seats
 abbrev pub GivenAtMostTwice : ℕ → List Seat → Type 0
 GivenAtMostTwice tasks seats = (task : ℕ) → times_given tasks task (all_claims seats) ≤ 2
 
--- some seat marked the task, and some seat saw it marked
+-- some seat marked the task
 abbrev pub SomeMarked : List Seat → ℕ → Type 0
 SomeMarked seats task = Any (λ s. Contains (marked_tasks s) task) seats
 
+-- some seat marked the task, or saw it marked
 abbrev pub SomeSaw : List Seat → ℕ → Type 0
 SomeSaw seats task = Any (λ s. Contains (seen_tasks s) task) seats
 
--- the flag of the task, false of a task that there isn't
+-- whether a task is marked in these flags; false of a task that there isn't
 abbrev pub flag_of : List Bool → ℕ → Bool
 flag_of flags task = slice_index_or flags task false
 

@@ -7,17 +7,18 @@ use Rattle.day_file.specs.Frames.{IsTruncatedAt}
 use Rattle.streaming.specs.Streams.{GaveAll, GaveMore, GaveSome, HasTooMany}
 use Rattle.block_scan.specs.Blocks.{GaveMoreAt, GaveWhole}
 
--- each field is what is known where a run says so
+-- What is known of the source where an outcome of a run cites it, a field for each case. The comment of a field says
+-- what it is for; each kind of source, below, says what it means there, and that may be less.
 pub record Reading : Type 1 where
   -- all that the source had to give, which isn't more than the limit, was read, and is these bytes
   pub all : List ℕ → Type 0
-  -- it was read in part, or not at all
+  -- it was read in part, or not at all: what is known of that part
   pub some : Type 0
   -- it gave more than the limit
   pub longer : Type 0
-  -- a call of it failed
+  -- a call of it failed: what is known of what it had given
   pub failed : Type 0
-  -- all that it had to give has too many morsels
+  -- all that it had to give was read, and has too many morsels
   pub too_many : Type 0
   -- nothing was read of it
   pub untouched : Type 0
@@ -28,9 +29,9 @@ IsTruncatedOrFew target day =
     ((place : ℕ) × IsTruncatedAt day place)
     ⊎ ((runs : List (List ℕ)) × IsCutBy target runs day × (length runs ≤ MOST_MORSELS))
 
--- of a stream, whose bytes come in order and are cut by the target: S is its states, of which these were before and
--- after. `Gave` says which bytes it gave from one state to a later one, and `HasEnded` that it said
--- that no byte is left.
+-- Of a stream, whose bytes come in order and are cut by the target: S is its states, of which these were before and
+-- after. `Gave` says which bytes it gave from one state to a later one, and `HasEnded` that it said that no byte is
+-- left. `failed` says how much it gave; that a call failed is a clause of its own, `read_failed` of `run`.
 abbrev pub of_stream : {S : Type 0} → (S → S → List ℕ → Type 0) → (S → Type 0) → ℕ → ℕ → S → S → Reading
 of_stream Gave HasEnded limit target before after = record {
   all = λ day. GaveAll Gave HasEnded limit before after day × IsTruncatedOrFew target day;
@@ -41,9 +42,10 @@ of_stream Gave HasEnded limit target before after = record {
   untouched = after ≡ before;
 }
 
--- of a source that is read at places: S is sources. `GaveAt` says which bytes it gave to readings from a place on,
+-- Of a source that is read at places: S is sources. `GaveAt` says which bytes it gave to readings from a place on,
 -- `EndsAt` that a reading at a place found none there, and `FailsAt` that one failed. It has no state that a reading
--- changes, and is cut into no morsels.
+-- changes, so nothing is said where it was read in part or not at all. It is cut into no morsels, so they are never
+-- too many.
 abbrev pub of_blocks : {S : Type 0} → (S → ℕ → List ℕ → Type 0) → (S → ℕ → Type 0) → (S → ℕ → Type 0) → ℕ → S → Reading
 of_blocks GaveAt EndsAt FailsAt limit source = record {
   all = GaveWhole GaveAt EndsAt limit source;

@@ -13,13 +13,13 @@ use Rattle.answers.specs.Messages.{first_wrong}
 use Rattle.executor.specs.declared.calls.rehearse.Rehearsal.{Rehearsal}
 use Rattle.executor.specs.declared.calls.rehearse.Rehearsal.TheVariants.{Finished, Missing}
 
--- it has the answer to the query over the file
+-- the rehearsal has the answer to the query over the file
 abbrev pub IsFinished : List ℕ → Meaning → Rehearsal → Type 0
 IsFinished file query (Finished answer) = IsAnswer file query (told_by answer)
 IsFinished file query (Missing pipeline task) = ⊥
 
--- the first morsel that has not arrived; else, where a length of the file is wrong, the answer, which tells it; else
--- the first partition that has not arrived; else the answer
+-- what a rehearsal gives: the first morsel that has not arrived; else, where a length of the file is wrong, the answer,
+-- which tells it; else the first partition that has not arrived; else the answer
 pub record IsRehearsed (runs : List (List ℕ)) (query : Meaning) (parts gatherers : ℕ) (events1 events2 : List Event)
     (rehearsal : Rehearsal) : Type 0 where
   pub frames : List PlacedBody

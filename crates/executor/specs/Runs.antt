@@ -33,15 +33,16 @@ module _ {K : Type 0} (reading : Reading) (Took : K → K → List ℕ → Type 
     pub took : Took sink_before sink_after text
     pub flushed : HasFlushed sink_after
 
-  -- the answer is a text, and the sink took its first bytes
+  -- the answer is a text, and the sink took so many of its first bytes: perhaps none, perhaps all
   pub record Wrote (words : List ℕ) (sink_before sink_after : K) (written : ℕ) : Type 0 where
     pub text : List ℕ
     pub answers : Answers reading words (Ok text)
     pub within : written ≤ length text
     pub took : Took sink_before sink_after (take written text)
 
-  -- what each outcome of a run with this limit says: the whole text was written, or one refusal holds and the sink
-  -- was left alone, or took a front of the text
+  -- What each outcome of a run with this limit says: the whole text was written; or what the refusal says holds, and
+  -- the sink was left alone, or, where the sink failed, it took so many first bytes of the text. No line says that
+  -- memory was short: the last one says what was known of the words and the source by then.
   abbrev pub Ran : List ℕ → ℕ → K → K → Result (Unit {0}) RunFault → Type 0
   Ran words limit sink_before sink_after (Ok done) = WroteAll words sink_before sink_after
   Ran words limit sink_before sink_after (Err (fault.Query f)) =

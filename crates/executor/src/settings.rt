@@ -5,8 +5,8 @@ ghost use Rattle.lists.specs.declared.limits.TheConstants.{MOST_PARTITIONS};
 use pipelines::Crew;
 
 /// How a query is answered. The crew, the morsel and the parts have effect on speed and memory alone: no
-/// text of an answer and no fault of a day depends on them. A file that is cut while it is read, and whose
-/// morsels are too many for the target, is refused, in place of an answer.
+/// text of an answer and no fault of a day depends on them. A file that isn't truncated, is cut while
+/// it is read, and has more than 65,536 morsels of the size asked for is refused, in place of an answer.
 #[derive(Clone, Copy, Debug, PartialEq, Eq)]
 pub struct Settings {
     /// How many threads work, and how many gather what they find.

@@ -27,6 +27,6 @@ module _ {A B C : Type 0} (value_of : A → B) (total_of : List A → C) (IsAdmi
       → StartsAdmissible IsAdmissible (before ++ next ∷ [])
       → new ≡ total_of (before ++ next ∷ [])
 
--- there are as many inputs in both lists, and they are equal one by one
+-- two lists of inputs are as long and equal one by one
 abbrev pub same_inputs : {A : Type 0} → (A → A → Bool) → List A → List A → Bool
 same_inputs eq xs ys = pointwise eq xs ys

@@ -17,6 +17,7 @@ pub record GatheringView (A : Type 0) : Type 0 where
   pub covered : FinSet nat_cmp
 
 module _ {A : Type 0} where
+  -- pieces can be told apart by their numbers and inputs (for the model alone)
   abbrev pub piece_code : Coded A → Coded (PieceView A)
   piece_code a =
       code_by
@@ -26,6 +27,7 @@ module _ {A : Type 0} where
       (λ q. record { number = q.0; input = q.1 })
       (λ _. refl)
 
+  -- gatherings can be told apart by their inputs and sets (for the model alone)
   abbrev pub gathering_code : Coded A → Coded (GatheringView A)
   gathering_code a =
       code_by

@@ -32,7 +32,7 @@ abbrev pub has_wrong_length : List ℕ → Bool
 has_wrong_length body =
     option_map_or (λ wanted. not (length body == wanted)) (length_of (kind_of body)) false
 
--- what is told of a wrong length
+-- what is reported of a wrong length
 abbrev pub length_fault_of : List ℕ → LengthFault
 length_fault_of body = record {
   kind = kind_of body;
@@ -142,7 +142,7 @@ message_of_kind kind body =
 abbrev pub message_of : List ℕ → Message
 message_of body = if is_whole body then message_of_kind (kind_of body) body else Skipped
 
--- whether it is `Skipped`
+-- whether a message is `Skipped`
 abbrev pub is_skipped : Message → Bool
 is_skipped Skipped = true
 is_skipped _ = false
@@ -194,7 +194,7 @@ parts_of (Broken m) = (66 ∷ []) ∷ header_parts m.header ++ number_bytes 8 m.
 parts_of (Directory m) = (82 ∷ []) ∷ header_parts m.header ++ m.stock ∷ m.rest ∷ []
 parts_of Skipped = []
 
--- the body of a message
+-- the body of a message: its type's byte and its fields, in the order of their offsets
 abbrev pub body_of : Message → List ℕ
 body_of message = concat (parts_of message)
 

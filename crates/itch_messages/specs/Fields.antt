@@ -15,6 +15,6 @@ bytes_at offset width body = take width (drop offset body)
 unfoldable pub number_bytes : ℕ → ℕ → List ℕ
 number_bytes width number = big_bytes width number
 
--- each is a byte
+-- each number of a list is a byte
 abbrev pub AreBytes : List ℕ → Type 0
 AreBytes bytes = All (λ byte. byte < 256) bytes

@@ -27,11 +27,11 @@ abbrev pub is_repeated : List OrderRow → OrderRow → Bool
 is_repeated rows row =
     list_any (λ other. (other.order_no == row.order_no) && nat_lt other.place row.place) rows
 
--- of the repeated rows the one of least place
+-- of the rows whose reference a row of smaller place gives, the one of least place
 abbrev pub first_repeated : List OrderRow → Option OrderRow
 first_repeated rows = least_by (λ row. row.place) (filter (is_repeated rows) rows)
 
--- what is told of a repeated row
+-- what is reported of a repeated row
 abbrev pub repeated_of : OrderRow → Repeated
 repeated_of row = record { place = row.place; order_no = row.order_no }
 

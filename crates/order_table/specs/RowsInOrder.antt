@@ -8,5 +8,6 @@ use Rattle.order_table.specs.Orders.{OrderRow}
 abbrev pub MayFollow : OrderRow → OrderRow → Type 0
 MayFollow row next = (row.order_no < next.order_no) ⊎ ((row.order_no ≡ next.order_no) × (row.place ≤ next.place))
 
+-- of each two rows the later may follow the earlier
 abbrev pub IsInOrder : List OrderRow → Type 0
 IsInOrder = AllPairs MayFollow

@@ -28,9 +28,11 @@ first_left gatherers tasks events =
 abbrev pub Sets : Type 0
 Sets = List (FinSet nat_cmp)
 
+-- the sets of covered tasks of gatherings, in order
 abbrev pub covered_sets : {A : Type 0} → List (GatheringView A) → Sets
 covered_sets gatherings = map (λ g. g.covered) gatherings
 
+-- the set of one gatherer; the empty set of a gatherer out of range
 abbrev pub set_of : Sets → ℕ → FinSet nat_cmp
 set_of sets gatherer = slice_index_or sets gatherer empty
 
@@ -58,6 +60,6 @@ after tasks (Merge into other) sets =
 abbrev pub AreOver : {A : Type 0} → List A → List (GatheringView A) → Type 0
 AreOver inputs gatherings = All (λ g. g.inputs ≡ inputs) gatherings
 
--- what all events make of them, in order
+-- what all events make of the sets, in order
 abbrev pub after_all : ℕ → List Event → Sets → Sets
 after_all tasks events sets = fold (λ now event. after tasks event now) sets events

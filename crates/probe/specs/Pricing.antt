@@ -10,7 +10,7 @@ pub use Rattle.probe.specs.declared.rows.Sale.{Sale}
 pub use Rattle.probe.specs.declared.rows.Unknown.{Unknown}
 use Rattle.probe.specs.declared.rows.Kind.TheVariants.{E}
 
--- the price of the first row that gives the execution's reference, where it stands before it
+-- the price of the first row that gives the execution's reference, where that row stands before the execution
 abbrev pub price_of : List OrderRow → Execution → Option ℕ
 price_of rows execution = price_before rows execution.order_no execution.place
 
@@ -23,7 +23,7 @@ abbrev pub first_unknown : List OrderRow → List Execution → Option Execution
 first_unknown rows executions =
     least_by (λ execution. execution.place) (filter (is_unknown rows) executions)
 
--- what is told of it
+-- what is reported of an execution that has no price
 abbrev pub unknown_of : Execution → Unknown
 unknown_of execution = record { place = execution.place; order_no = execution.order_no }
 

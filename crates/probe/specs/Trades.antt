@@ -4,7 +4,7 @@ use Rattle.std.specs.Prelude.{ℕ, nat_lt, Bool, ◌&&◌, not, List, filter}
 use Rattle.lists.specs.Among.{is_among}
 use Rattle.probe.specs.declared.rows.Sale.{Sale}
 
--- no break has the sale's match number, the selection has the sale, and it has shares
+-- no break has the sale's match number, the selection has the sale, and it has more than zero shares
 abbrev pub is_kept : List ℕ → (Sale → Bool) → Sale → Bool
 is_kept breaks selection sale =
     not (is_among breaks sale.trade_no) && (selection sale && nat_lt 0 sale.shares)

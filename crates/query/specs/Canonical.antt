@@ -54,6 +54,7 @@ kind_condition kinds =
     if (kinds.e && kinds.c) && (kinds.p && kinds.q) then []
     else (codes "kind" ∷ codes "in" ∷ join_with_byte COMMA (kind_letters kinds) ∷ []) ∷ []
 
+-- the words of a query's conditions: symbol, time, kind, those that it has
 abbrev pub conditions_of : Meaning → List (List (List ℕ))
 conditions_of query =
     symbol_condition query.symbols ++ (time_condition query.span ++ kind_condition query.kinds)
@@ -63,11 +64,12 @@ abbrev pub linked : List ℕ → List (List (List ℕ)) → List (List ℕ)
 linked link [] = []
 linked link (condition ∷ conditions) = link ∷ condition ++ linked (codes "and") conditions
 
+-- the words of the canonical text: what is listed, the moment, then the conditions
 abbrev pub canonical_words : Meaning → List (List ℕ)
 canonical_words query =
     what_words query.what
     ++ (moment_words query.as_of ++ linked (codes "where") (conditions_of query))
 
--- the canonical words, with one space between each two
+-- the one text in which a query is written: the canonical words, with one space between each two
 unfoldable pub canonical : Meaning → List ℕ
 canonical query = join_with_byte SPACE (canonical_words query)

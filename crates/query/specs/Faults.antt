@@ -36,6 +36,7 @@ pub data Next : Type 0 where
   -- the end, or `and`
   more : Said → Next
 
+-- what one word leads to: what must come next, or a fault
 abbrev pub Step : Type 0
 Step = Result Next QueryFault
 
@@ -52,18 +53,20 @@ valued (Some value) fault next = next value
 abbrev pub opening : Word → Bool → Next → Step
 opening w given next = if given then Err (Repeated w.at) else Ok next
 
+-- the first word of a query: `sales` or `bars`
 abbrev pub begins : Word → Step
 begins w =
     if reads_as (codes "sales") w then Ok (moment (only Sales))
     else if reads_as (codes "bars") w then Ok number
     else Err (UnknownWord w.at)
 
--- the first word after what is listed
+-- the first word after what is listed: `as` or `where`
 abbrev pub narrows : Said → Word → Step
 narrows said w =
     if reads_as (codes "as") w then Ok (of_after_as said)
     else expecting (codes "where") (condition said) w
 
+-- the first word of a condition
 abbrev pub opens : Said → Word → Step
 opens said w =
     if reads_as (codes "symbol") w then opening w (is_some said.symbols) (symbol_in said)
@@ -75,6 +78,7 @@ opens said w =
 abbrev pub wide : ℕ → ℕ → Step
 wide at width = if is_width width then Ok (moment (only (Bars width))) else Err (BadNumber at)
 
+-- a span whose times have been read, or the fault of an empty one
 abbrev pub bounded : Said → ℕ → ℕ → Step
 bounded said since until =
     if nat_lt since until
@@ -116,6 +120,7 @@ ended (filter said) = Ok (meaning_of said)
 ended (more said) = Ok (meaning_of said)
 ended _ = Err Incomplete
 
+-- what follows after a step, or the step's fault
 abbrev pub continued : Step → (Next → Result Meaning QueryFault) → Result Meaning QueryFault
 continued (Ok next) rest = rest next
 continued (Err fault) rest = Err fault

@@ -59,7 +59,7 @@ pub data Moment : Said → List Word → Meaning → Type 0 where
       → time_of moment ≡ Some time → Filter (record said { as_of = Some time }) rest query
       → Moment said (word a (codes "as") ∷ word b (codes "of") ∷ word c moment ∷ rest) query
 
--- the words of a query, and what they mean
+-- the grammar of a whole query, a rule for each of its forms: these words mean this query
 pub data Means : List Word → Meaning → Type 0 where
   sales :
       {a : ℕ} {rest : List Word} {query : Meaning}

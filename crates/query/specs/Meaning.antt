@@ -10,7 +10,7 @@ use Rattle.query.specs.declared.query.What.TheVariants.{Bars}
 use Rattle.probe.specs.declared.selection.Kinds.{Kinds}
 use Rattle.probe.specs.declared.selection.Span.{Span}
 
--- a query: what is listed, and of which sales
+-- a query: what is listed, up to which second messages count, and which sales by symbols, span and kinds
 pub record Meaning : Type 0 where
   pub what : What
   -- messages of a later time than this, which is in seconds since midnight, don't count
@@ -28,10 +28,11 @@ pub record Said : Type 0 where
   pub span : Option Span
   pub kinds : Option Kinds
 
--- neither a moment nor a condition was given
+-- what is listed, and neither a moment nor a condition yet
 abbrev pub only : What → Said
 only what = record { what = what; as_of = None; symbols = None; span = None; kinds = None }
 
+-- all four kinds
 abbrev pub all_kinds : Kinds
 all_kinds = record { e = true; c = true; p = true; q = true }
 
@@ -54,7 +55,7 @@ is_width width = nat_le 1 width && nat_le width SECONDS_OF_DAY
 abbrev pub are_symbols : List (List ℕ) → Bool
 are_symbols symbols = nat_lt 0 (length symbols) && list_all is_symbol symbols
 
--- the first second is before the second, and that isn't past the day's end
+-- the span's start is before its end, and that isn't past the day's end
 abbrev pub is_span : Span → Bool
 is_span span = nat_lt span.since span.until && nat_le span.until SECONDS_OF_DAY
 
@@ -75,7 +76,7 @@ pub record CanBeSpelled (query : Meaning) : Type 0 where
   pub sound : IsSound query.what query.as_of query.symbols query.span
   pub kinds : has_some query.kinds ≡ true
 
--- a width of bars is within its bounds
+-- what is listed, if bars, has a width of one second to a day
 abbrev pub HasWidth : What → Type 0
 HasWidth what = (n : ℕ) → what ≡ Bars n → is_width n ≡ true
 

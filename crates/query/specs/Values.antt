@@ -57,7 +57,7 @@ time_of bytes = if bytes_eq bytes (codes "24:00:00") then Some SECONDS_OF_DAY el
 abbrev pub is_symbol_byte : ℕ → Bool
 is_symbol_byte byte = (nat_le 33 byte && nat_le byte 126) && not (byte == COMMA)
 
--- one to eight such bytes
+-- a symbol: one to eight such bytes
 unfoldable pub is_symbol : List ℕ → Bool
 is_symbol bytes =
     (nat_lt 0 (length bytes) && nat_le (length bytes) 8) && list_all is_symbol_byte bytes

@@ -14,7 +14,7 @@ pub record Word : Type 0 where
 abbrev pub word : ℕ → List ℕ → Word
 word at bytes = record { at = at; bytes = bytes }
 
--- a word is the text
+-- a word is this text
 abbrev pub reads_as : List ℕ → Word → Bool
 reads_as text w = bytes_eq w.bytes text
 
@@ -31,7 +31,7 @@ words_of_parts at (part ∷ more) = word at part ∷ words_of_parts (at + (lengt
 unfoldable pub words_from : ℕ → List ℕ → List Word
 words_from at text = filter (λ w. nat_lt 0 (length w.bytes)) (words_of_parts at (parts SPACE text))
 
--- the words of a text
+-- the words of a text: the runs of bytes between spaces, each with the number of bytes before it
 abbrev pub words_of : List ℕ → List Word
 words_of text = words_from 0 text
 

@@ -21,17 +21,18 @@ module _ {S : Type 0} (Gave : S → S → List ℕ → Type 0) where
     pub gave : Gave before after bytes
     pub longer : length bytes ≡ limit + 1
 
-  -- the source gave these bytes, no more than the limit, and said that no byte is left
+  -- the source gave these bytes, no more than the limit, and has said that no byte is left
   pub record GaveAll (HasEnded : S → Type 0) (limit : ℕ) (before after : S) (day : List ℕ) : Type 0 where
     pub gave : Gave before after day
     pub ended : HasEnded after
     pub within : length day ≤ limit
 
--- they have a cut by the target that has more morsels than are allowed
+-- bytes have a cut by the target that has more morsels than are allowed
 abbrev pub HasTooMany : ℕ → List ℕ → Type 0
 HasTooMany target day = (runs : List (List ℕ)) × IsCutBy target runs day × (MOST_MORSELS < length runs)
 
--- what a refusal says of what the source gave
+-- What a refusal says of what the source gave. Where a call failed, or memory was short, that is only how many bytes
+-- it may have given at most. That a call failed is a clause of its own, `failed` of `read_cut`.
 abbrev pub IsReadFault : {S : Type 0} → (S → S → List ℕ → Type 0) → (S → Type 0)
     → ℕ → ℕ → S → S → CutReadFault → Type 0
 IsReadFault Gave HasEnded limit target before after fault.ReadFailed = GaveSome Gave limit before after

@@ -21,9 +21,9 @@ use std::sync::Wait;
 use std::thread::Threads;
 use streaming::{CutReadFault, Source, read_cut};
 
-/// Reads a whole day file from a source, cuts it into morsels meanwhile, and writes the answer to a
-/// query, which threads find, to a sink. Nothing is written before every refusal but that of the sink
-/// is past. After a refusal the source may have been read in part. It waits for the threads.
+/// Reads a whole day file from a source and cuts it into morsels meanwhile. Threads find the answer to
+/// the query, which is then written to a sink. Nothing is written before every refusal but that of the
+/// sink is past. After a refusal the source may have been read in part. It waits for the threads.
 pub fn run<R: Threads + Wait + Sync, S: Source, K: Sink>(
     rt: &R,
     alloc: Global,

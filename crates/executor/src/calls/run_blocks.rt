@@ -17,10 +17,10 @@ use std::sync::Wait;
 use std::thread::Threads;
 
 /// Answers a query over a whole day file that is read at places, as `run` does over one that is read in
-/// order: its blocks are read and scanned at once, by as many threads as the crew has workers, and their
-/// bytes are not kept. The answer is that of the bytes that were read, each once. `length` is how many bytes
-/// the file is expected to have; it has effect on speed alone, and so has the crew. The morsel of the
-/// settings has no part in it.
+/// order: its blocks are read and scanned side by side, by as many threads as the crew has workers, and
+/// their bytes are not kept. The answer is that of the bytes that were read, each once. `length` is how
+/// many bytes the file is expected to have. It has effect on speed alone, and the crew on speed and memory.
+/// The morsel of the settings has no part in it.
 ///
 /// Nothing is written before every refusal but that of the sink is past. It waits for the threads.
 pub fn run_blocks<R: Threads + Wait + Sync, S: BlockSource + Sync, K: Sink>(
