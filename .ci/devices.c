@@ -1,75 +1,100 @@
-// Stands between the process that it is preloaded into and its devices, for `devices`. Readings (`read`, `pread`) are
-// counted from 1, and so are writings to the standard output.
-//   DEVICE_BYTES=n     a reading gives at most n bytes, and a writing takes at most n
-//   DEVICE_READING=k   reading k is the one that is meant, and fails, unless there is something to do
-//   DEVICE_WRITING=k   writing k fails
-//   DEVICE_ERROR=e     what they fail with, a number of errno
-//   DEVICE_DOES=words  what a shell does before reading k, which then doesn't fail
-//   DEVICE_MARK=file   is written once the call that is meant has come
+// Makes the readings and the writes of the process that it is preloaded into those of a bad device, for `devices`. Readings
+// are calls of read and pread, counted from 1, writes those on standard output.
+//   DEVICE_GIVES    the most bytes that a reading gives
+//   DEVICE_FAILS    the reading that fails
+//   DEVICE_ONCE     set: no other reading fails; else each one behind it does
+//   DEVICE_TAKES    the most bytes that a write takes
+//   DEVICE_ROOM     how many bytes are taken before a write fails
+//   DEVICE_ERROR    the error of what fails; else that of a device
+//   DEVICE_DOES     a command for the shell, which is run before the reading DEVICE_AT
+// A process that doesn't end is ended after 20 seconds. At a failure it writes into the file DEVICE_MARK: `failed`, or `again` where a read or a write follows a failed one.
 typedef unsigned long size;
-typedef long result;
 
-result __read(int, void *, size);
-result __pread64(int, void *, size, long);
-result __write(int, const void *, size);
+void *dlsym(void *, const char *);
 char *getenv(const char *);
 int unsetenv(const char *);
-long strtol(const char *, char **, int);
+unsigned alarm(unsigned);
 int system(const char *);
+long strtol(const char *, char **, int);
 int open(const char *, int, ...);
 int close(int);
 int *__errno_location(void);
 
-enum { NEVER = -1, STANDARD_OUTPUT = 1, INPUT_OUTPUT_ERROR = 5 };
-enum { WRITE_CREATE = 1 | 0100 };
+typedef long input(int, void *, size);
+typedef long input_at(int, void *, size, long);
+typedef long output(int, const void *, size);
 
-static long most_bytes = NEVER, meant_reading = NEVER, meant_writing = NEVER, error = INPUT_OUTPUT_ERROR;
-static long readings, writings;
-static const char *words;
+enum { NONE = -1, OUTPUT = 1, DEVICE_ERROR = 5, MOST_SECONDS = 20 };
+enum { WRITE_CREATE_APPEND = 02001 | 0100 };
 
-static long number(const char *name, long otherwise) {
+static long gives = NONE, fails = NONE, takes = NONE, room = NONE, at = NONE, error = DEVICE_ERROR;
+static int is_once;
+static long readings, failed_readings, taken, failed_writes;
+static input *next_read;
+static input_at *next_pread;
+static output *next_write;
+
+static long number(const char *name, long without) {
     const char *text = getenv(name);
-    return text ? strtol(text, 0, 10) : otherwise;
+    return text ? strtol(text, 0, 10) : without;
 }
 
 __attribute__((constructor)) static void begin(void) {
-    most_bytes = number("DEVICE_BYTES", NEVER);
-    meant_reading = number("DEVICE_READING", NEVER);
-    meant_writing = number("DEVICE_WRITING", NEVER);
-    error = number("DEVICE_ERROR", INPUT_OUTPUT_ERROR);
-    words = getenv("DEVICE_DOES");
-    // (what the shell starts is not stood before)
+    next_read = dlsym((void *)-1L, "read");
+    next_pread = dlsym((void *)-1L, "pread");
+    next_write = dlsym((void *)-1L, "write");
+    gives = number("DEVICE_GIVES", NONE);
+    fails = number("DEVICE_FAILS", NONE);
+    is_once = getenv("DEVICE_ONCE") != 0;
+    takes = number("DEVICE_TAKES", NONE);
+    room = number("DEVICE_ROOM", NONE);
+    error = number("DEVICE_ERROR", DEVICE_ERROR);
+    at = number("DEVICE_AT", NONE);
+    alarm(MOST_SECONDS);
+    // (a command's own readings are those of good devices)
     unsetenv("LD_PRELOAD");
 }
 
-static int is_meant(long *count, long meant) {
-    if (__atomic_add_fetch(count, 1, __ATOMIC_SEQ_CST) != meant) return 0;
+static void mark(const char *what, size length) {
     const char *name = getenv("DEVICE_MARK");
-    if (name) close(open(name, WRITE_CREATE, 0600));
-    return 1;
+    if (!name) return;
+    int file = open(name, WRITE_CREATE_APPEND, 0600);
+    if (file < 0) return;
+    next_write(file, what, length);
+    close(file);
 }
 
-static result failed(void) {
+static long failure(long *failures) {
+    if (__atomic_fetch_add(failures, 1, __ATOMIC_SEQ_CST) == 0) mark("failed\n", 7);
     *__errno_location() = error;
     return -1;
 }
 
-static size at_most(size bytes) { return most_bytes != NEVER && bytes > (size)most_bytes ? (size)most_bytes : bytes; }
+static size least(size bytes, long most) { return most >= 0 && bytes > (size)most ? (size)most : bytes; }
 
-static int reading_fails(void) {
-    if (!is_meant(&readings, meant_reading)) return 0;
-    if (!words) return 1;
-    system(words);
-    return 0;
+// Whether the reading that is asked for fails.
+static int is_failing(void) {
+    long reading = __atomic_add_fetch(&readings, 1, __ATOMIC_SEQ_CST);
+    if (reading == at) system(getenv("DEVICE_DOES"));
+    return fails != NONE && (is_once ? reading == fails : reading >= fails);
 }
 
-result read(int file, void *to, size bytes) { return reading_fails() ? failed() : __read(file, to, at_most(bytes)); }
-
-result pread(int file, void *to, size bytes, long place) {
-    return reading_fails() ? failed() : __pread64(file, to, at_most(bytes), place);
+long read(int file, void *into, size bytes) {
+    if (failed_readings) mark("again\n", 6);
+    if (is_failing()) return failure(&failed_readings);
+    return next_read(file, into, least(bytes, gives));
 }
 
-result write(int file, const void *from, size bytes) {
-    if (file != STANDARD_OUTPUT) return __write(file, from, bytes);
-    return is_meant(&writings, meant_writing) ? failed() : __write(file, from, at_most(bytes));
+long pread(int file, void *into, size bytes, long place) {
+    if (is_failing()) return failure(&failed_readings);
+    return next_pread(file, into, least(bytes, gives), place);
+}
+
+long write(int file, const void *from, size bytes) {
+    if (file != OUTPUT) return next_write(file, from, least(bytes, takes));
+    if (failed_writes) mark("again\n", 6);
+    if (room != NONE && taken >= room) return failure(&failed_writes);
+    long count = next_write(file, from, least(least(bytes, takes), room == NONE ? NONE : room - taken));
+    if (count > 0) taken += count;
+    return count;
 }
