@@ -123,11 +123,14 @@ fn random_shares(dice: &mut Dice) -> u64 {
 
 /// A message's body. References and match numbers are few, so that they meet.
 fn random_body(dice: &mut Dice, given: &mut Vec<u64>) -> Vec<u8> {
-    let kind = dice.of(b"RAAAFEEEECCUUPPQBZS");
+    let mut kind = dice.of(b"RAAAFEEEECCUUPPQBZS");
+    if kind == b'E' && given.is_empty() && !dice.one_in(20) {
+        kind = b'A';
+    }
     let locate = dice.of(&[7, 7, 8, 9, 65_535]);
     let mut body = body(kind, locate, random_time(dice));
     let fresh = if dice.one_in(80) { 1 + dice.below(12) } else { given.len() as u64 * 37 + 100 };
-    let known = if given.is_empty() || dice.one_in(60) { 1 + dice.below(12) } else { dice.of(given) };
+    let known = if given.is_empty() || dice.one_in(100) { 1 + dice.below(12) } else { dice.of(given) };
     let number = 1 + dice.below(14);
     let (price, shares) = (random_price(dice), random_shares(dice));
     let (price, small) = (price.to_be_bytes(), (shares as u32).to_be_bytes());
@@ -217,10 +220,17 @@ fn random_day(dice: &mut Dice) -> Vec<u8> {
 const TIMES: [&str; 7] =
     ["09:30:00", "09:31:00", "09:31:01", "09:32:30", "24:00:00", "00:00:00", "23:59:59"];
 
-fn random_condition(dice: &mut Dice) -> String {
-    match dice.below(3) {
+fn random_span(dice: &mut Dice) -> String {
+    let (one, other) = (dice.of(&TIMES), dice.of(&TIMES));
+    let rise = one <= other || dice.one_in(8);
+    let (since, until) = if rise { (one, other) } else { (other, one) };
+    format!("time from {since} until {until}")
+}
+
+fn random_condition(dice: &mut Dice, which: u64) -> String {
+    match which % 3 {
         0 => format!("symbol in {}", dice.of(&["MSFT", "AAPL,MSFT", "#7", "#8,AB?CD", "A?B", "?LEAD", "?Z?", "X,X"])),
-        1 => format!("time from {} until {}", dice.of(&TIMES), dice.of(&TIMES)),
+        1 => random_span(dice),
         _ => format!("kind in {}", dice.of(&["E", "C", "P", "Q", "E,P", "Q,C,E", "P,P"])),
     }
 }
@@ -229,20 +239,24 @@ fn random_query(dice: &mut Dice) -> Vec<u8> {
     let mut text = if dice.one_in(2) {
         "sales".to_string()
     } else {
-        let number = dice.of(&["1", "7", "30", "60", "00090", "1", "2", "0", "86400", "86401", "99999", "123456"]);
-        format!("bars {number} {}", dice.of(&["s", "m", "h", "m", "s", "x"]))
+        let odd = dice.one_in(6);
+        let right = ["1", "7", "00024", "2", "5"];
+        let number = dice.of(if odd { &["0", "86400", "86401", "99999", "123456"] } else { &right });
+        format!("bars {number} {}", dice.of(if odd { b"smhsx" } else { b"smhsm" }) as char)
     };
     if dice.one_in(4) {
         text += &format!(" as of {}", dice.of(&TIMES));
     }
     if dice.one_in(2) {
-        text += &format!(" where {}", random_condition(dice));
-        while dice.one_in(2) {
-            text += &format!(" and {}", random_condition(dice));
+        let mut which = dice.below(3);
+        text += &format!(" where {}", random_condition(dice, which));
+        while dice.one_in(3) {
+            which += if dice.one_in(6) { dice.below(3) } else { 1 };
+            text += &format!(" and {}", random_condition(dice, which));
         }
     }
     let mut text = text.into_bytes();
-    if dice.one_in(8) {
+    if dice.one_in(12) {
         let at = dice.below(text.len() as u64 + 1) as usize;
         match dice.below(4) {
             0 => text.insert(at, dice.of(b"  a,:9\t")),
