@@ -1,0 +1,48 @@
+//! Answers queries over small day files, each in several ways, so that the answers can be compared with
+//! those of a reader that isn't proved. `fuzz/CASES.md` says how a case is written.
+#![tactic(auto)]
+
+mod case;
+mod left;
+mod told;
+mod ways;
+
+use case::{case_of, next_case, next_way};
+use std::alloc::Global;
+use std::io;
+use std::sync::Wait;
+use std::thread::Threads;
+use ways::answer_by;
+
+fn main(rt: HostRuntime) -> io::Result<()> {
+    let mut input = rt.stdin();
+    let mut out = rt.stdout();
+    for _ in 0..u64::MAX {
+        let Some(bytes) = next_case(rt.alloc(), &mut input)? else {
+            break;
+        };
+        let text = answers_to(&rt, rt.alloc(), bytes.as_slice())?;
+        io::Write::write_all(&mut out, text.as_slice())?;
+        io::Write::flush(&mut out)?;
+    }
+    Ok(())
+}
+
+/// A line for each way in which the case is to be answered.
+fn answers_to<R: Threads + Wait + Sync>(
+    rt: &R,
+    alloc: Global,
+    bytes: &[u8],
+) -> io::Result<Vec<u8>> {
+    let (case, mut left) = case_of(bytes)?;
+    let mut text = Vec::new(alloc);
+    for _ in 0..u64::MAX {
+        if left.bytes.is_empty() {
+            break;
+        }
+        let way = next_way(alloc, &mut left)?;
+        answer_by(rt, alloc, &case, &way, &mut text)?;
+        text.push(b'\n')?;
+    }
+    Ok(text)
+}
