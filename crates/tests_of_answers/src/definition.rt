@@ -50,7 +50,10 @@ fn bodies_of<'a>(
 ) -> Result<Result<Vec<Body<'a>>, DayFault>, OutOfMemory> {
     let mut bodies = Vec::new(alloc);
     let mut rest = bytes;
-    while !rest.is_empty() {
+    for _ in 0..bytes.len() {
+        if rest.is_empty() {
+            break;
+        }
         let place = bytes.len().saturating_sub(rest.len()) as u64;
         let Some((body, behind)) = first_frame(rest) else {
             return Ok(Err(DayFault::Truncated { place }));
