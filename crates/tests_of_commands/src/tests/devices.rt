@@ -1,14 +1,14 @@
 //! What goes to which of the program's two outputs, and what comes of devices that fail.
 ghost use Rattle.std.specs.Prelude.{◌≡◌, false};
 
-use super::{Outcome, job, performed_by_blocks};
+use super::{job, performed_by_blocks};
 use command_line::{
     BlockSource, Counted, CountedSink, DeviceFailed, LONGEST_FILE, RunFault, WordsFault, explain,
     perform, perform_blocks, perform_opened, tell,
 };
 use std::io::{self, Write};
 use std::test::Fail;
-use tests_support::{Broken, Day, NAMED, Trickle, UNNAMED, UNNAMED_TEXT};
+use tests_support::{Broken, Day, NAMED};
 
 /// A writer that takes two bytes a call, no more than it has room for, and notes its flush.
 #[derive(Drop)]
@@ -234,56 +234,6 @@ fn devices_that_refuse(rt: HostRuntime) -> Result<(), Fail> {
         &mut errors,
     );
     assert!(rt; unheard == 5);
-    Ok(())
-}
-
-#[test]
-fn a_source_that_fails_at_some_call_has_its_line_and_status(rt: HostRuntime) -> Result<(), Fail> {
-    let day = Day::of(rt.alloc(), &UNNAMED)?.bytes;
-    let job = job(rt.alloc(), "sales", LONGEST_FILE)?;
-    // 71 bytes, one a call, and the call behind them tells the end.
-    for calls in 0..73 {
-        let (mut text, mut lines) = (Vec::new(rt.alloc()), Vec::new(rt.alloc()));
-        let mut source = Trickle::of(day.as_slice(), calls);
-        let mut out = CountedSink::of(&mut text);
-        let mut errors = CountedSink::of(&mut lines);
-        let status = perform(&rt, rt.alloc(), &job, &mut source, &mut out, &mut errors);
-        let want = if calls < 72 {
-            (4, "", "fault: reading failed\n")
-        } else {
-            (0, UNNAMED_TEXT, "")
-        };
-        let outcome = Outcome {
-            status,
-            out: text,
-            errors: lines,
-        };
-        assert!(rt; outcome.is(want.0, want.1, want.2), "{calls}");
-    }
-    Ok(())
-}
-
-#[test]
-fn an_output_that_fails_after_some_bytes_has_its_line_and_status(
-    rt: HostRuntime,
-) -> Result<(), Fail> {
-    let day = Day::of(rt.alloc(), &UNNAMED)?.bytes;
-    let job = job(rt.alloc(), "sales", LONGEST_FILE)?;
-    for room in 0..75usize {
-        let mut lines = Vec::new(rt.alloc());
-        let mut narrow = Narrow::of(Vec::new(rt.alloc()), room);
-        let mut source = Counted::of(day.as_slice());
-        let mut out = CountedSink::of(&mut narrow);
-        let mut errors = CountedSink::of(&mut lines);
-        let status = perform(&rt, rt.alloc(), &job, &mut source, &mut out, &mut errors);
-        let line = format!(in rt.alloc(); "fault: writing failed after {room} bytes\n")?;
-        assert!(rt;
-            status == 5 && lines.as_slice() == line.as_bytes(),
-            "{room}"
-        );
-        let text = UNNAMED_TEXT.as_bytes();
-        assert!(rt; Some(narrow.taken.as_slice()) == text.get(..room), "{room}");
-    }
     Ok(())
 }
 
