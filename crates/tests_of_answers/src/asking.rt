@@ -2,8 +2,8 @@
 ghost use Rattle.std.specs.Prelude.{◌≤◌};
 
 use executor::{
-    Answer, Counted, CountedSink, Crew, DayFault, LONGEST_FILE, OutOfMemory, Query, QueryFault,
-    RunFault, Settings, parse, plain, run,
+    Answer, Counted, CountedSink, Crew, DayFault, LONGEST_FILE, Memory, OutOfMemory, Query,
+    QueryFault, RunFault, Settings, parse, plain, run, run_blocks,
 };
 use std::alloc::{AllocError, Allocator, Global};
 use std::process::Abort;
@@ -77,5 +77,27 @@ pub fn told_by_run<R: Threads + Wait + Sync>(
     let mut sink = CountedSink::of(&mut written);
     let settings = settings_of(workers, 1, LONGEST_FILE);
     let told = run(rt, alloc, &mut source, text, settings, &mut sink);
+    (told, written)
+}
+
+/// What `run_blocks` answers to `sales` over the bytes, read by two threads, and what was written.
+pub fn told_by_blocks<R: Threads + Wait + Sync>(
+    rt: &R,
+    alloc: Global,
+    bytes: &[u8],
+) -> (Result<(), RunFault>, Vec<u8>) {
+    let mut written = Vec::new(alloc);
+    let mut sink = CountedSink::of(&mut written);
+    let settings = settings(LONGEST_FILE);
+    let length = bytes.len() as u64;
+    let told = run_blocks(
+        rt,
+        alloc,
+        &Memory { bytes },
+        length,
+        "sales",
+        settings,
+        &mut sink,
+    );
     (told, written)
 }

@@ -1,13 +1,100 @@
 //! The answer to `sales`, up to a moment or without one, by its definition: each price, break and name is
 //! searched for in the whole list of the messages that count.
 use executor::{DayFault, OutOfMemory};
-use itch_messages::Message;
+use itch_messages::{Message, read};
 use std::alloc::Global;
 use std::fmt::Write;
 use std::str::from_utf8;
 use tests_support::Placed;
 
 const HEADER: &str = "time,symbol,kind,price,shares,number\n";
+
+/// The types that are read, and the lengths of their bodies.
+const LENGTHS: [(u8, usize); 9] = [
+    (b'A', 36),
+    (b'F', 40),
+    (b'E', 31),
+    (b'C', 36),
+    (b'U', 35),
+    (b'P', 44),
+    (b'Q', 40),
+    (b'B', 19),
+    (b'R', 39),
+];
+
+/// The fault of a body of this type and length at a place, if the type is read and has another length.
+pub fn wrong_length(place: u64, kind: u8, length: usize) -> Option<DayFault> {
+    let (_, wanted) = LENGTHS.into_iter().find(|(read, _)| *read == kind)?;
+    (length != wanted).then_some(DayFault::WrongLength {
+        place,
+        kind,
+        length,
+        wanted,
+    })
+}
+
+/// The body that its length stands before, and what stands behind it.
+fn first_frame(rest: &[u8]) -> Option<(&[u8], &[u8])> {
+    let (high, rest) = rest.split_first()?;
+    let (low, rest) = rest.split_first()?;
+    rest.split_at_checked(usize::from(u16::from_be_bytes([*high, *low])))
+}
+
+/// A body, and the place of its frame.
+type Body<'a> = (u64, &'a [u8]);
+
+/// The bodies of a file, or the fault of one that is truncated.
+fn bodies_of<'a>(
+    alloc: Global,
+    bytes: &'a [u8],
+) -> Result<Result<Vec<Body<'a>>, DayFault>, OutOfMemory> {
+    let mut bodies = Vec::new(alloc);
+    let mut rest = bytes;
+    for _ in 0..bytes.len() {
+        if rest.is_empty() {
+            break;
+        }
+        let place = bytes.len().saturating_sub(rest.len()) as u64;
+        let Some((body, behind)) = first_frame(rest) else {
+            return Ok(Err(DayFault::Truncated { place }));
+        };
+        bodies.push((place, body))?;
+        rest = behind;
+    }
+    Ok(Ok(bodies))
+}
+
+/// The messages of these bodies.
+fn messages_of(alloc: Global, bodies: &[Body]) -> Result<Vec<Placed>, OutOfMemory> {
+    let mut messages = Vec::new(alloc);
+    for (place, body) in bodies {
+        if let Ok(message) = read(body) {
+            let place = *place;
+            messages.push(Placed { place, message })?;
+        }
+    }
+    Ok(messages)
+}
+
+/// The answer to `sales` over the bytes of a file: the text, or its fault. All trades have the same time.
+pub fn defined_answer_of_bytes(
+    alloc: Global,
+    bytes: &[u8],
+) -> Result<Result<String, DayFault>, OutOfMemory> {
+    let bodies = match bodies_of(alloc, bytes)? {
+        Ok(bodies) => bodies,
+        Err(fault) => return Ok(Err(fault)),
+    };
+    let wrong = bodies.iter().find_map(|(place, body)| wrong_length(
+        *place,
+        *body.first()?,
+        body.len(),
+    ));
+    match wrong {
+        Some(fault) => Ok(Err(fault)),
+        None => defined_answer(alloc, messages_of(alloc, &bodies)?.as_slice()),
+    }
+}
 
 /// The reference that a message gives, and the price.
 fn given(message: &Message) -> Option<(u64, u32)> {

@@ -5,6 +5,8 @@
 #[cfg(test)]
 mod asking;
 #[cfg(test)]
+mod changes;
+#[cfg(test)]
 mod definition;
 #[cfg(test)]
 mod devices;
