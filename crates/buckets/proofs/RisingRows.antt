@@ -1,12 +1,12 @@
 -- Order rows in lists whose references rise, each list above those before it: they rise as one, and the list that a
 -- search finds has the first row of the reference, if there is one.
 use Rattle.std.proofs.Common.{◌≡◌, ℕ, zero, suc, Bool, ◌-◌, ◌<◌, ◌≤◌, ◌≢◌, true, false, cond, eqb, ltb, List, [], ◌∷◌, ◌++◌, length, get_or, flat_map}
-use Rattle.std.proofs.Common.{Option, Some, None, arith, ap, ap₂, refl, sym, subst, ◌∙◌, ⊎_elim}
+use Rattle.std.proofs.Common.{Option, Some, None, arith, ap, refl, sym, ◌∙◌}
 use Rattle.std.specs.List.{All, AllPairs, find}
 use Rattle.std.specs.List.Sorted.{IsNonDecreasingBy, IsPartitionPoint}
 use Rattle.std.specs.Option.{option_or}
-use Rattle.std.proofs.lemmas.Bool.{both_ways, eqb-true, ltb-false, ltb-true}
-use Rattle.std.proofs.lemmas.List.{append-nil}
+use Rattle.std.proofs.lemmas.Bool.{eqb-true, ltb-false, ltb-true}
+use Rattle.std.proofs.lemmas.List.{append-nil, get_or_default}
 use Rattle.std.proofs.lemmas.List.Concat.{flat_map-append}
 use Rattle.std.proofs.lemmas.List.Elements.{All-append}
 use Rattle.std.proofs.lemmas.List.Folds.{find-append}
@@ -41,7 +41,7 @@ all_tail : {X : Type 0} (P : X → Type 0) (x : X) (xs : List X) → All P (x �
 all_tail P x xs h k d l = h (suc k) d (omega (arith, l))
 
 all_flat : {X Y : Type 0} (P : Y → Type 0) (f : X → List Y) (xs : List X) → All (λ x. All P (f x)) xs → All P (flat_map f xs)
-all_flat P f [] h k d l = absurd (omega (arith, l))
+all_flat P f [] h = λ k d l. absurd (omega (arith, l))
 all_flat P f (x ∷ xs) h = All-append P (f x) (flat_map f xs) (h 0 x (omega arith)) (all_flat P f xs (all_tail (λ y. All P (f y)) x xs h))
 
 -- ---- the rows of all lists
@@ -62,7 +62,7 @@ above part parts are =
     all_flat (λ (row : OrderRow). part.last < row.order_no) (λ p. p.rows) parts (λ k d l. (head_pairs IsAbove part parts are.apart k d l).1)
 
 pub all_rise : (parts : List Part) → AreRising parts → Rise (rows_of_lists parts)
-all_rise [] are i j d p q = absurd (omega (arith, q))
+all_rise [] are = λ i j d p q. absurd (omega (arith, q))
 all_rise (part ∷ parts) are =
     pairs_append (λ x y. x.order_no < y.order_no) part.rows (rows_of_lists parts) (are.rise 0 part (omega arith))
     (all_rise parts (tail_rising part parts are))
@@ -111,6 +111,16 @@ above_all parts part least below some low high k d l =
 
 pub lasts_do_not_fall : (parts : List Part) → AllPairs IsAbove parts → IsNonDecreasingBy (λ part. part.last) parts
 lasts_do_not_fall parts apart = rising_does_not_fall (λ (part : Part). part.last) parts (λ i j d p q. (apart i j d p q).0)
+
+-- what is above the last list is above all
+pub below_last : (parts : List Part) (q : ℕ) (e : Part) → AllPairs IsAbove parts → (get_or parts (length parts - 1) e).last < q → All (λ part. part.last < q) parts
+below_last parts q e apart less k d l =
+    omega (
+      arith,
+      less,
+      lasts_do_not_fall parts apart k (length parts - 1) d (omega (arith, l)) (omega (arith, l)),
+      ap (λ (part : Part). part.last) (get_or_default parts (length parts - 1) e d (omega (arith, l))),
+    )
 
 -- before the index are the lists of lesser last references, from it on the others
 abbrev pub ListPoint : List Part → ℕ → ℕ → Type 0

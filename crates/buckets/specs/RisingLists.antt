@@ -1,6 +1,6 @@
 -- Order rows in lists whose references rise, each list above those before it.
 -- Derived: it says where the code has its rows, and no answer is said by it.
-use Rattle.std.specs.Prelude.{ℕ, ◌<◌, ◌≤◌, List}
+use Rattle.std.specs.Prelude.{◌<◌, ◌≤◌, List}
 use Rattle.std.specs.List.{All, AllPairs, flat_map}
 use Rattle.order_table.specs.declared.row.OrderRow.{OrderRow}
 pub use Rattle.buckets.specs.declared.rising.Part.{Part}

@@ -74,7 +74,11 @@ fn table_of(alloc: Global, parts: &[&Partition]) -> Result<Built, OutOfMemory>
 }
 
 /// The sales of the partitions' executions, in memory that is taken once for all trades.
-fn price<P: PricesExecutions>(alloc: Global, prices: &P, parts: &[&Partition]) -> Result<Priced, OutOfMemory>
+fn price<P: PricesExecutions>(
+    alloc: Global,
+    prices: &P,
+    parts: &[&Partition],
+) -> Result<Priced, OutOfMemory>
     ensures { IfOk result (λ outcome. (rows : List TheRow) → P.PricesBy rows prices.now →
         IsPricingOf rows (rows_of_parts parts.now).executions outcome) }
 {
