@@ -124,18 +124,18 @@ fn queries_as_of_a_moment_are_answered_when_their_days_are_cut(
     Ok(())
 }
 
-/// Days whose references rise, and days where they fall or are equal somewhere, each asked for by an execution before
-/// and behind its order. A cut there leaves lists that rise, but not one above the other.
-const SEARCHED: [[Form; 9]; 5] = [
-    searched([1, 3, 4, 7]),
-    searched([3, 4, 1, 7]),
-    searched([4, 3, 7, 1]),
-    searched([1, 4, 4, 7]),
-    searched([7, 1, 7, 4]),
+/// References that rise, and references that fall or are equal somewhere. A cut there leaves lists that rise, but
+/// not one above the other.
+const SEARCHED: [[u64; 4]; 5] = [
+    [1, 3, 4, 7],
+    [3, 4, 1, 7],
+    [4, 3, 7, 1],
+    [1, 4, 4, 7],
+    [7, 1, 7, 4],
 ];
 
 /// Four orders of these references, and executions of each: of the third one before it and one behind.
-const fn searched(numbers: [u64; 4]) -> [Form; 9] {
+fn searched(numbers: [u64; 4]) -> [Form; 9] {
     let [one, two, three, four] = numbers;
     [
         Form::A(one, 4_105_000),
@@ -152,7 +152,8 @@ const fn searched(numbers: [u64; 4]) -> [Form; 9] {
 
 #[test]
 fn orders_are_found_whether_references_rise_or_fall(rt: HostRuntime) -> Result<(), Fail> {
-    for forms in SEARCHED {
+    for numbers in SEARCHED {
+        let forms = searched(numbers);
         let without_the_early = [
             forms[0], forms[1], forms[2], forms[4], forms[5], forms[6], forms[7], forms[8],
         ];
