@@ -2,3 +2,4 @@ pub mod ProductsOfSales
 pub mod OneBucketMore
 pub mod RowsOfParts
 pub mod RowsApart
+pub mod RisingRows

@@ -3,3 +3,4 @@ pub mod FoundRows
 pub mod SameQuestions
 pub mod BucketRows
 pub mod Buckets
+pub mod RisingLists

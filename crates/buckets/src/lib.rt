@@ -11,6 +11,7 @@ mod making;
 mod plan;
 mod product;
 mod questions;
+mod rising;
 mod rows;
 mod trading;
 mod work;

@@ -1,17 +1,19 @@
 //! The sales of partitions.
-ghost use Rattle.std.specs.Prelude.{◌≡◌, ◌++◌, IfOk, OnOk, List, map, nat_eq, option_map};
+ghost use Rattle.std.specs.Prelude.{◌≡◌, ◌++◌, IfOk, OnOk, List, map, nat_eq};
 ghost use Rattle.std.specs.List.{IsDistinct};
-ghost use Rattle.order_table.specs.Orders.{IsTableOf, first_repeated, repeated_of};
+ghost use Rattle.order_table.specs.Orders.{IsTableOf};
 ghost use Rattle.order_table.specs.declared.row.OrderRow.{OrderRow as TheRow};
-ghost use Rattle.probe.specs.Pricing.{first_unknown, priced, unknown_of};
+ghost use Rattle.probe.specs.PricedBefore.{IsPricingOf};
+ghost use Rattle.probe.specs.Pricing.{priced};
 ghost use Rattle.morsel_rows.specs.Partitions.{AreRowsByPlace};
 ghost use Rattle.buckets.specs.BucketRows.{rows_of_parts};
 ghost use Rattle.buckets.specs.FoundRows.{repeated_in, trades_in, unknown_in};
 
 use crate::OutOfMemory;
+use crate::rising::RisingOrders;
 use morsel_rows::Partition;
-use order_table::{Built, OrderRow, OrderTable, Repeated};
-use probe::{Execution, Priced, Sale, Unknown, price_all};
+use order_table::{Built, OrderRow, OrderTable, PricesExecutions, Repeated};
+use probe::{Priced, Sale, Unknown, price_into};
 use std::alloc::Global;
 
 /// The trades of some rows, and the first rows that are at fault.
@@ -30,9 +32,30 @@ pub(crate) fn trade(alloc: Global, parts: &[&Partition]) -> Result<Traded, OutOf
     ensures unknown { IfOk result (λ traded. traded.unknown ≡ unknown_in (rows_of_parts parts.now)) }
     ensures sales { IfOk result (λ traded. traded.sales.items ≡ trades_in (rows_of_parts parts.now)) }
 {
+    let mut traded = price_executions(alloc, parts)?;
+    add_own_priced(&mut traded.sales, parts)?;
+    Ok(traded)
+}
+
+/// Prices the executions of the partitions by their orders: searched where they lie, where their
+/// references rise, and else in a table.
+fn price_executions(alloc: Global, parts: &[&Partition]) -> Result<Traded, OutOfMemory>
+    requires { IsDistinct nat_eq (map (λ row. row.place) (rows_of_parts parts.now).orders) }
+    ensures repeated { IfOk result (λ traded. traded.repeated ≡ repeated_in (rows_of_parts parts.now)) }
+    ensures unknown { IfOk result (λ traded. traded.unknown ≡ unknown_in (rows_of_parts parts.now)) }
+    ensures sales { IfOk result (λ traded. traded.sales.items
+        ≡ priced (rows_of_parts parts.now).orders (rows_of_parts parts.now).executions) }
+{
+    if let Some(orders) = RisingOrders::of(alloc, parts)? {
+        let Priced { sales, unknown } = price(alloc, &orders, parts)?;
+        return Ok(Traded {
+            repeated: None,
+            unknown,
+            sales,
+        });
+    }
     let Built { table, repeated } = table_of(alloc, parts)?;
-    let Priced { mut sales, unknown } = price(alloc, &table, parts)?;
-    add_own_priced(&mut sales, parts)?;
+    let Priced { sales, unknown } = price(alloc, &table, parts)?;
     Ok(Traded {
         repeated,
         unknown,
@@ -50,16 +73,23 @@ fn table_of(alloc: Global, parts: &[&Partition]) -> Result<Built, OutOfMemory>
     OrderTable::build(alloc, orders.as_slice())
 }
 
-/// The sales of the partitions' executions.
-fn price(alloc: Global, table: &OrderTable, parts: &[&Partition]) -> Result<Priced, OutOfMemory>
-    requires { IsDistinct nat_eq (map (λ execution. execution.place) (rows_of_parts parts.now).executions) }
-    ensures sales { IfOk result (λ outcome. (rows : List TheRow) → IsTableOf rows table.now →
-        outcome.sales.items ≡ priced rows (rows_of_parts parts.now).executions) }
-    ensures unknown { IfOk result (λ outcome. (rows : List TheRow) → IsTableOf rows table.now →
-        outcome.unknown ≡ option_map unknown_of (first_unknown rows (rows_of_parts parts.now).executions)) }
+/// The sales of the partitions' executions, in memory that is taken once for all trades.
+fn price<P: PricesExecutions>(
+    alloc: Global,
+    prices: &P,
+    parts: &[&Partition],
+) -> Result<Priced, OutOfMemory>
+    ensures { IfOk result (λ outcome. (rows : List TheRow) → P.PricesBy rows prices.now →
+        IsPricingOf rows (rows_of_parts parts.now).executions outcome) }
 {
-    let executions = executions_of(alloc, parts)?;
-    price_all(alloc, table, executions.as_slice())
+    let mut priced = Priced {
+        sales: Vec::with_capacity(alloc, count_trades(parts))?,
+        unknown: None,
+    };
+    for part in parts {
+        price_into(&mut priced, prices, part.executions())?;
+    }
+    Ok(priced)
 }
 
 /// Adds the sales of the partitions that have a price of their own.
@@ -93,22 +123,12 @@ fn count_orders(parts: &[&Partition]) -> usize {
     count
 }
 
-/// The executions of the partitions, in memory that is taken once.
-fn executions_of(alloc: Global, parts: &[&Partition]) -> Result<Vec<Execution>, OutOfMemory>
-    ensures { IfOk result (λ rows. rows.items ≡ (rows_of_parts parts.now).executions) }
-{
-    let mut rows = Vec::with_capacity(alloc, count_executions(parts))?;
-    for part in parts {
-        rows.extend_from_slice(part.executions())?;
-    }
-    Ok(rows)
-}
-
-/// How many executions the partitions have, for room for them to be made.
-fn count_executions(parts: &[&Partition]) -> usize {
+/// How many trades the partitions have, for room for them to be made.
+fn count_trades(parts: &[&Partition]) -> usize {
     let mut count = 0usize;
     for part in parts {
         count = count.saturating_add(part.executions().len());
+        count = count.saturating_add(part.own_priced().len());
     }
     count
 }

@@ -1,3 +1,4 @@
 pub mod JoinedPartitions
 pub mod MessagesOfPartition
 pub mod JoinedInPartitions
+mod SearchedRows

@@ -6,9 +6,11 @@
 
 mod orders;
 mod partition;
+mod rising;
 mod rows;
 
 pub use lists::OutOfMemory;
 pub use orders::OrderList;
 pub use partition::Partition;
+pub use rising::RisingRows;
 pub use rows::MorselRows;

@@ -2,11 +2,14 @@
 ghost use Rattle.std.specs.Prelude.{◌≡◌, ◌+◌, ◌^◌, ◌<◌, ◌≤◌, [], ◌∷◌, ◌++◌, length, map};
 ghost use Rattle.std.specs.Prelude.{OnErr, OnOk, slice_index_or, vec_capacity, vec_len};
 ghost use Rattle.std.specs.Cmp.{partial_equiv_from_equiv};
+ghost use Rattle.std.specs.List.{AllPairs};
+ghost use Rattle.std.specs.Option.{IfSome};
 ghost use Rattle.std.specs.Cmp.Lexicographic.{pointwise};
 ghost use Rattle.morsel_rows.specs.NarrowRows.{widened};
 ghost use Rattle.morsel_rows.specs.SameRows.{is_same_order, orders_equiv};
 
 use crate::OutOfMemory;
+use crate::rising::RisingRows;
 use order_table::OrderRow;
 use std::alloc::{Allocator, Global};
 use std::marker::Model;
@@ -20,10 +23,10 @@ const LAST_START: u64 = u64::MAX - (RANGE - 1);
 
 /// An order row in 16 bytes. Its place is `offset` bytes past the start of its list.
 #[derive(Clone, Copy, Debug)]
-struct Narrow {
-    order_no: u64,
-    price: u32,
-    offset: u32,
+pub(crate) struct Narrow {
+    pub(crate) order_no: u64,
+    pub(crate) price: u32,
+    pub(crate) offset: u32,
 }
 
 /// Order rows, in the order in which they were pushed.
@@ -94,6 +97,18 @@ impl<A: Allocator> OrderList<A> {
         self.narrow.len() + self.wide.len()
     }
 
+    /// The rows where they lie, if there are some, all are narrow, and each has a greater reference
+    /// than the row before it.
+    pub fn rising(&self) -> Option<RisingRows<'_>>
+        ensures rows { IfSome result (λ rising. rising ≡ self.now) }
+        ensures rise { IfSome result (λ rising. AllPairs (λ x y. x.order_no < y.order_no) rising) }
+    {
+        if !self.wide.is_empty() {
+            return None;
+        }
+        RisingRows::of(self.start, self.narrow.as_slice())
+    }
+
     /// Adds the rows to a vector. Where there is no memory for them, the vector stays as it was.
     pub fn append_to<B: Allocator>(&self, out: &mut Vec<OrderRow, B>) -> Result<(), OutOfMemory>
         ensures appended { OnOk result (out.new.items ≡ out.old.items ++ self.now) }
@@ -121,7 +136,7 @@ impl<A: Allocator> OrderList<A> {
 
 /// The row with its place.
 #[inline(always)]
-fn widen(start: u64, row: Narrow) -> OrderRow
+pub(crate) fn widen(start: u64, row: Narrow) -> OrderRow
     requires { start + 2 ^ 32 ≤ 2 ^ 64 }
     ensures { result ≡ widened start row }
 {

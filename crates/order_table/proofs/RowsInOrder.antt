@@ -62,21 +62,29 @@ in_order_from_sorted rows up i j d p q =
 
 -- ---- references that rise
 
-rising_pairs : (rows : List OrderRow) → AllAdjacentBelow (λ x y. true ≡ ltb x.order_no y.order_no) rows (length rows)
-    → AllPairs (λ x y. x.order_no < y.order_no) rows
-rising_pairs rows h i zero d p q = absurd (omega (arith, p))
-rising_pairs rows h i (suc j) d p q =
-    let one : (get_or rows j d).order_no < (get_or rows (suc j) d).order_no =
-    subst (λ k. (get_or rows j d).order_no < (get_or rows k d).order_no) (omega arith) (ltb-true _ _ (sym (h j d (omega (arith, q))))) in
-    ⊎_elim
-    (λ e. subst (λ k. (get_or rows k d).order_no < (get_or rows (suc j) d).order_no) (sym e) one)
-    (λ r. ⊎_elim (λ l. omega (arith, one, rising_pairs rows h i j d l (omega (arith, q)))) (λ l. absurd (omega (arith, l, p))) r)
-    (cases_order i j)
+-- of elements by a number
+module _ {X : Type 0} (f : X → ℕ) (rows : List X) where
+  rising_pairs : AllAdjacentBelow (λ x y. true ≡ ltb (f x) (f y)) rows (length rows) → AllPairs (λ x y. f x < f y) rows
+  rising_pairs h i zero d p q = absurd (omega (arith, p))
+  rising_pairs h i (suc j) d p q =
+      let one : f (get_or rows j d) < f (get_or rows (suc j) d) =
+      subst (λ k. f (get_or rows j d) < f (get_or rows k d)) (omega arith) (ltb-true _ _ (sym (h j d (omega (arith, q))))) in
+      ⊎_elim
+      (λ e. subst (λ k. f (get_or rows k d) < f (get_or rows (suc j) d)) (sym e) one)
+      (λ r. ⊎_elim (λ l. omega (arith, one, rising_pairs h i j d l (omega (arith, q)))) (λ l. absurd (omega (arith, l, p))) r)
+      (cases_order i j)
 
-pub rising_from_answer : (rows : List OrderRow) (rises : Bool) → IsAllAdjacentAnswer (λ x y b. b ≡ ltb x.order_no y.order_no) rows rises
-    → rises ≡ true → AllPairs (λ x y. x.order_no < y.order_no) rows
-rising_from_answer rows true h e = rising_pairs rows h
-rising_from_answer rows false h e = absurd (both_ways false refl e)
+  pub rising_from_answer : (rises : Bool) → IsAllAdjacentAnswer (λ x y b. b ≡ ltb (f x) (f y)) rows rises
+      → rises ≡ true → AllPairs (λ x y. f x < f y) rows
+  rising_from_answer true h e = rising_pairs h
+  rising_from_answer false h e = absurd (both_ways false refl e)
+
+  pub rising_does_not_fall : AllPairs (λ x y. f x < f y) rows → IsNonDecreasingBy f rows
+  rising_does_not_fall up i j d p q =
+      ⊎_elim
+      (λ e. subst (λ k. f (get_or rows i d) ≤ f (get_or rows k d)) e (omega arith))
+      (λ r. ⊎_elim (λ l. omega (arith, up i j d l q)) (λ l. absurd (omega (arith, l, p))) r)
+      (cases_order i j)
 
 pub in_order_from_rising : (rows : List OrderRow) → AllPairs (λ x y. x.order_no < y.order_no) rows → IsInOrder rows
 in_order_from_rising rows up i j d p q = inl (up i j d p q)

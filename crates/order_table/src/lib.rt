@@ -7,11 +7,13 @@
 //! repeats a reference.
 #![tactic(auto)]
 
+mod prices;
 pub mod row;
 mod sorted;
 mod sorting;
 pub mod table;
 
 pub use lists::OutOfMemory;
+pub use prices::PricesExecutions;
 pub use row::{OrderRow, partition};
 pub use table::{Built, OrderTable, Repeated};

@@ -5,6 +5,7 @@ ghost use Rattle.order_table.specs.Orders.{IsTableOf, first_repeated, repeated_o
 ghost use Rattle.order_table.specs.Orders.{kept_row, price_before, price_if_before};
 
 use crate::OutOfMemory;
+use crate::prices::PricesExecutions;
 use crate::row::OrderRow;
 use crate::sorted::SortedRows;
 use crate::sorting::{first_repeated, put_in_order, rises};
@@ -73,5 +74,14 @@ impl<A: Allocator + Clone> OrderTable<A> {
             Some(row) if row.place < place => Some(row.price),
             _ => None,
         }
+    }
+}
+
+impl<A: Allocator + Clone> PricesExecutions for OrderTable<A> {
+    ghost PricesBy = { IsTableOf };
+
+    #[inline(always)]
+    fn price_before(&self, order_no: u64, place: u64) -> Option<u32> {
+        OrderTable::price_before(self, order_no, place)
     }
 }

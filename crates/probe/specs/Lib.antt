@@ -1,4 +1,5 @@
 pub mod Pricing
 pub mod Selection
+pub mod PricedBefore
 pub mod Trades
 pub mod Parts

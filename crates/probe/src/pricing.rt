@@ -1,14 +1,15 @@
 //! Prices executions by the orders that gave their references.
-ghost use Rattle.std.specs.Prelude.{◌≡◌, ◌∷◌, ◌++◌, [], IfOk, List, map, nat_eq};
+ghost use Rattle.std.specs.Prelude.{◌≡◌, ◌∷◌, ◌++◌, [], IfOk, List, OnOk, map, nat_eq};
 ghost use Rattle.std.specs.Prelude.{option_map, option_to_list};
 ghost use Rattle.std.specs.List.{IsDistinct};
 ghost use Rattle.lists.specs.Least.{least_by};
 ghost use Rattle.order_table.specs.declared.OrderRow.{OrderRow};
 ghost use Rattle.order_table.specs.Orders.{IsTableOf};
-ghost use Rattle.probe.specs.Pricing.{first_unknown, priced, sale_at, unknown_of};
+ghost use Rattle.probe.specs.PricedBefore.{IsPricingOf};
+ghost use Rattle.probe.specs.Pricing.{Execution as TheExecution, first_unknown, priced, sale_at, unknown_of};
 
 use crate::rows::{Execution, Kind, Sale, Unknown};
-use order_table::{OrderTable, OutOfMemory};
+use order_table::{OrderTable, OutOfMemory, PricesExecutions};
 use std::alloc::{Allocator, Global};
 
 /// The sales of a list of executions, and the first of them that has no price.
@@ -67,13 +68,29 @@ pub fn price_all<A: Allocator, T: Allocator + Clone>(
     ensures unknown { IfOk result (λ outcome. (rows : List OrderRow) → IsTableOf rows table.now →
         outcome.unknown ≡ option_map unknown_of (first_unknown rows executions.now)) }
 {
-    let mut sales = Vec::with_capacity(alloc, executions.len())?;
-    let mut unknown = None;
+    let mut priced = Priced {
+        sales: Vec::with_capacity(alloc, executions.len())?,
+        unknown: None,
+    };
+    price_into(&mut priced, table, executions)?;
+    Ok(priced)
+}
+
+/// Prices executions in the same way, after others, whose sales and first one without a price are
+/// handed in: they become those of all.
+pub fn price_into<A: Allocator, P: PricesExecutions>(
+    priced: &mut Priced<A>,
+    prices: &P,
+    executions: &[Execution],
+) -> Result<(), OutOfMemory>
+    ensures { OnOk result ((rows : List OrderRow) (before : List TheExecution) → P.PricesBy rows prices.now →
+        IsPricingOf rows before priced.old → IsPricingOf rows (before ++ executions.now) priced.new) }
+{
     for execution in executions {
-        match table.price_before(execution.order_no, execution.place) {
-            Some(price) => sales.push(sale_of(execution, price))?,
-            None => unknown = earlier(unknown, unknown_of(execution)),
+        match prices.price_before(execution.order_no, execution.place) {
+            Some(price) => priced.sales.push(sale_of(execution, price))?,
+            None => priced.unknown = earlier(priced.unknown, unknown_of(execution)),
         }
     }
-    Ok(Priced { sales, unknown })
+    Ok(())
 }

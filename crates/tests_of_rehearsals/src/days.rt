@@ -124,6 +124,47 @@ fn queries_as_of_a_moment_are_answered_when_their_days_are_cut(
     Ok(())
 }
 
+/// References that rise, and references that fall or are equal somewhere. A cut there leaves lists that rise, but
+/// not one above the other.
+const SEARCHED: [[u64; 4]; 5] = [
+    [1, 3, 4, 7],
+    [3, 4, 1, 7],
+    [4, 3, 7, 1],
+    [1, 4, 4, 7],
+    [7, 1, 7, 4],
+];
+
+/// Four orders of these references, and executions of each: of the third one before it and one behind.
+fn searched(numbers: [u64; 4]) -> [Form; 9] {
+    let [one, two, three, four] = numbers;
+    [
+        Form::A(one, 4_105_000),
+        Form::E(one, 10, 11),
+        Form::F(two, 4_105_100),
+        Form::E(three, 20, 12),
+        Form::A(three, 4_105_200),
+        Form::E(three, 30, 13),
+        Form::E(two, 40, 14),
+        Form::A(four, 4_105_300),
+        Form::E(four, 50, 15),
+    ]
+}
+
+#[test]
+fn orders_are_found_whether_references_rise_or_fall(rt: HostRuntime) -> Result<(), Fail> {
+    for numbers in SEARCHED {
+        let forms = searched(numbers);
+        let without_the_early = [
+            forms[0], forms[1], forms[2], forms[4], forms[5], forms[6], forms[7], forms[8],
+        ];
+        for forms in [&forms[..], &without_the_early[..]] {
+            let file = file_of(Day::of(rt.alloc(), forms)?.bytes)?;
+            is_answered_when_cut(&rt, rt.alloc(), "sales", &file)?;
+        }
+    }
+    Ok(())
+}
+
 /// A day with orders of four partitions, sales of each kind, a break, two names, and an empty message.
 const MIXED: [Form; 16] = [
     Form::R(7, *b"ZVZZT   "),

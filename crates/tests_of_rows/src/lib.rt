@@ -1,10 +1,13 @@
-//! Tests of the crates of rows: the table of orders, the broken trades, the sales that are priced and kept.
+//! Tests of the crates of rows: the table of orders, the lists of them, the broken trades, the sales that are
+//! priced and kept.
 #![tactic(auto)]
 
 #[cfg(test)]
 mod breaks;
 #[cfg(test)]
 mod orders;
+#[cfg(test)]
+mod rising;
 #[cfg(test)]
 mod rows;
 #[cfg(test)]

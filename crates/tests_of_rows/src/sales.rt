@@ -2,7 +2,8 @@
 use crate::rows::{executions, order_rows, sale};
 use linked_list_allocator::LocalHeap;
 use probe::{
-    Breaks, Kind, Kinds, LocateList, Locates, OrderTable, Selection, Span, Unknown, keep, price_all,
+    Breaks, Kind, Kinds, LocateList, Locates, OrderTable, Priced, Selection, Span, Unknown, keep,
+    price_all, price_into,
 };
 use std::test::Fail;
 
@@ -26,6 +27,24 @@ fn executions_are_priced_once_there_is_room(rt: HostRuntime) -> Result<(), Fail>
     assert!(rt; enough.is_some_and(|step| step > 1));
     let none = price_all(rt.alloc(), &table, &[])?;
     assert!(rt; none.sales.is_empty() && none.unknown.is_none());
+    Ok(())
+}
+
+#[test]
+fn executions_are_priced_after_others(rt: HostRuntime) -> Result<(), Fail> {
+    let table = OrderTable::build(rt.alloc(), &order_rows())?.table;
+    let executions = executions();
+    let both = price_all(rt.alloc(), &table, &executions)?;
+    let mut priced = Priced {
+        sales: Vec::new(rt.alloc()),
+        unknown: None,
+    };
+    for at in [0, 1] {
+        price_into(&mut priced, &table, &executions[at..=at])?;
+    }
+    assert!(rt; priced.sales.as_slice() == both.sales.as_slice() && priced.unknown == both.unknown);
+    price_into(&mut priced, &table, &executions)?;
+    assert!(rt; priced.sales.len() == 2 && priced.unknown.map(|unknown| unknown.place) == Some(80));
     Ok(())
 }
 

@@ -1,0 +1,13 @@
+use Rattle.std.proofs.Common.{◌-◌, ◌≤◌, get_or, length, subst}
+use Rattle.std.specs.List.{All}
+use Rattle.order_table.specs.declared.row.OrderRow.{OrderRow}
+use Rattle.morsel_rows.specs.declared.orders.Narrow.{Narrow}
+use Rattle.morsel_rows.proofs.SearchedRows.{greatest_wide}
+use Rattle.morsel_rows.proofs.rising.RisingRows.greatest.Goals as goal
+
+pub returns-clause-greatest : goal.returns-clause-greatest
+returns-clause-greatest c =
+    let inside = c.self.inside in
+    let none : Narrow = record { order_no = 0; price = 0; offset = 0 } in
+    subst (All (λ (row : OrderRow). row.order_no ≤ (get_or inside.rows.now (length inside.rows.now - 1) none).order_no)) c.self.view_is
+    (greatest_wide inside.start inside.rows.now c.self.invariant.2 none c.self.invariant.1)
