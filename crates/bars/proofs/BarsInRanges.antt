@@ -1,5 +1,5 @@
 -- The bars of many tables whose locates are in a range are those of the range of their union.
-use Rattle.std.proofs.Common.{◌≡◌, ℕ, zero, suc, ◌+◌, ◌^◌, ◌<◌, ◌≤◌, Bool, true, false, ◌&&◌, cond, eqb, Contains, All}
+use Rattle.std.proofs.Common.{◌≡◌, ℕ, zero, suc, ◌+◌, ◌^◌, ◌<◌, ◌≤◌, Bool, true, false, ◌&&◌, cond}
 use Rattle.std.proofs.Common.{List, [], ◌∷◌, ◌++◌, map, length, take, get_or, filter}
 use Rattle.std.proofs.Common.{Option, Some, None, Less, Bor, refl, sym, ap, ap₂, ◌∙◌, subst, arith}
 use Rattle.std.specs.List.{sum_by}
@@ -7,19 +7,16 @@ use Rattle.std.specs.List.Sorted.{IsNonDecreasingBy}
 use Rattle.std.proofs.lemmas.Bool.{and_parts, eqb-true}
 use Rattle.std.proofs.lemmas.Bool.Decides.{nat_tests}
 use Rattle.std.proofs.lemmas.Map.Keys.{sorted_head, sorted_tail}
-use Rattle.std.proofs.lemmas.List.{map-append, append-nil, take_more}
+use Rattle.std.proofs.lemmas.List.{map-append, append-nil}
 use Rattle.std.proofs.lemmas.List.Concat.{flat_map-append}
 use Rattle.std.proofs.lemmas.List.Kept.{IsStrictlySortedBy-filter}
-use Rattle.std.proofs.lemmas.List.Elements.{filter-append, filter_agree, filter_passes}
-use Rattle.std.proofs.lemmas.List.Elements.{All-filter, All-head, All-weaker, All-get_or, All-from_recursion, All-contains_itself}
+use Rattle.std.proofs.lemmas.List.Elements.{filter-append, filter_agree}
+use Rattle.std.proofs.lemmas.List.Elements.{All-get_or, All-from_recursion}
 use Rattle.std.proofs.lemmas.List.Sorted.{IsNonDecreasingBy-from_all_adjacent}
-use Rattle.lists.specs.declared.limits.TheConstants.{TIME_LIMIT}
 use Rattle.time_and_sales.specs.Parted.{is_in_first}
 use Rattle.time_and_sales.proofs.RangesJoined.{filter_both, none_pass}
-use Rattle.bars.specs.Bars.{Key, Bar, key_cmp, found, under, all_bars, joined_all, IsByKey, IsUnionOf, IsTraded, AllSumsFit}
-use Rattle.bars.specs.Texts.{IsWritable, bar_line, lines_text}
-use Rattle.bars.proofs.SumsAreBounded.{average_fits}
-use Rattle.bars.proofs.Bars.{tables_agree, found_itself}
+use Rattle.bars.specs.Bars.{Key, Bar, key_cmp, found, under, all_bars, joined_all, IsByKey, IsUnionOf, AllSumsFit}
+use Rattle.bars.specs.Texts.{bar_line, lines_text}
 use Rattle.bars.proofs.JoinedTables.{has, parts_more}
 
 -- ---- by key is by locate

@@ -1,10 +1,10 @@
 -- The bar that the next line is of, behind those whose lines are written.
-use Rattle.std.proofs.Common.{◌≡◌, ℕ, ◌+◌, ◌<◌, true, false, eqb, List, [], ◌∷◌, ◌++◌, All, None, map, take, get_or, length, Bor, Contains, Equal, Less, refl, sym, ap, ◌∙◌, subst, arith, ⊎_elim}
+use Rattle.std.proofs.Common.{◌≡◌, ℕ, ◌+◌, ◌<◌, true, false, eqb, List, [], ◌∷◌, ◌++◌, All, None, map, take, get_or, length, Bor, Equal, Less, refl, sym, ap, ◌∙◌, subst, arith, ⊎_elim}
 use Rattle.std.specs.Ordering.{is_gt, is_eq}
 use Rattle.std.proofs.lemmas.Bool.{eqb-true}
 use Rattle.std.proofs.lemmas.Bool.Decides.{nat_tests}
 use Rattle.std.proofs.lemmas.List.Elements.{All-get_or, Contains-push, Contains-push_cases}
-use Rattle.bars.specs.Bars.{Key, Bar, key_cmp, joined_all, joined_bar, IsByKey, IsUnionOf, CanJoin, SumsFit}
+use Rattle.bars.specs.Bars.{Bar, key_cmp, joined_all, joined_bar, IsByKey, IsUnionOf, CanJoin, SumsFit}
 use Rattle.bars.specs.Steps.{merged_tables, IsOrderOf}
 use Rattle.bars.specs.Texts.{bar_line, lines_text}
 use Rattle.std.specs.List.Sorted.{IsSorted}

@@ -1,4 +1,4 @@
-use Rattle.std.proofs.Common.{◌≡◌, ◌<◌, false, All, List, map, take, ℕ, ◌+◌, length, [], ◌∷◌, ◌++◌, get_or, Bor, sym, subst, ap, ap₂, ◌∙◌, arith, refl}
+use Rattle.std.proofs.Common.{◌≡◌, ◌<◌, false, List, map, take, ℕ, ◌+◌, length, [], ◌∷◌, ◌++◌, get_or, Bor, sym, subst, ap, ap₂, ◌∙◌, arith}
 use Rattle.std.specs.Ordering.{is_gt}
 use Rattle.std.proofs.lemmas.List.{length-map, take_all}
 use Rattle.lists.specs.declared.limits.TheConstants.{TIME_LIMIT}
@@ -7,7 +7,6 @@ use Rattle.bars.specs.Bars.{IsTraded, IsUnionOf, key_cmp}
 use Rattle.bars.specs.Texts.{bar_line, lines_text}
 use Rattle.bars.specs.declared.bar.Bar.{Bar as TheBar}
 use Rattle.bars.proofs.LastBar.{equal_from}
-use Rattle.bars.proofs.SumsAreBounded.{average_fits}
 use Rattle.bars.proofs.JoinedTables.{seen_at, sums_of_this}
 use Rattle.bars.proofs.CurrentBar.{at_has, current_can_join, first_union, joined_union, line_more, next_not_lower, next_union}
 use Rattle.bars.proofs.CurrentBar.{none, not_before_either, not_none, one_union, union_of_none}

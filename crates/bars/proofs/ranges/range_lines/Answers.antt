@@ -1,4 +1,4 @@
-use Rattle.std.proofs.Common.{List, ◌^◌, ◌<◌, map, filter, sym, ap, ◌∙◌, subst, Bor, All}
+use Rattle.std.proofs.Common.{List, ◌<◌, map, filter, sym, subst, Bor, All}
 use Rattle.std.proofs.lemmas.Result.{IfOk-weaker}
 use Rattle.std.proofs.lemmas.List.Elements.{All-filter}
 use Rattle.std.proofs.lemmas.List.Sorted.{All-permutation}

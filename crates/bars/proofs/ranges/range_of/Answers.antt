@@ -3,7 +3,6 @@ use Rattle.std.proofs.lemmas.Result.{IfOk-weaker}
 use Rattle.std.proofs.lemmas.List.Elements.{All-filter}
 use Rattle.time_and_sales.specs.Parted.{is_in_first}
 use Rattle.bars.specs.Bars.{Bar, IsTraded, all_bars}
-use Rattle.bars.specs.Steps.{IsOrderOf}
 use Rattle.bars.proofs.JoinedTables.{ordered_of, parts_all, traded_in_order, traded_more}
 use Rattle.bars.proofs.BarsInRanges.{range_more}
 use Rattle.bars.proofs.ranges.range_of.Goals as goal
