@@ -1,5 +1,5 @@
 -- The bars of many tables whose locates are in a range are those of the range of their union.
-use Rattle.std.proofs.Common.{◌≡◌, ℕ, zero, suc, ◌+◌, ◌^◌, ◌<◌, ◌≤◌, Bool, true, false, ◌&&◌, cond, eqb, Contains, All}
+use Rattle.std.proofs.Common.{◌≡◌, ℕ, zero, suc, ◌+◌, ◌^◌, ◌<◌, ◌≤◌, Bool, true, false, ◌&&◌, cond}
 use Rattle.std.proofs.Common.{List, [], ◌∷◌, ◌++◌, map, length, take, get_or, filter}
 use Rattle.std.proofs.Common.{Option, Some, None, Less, Bor, refl, sym, ap, ap₂, ◌∙◌, subst, arith}
 use Rattle.std.specs.List.{sum_by}
@@ -7,19 +7,16 @@ use Rattle.std.specs.List.Sorted.{IsNonDecreasingBy}
 use Rattle.std.proofs.lemmas.Bool.{and_parts, eqb-true}
 use Rattle.std.proofs.lemmas.Bool.Decides.{nat_tests}
 use Rattle.std.proofs.lemmas.Map.Keys.{sorted_head, sorted_tail}
-use Rattle.std.proofs.lemmas.List.{map-append, append-nil, take_more}
+use Rattle.std.proofs.lemmas.List.{map-append, append-nil}
 use Rattle.std.proofs.lemmas.List.Concat.{flat_map-append}
 use Rattle.std.proofs.lemmas.List.Kept.{IsStrictlySortedBy-filter}
-use Rattle.std.proofs.lemmas.List.Elements.{filter-append, filter_agree, filter_passes}
-use Rattle.std.proofs.lemmas.List.Elements.{All-filter, All-head, All-weaker, All-get_or, All-from_recursion, All-contains_itself}
+use Rattle.std.proofs.lemmas.List.Elements.{filter-append, filter_agree}
+use Rattle.std.proofs.lemmas.List.Elements.{All-get_or, All-from_recursion}
 use Rattle.std.proofs.lemmas.List.Sorted.{IsNonDecreasingBy-from_all_adjacent}
-use Rattle.lists.specs.declared.limits.TheConstants.{TIME_LIMIT}
 use Rattle.time_and_sales.specs.Parted.{is_in_first}
 use Rattle.time_and_sales.proofs.RangesJoined.{filter_both, none_pass}
-use Rattle.bars.specs.Bars.{Key, Bar, key_cmp, found, under, all_bars, joined_all, IsByKey, IsUnionOf, IsTraded, AllSumsFit}
-use Rattle.bars.specs.Texts.{IsWritable, bar_line, lines_text}
-use Rattle.bars.proofs.SumsAreBounded.{average_fits}
-use Rattle.bars.proofs.Bars.{tables_agree, found_itself}
+use Rattle.bars.specs.Bars.{Key, Bar, key_cmp, found, under, all_bars, joined_all, IsByKey, IsUnionOf, AllSumsFit}
+use Rattle.bars.specs.Texts.{bar_line, lines_text}
 use Rattle.bars.proofs.JoinedTables.{has, parts_more}
 
 -- ---- by key is by locate
@@ -104,7 +101,7 @@ module _ (test : Bar → Bool) (same : IsOfLocates test) where
       (λ k d l. both_false (has (get_or bars k d) key) (test (get_or bars k d)) (λ h. as_key key (get_or bars k d) h ∙ e))
 
   -- the union of a range is the range of the union
-  IsUnionOf-within : (bars table : List Bar) → IsUnionOf bars table → IsUnionOf (filter test bars) (filter test table)
+  pub IsUnionOf-within : (bars table : List Bar) → IsUnionOf bars table → IsUnionOf (filter test bars) (filter test table)
   IsUnionOf-within bars table union = record { rise = IsStrictlySortedBy-filter key_cmp test table union.rise; each = λ key. go key (test (at key)) refl }
     where
       go : (key : Key) (t : Bool) → test (at key) ≡ t → found (filter test table) key ≡ joined_all None (under key (filter test bars))
@@ -113,11 +110,6 @@ module _ (test : Bar → Bool) (same : IsOfLocates test) where
           ∙ ap (joined_all None) (sym (under_inside key bars e))
       go key false e =
           found_first (filter test table) key ∙ ap first (under_outside key table e) ∙ ap (joined_all None) (sym (under_outside key bars e))
-
-  pub union_of_range : (bars table part : List Bar) → IsUnionOf bars table → IsUnionOf (filter test bars) part → part ≡ filter test table
-  union_of_range bars table part union here =
-      let there = IsUnionOf-within bars table union in
-      tables_agree part (filter test table) here.rise there.rise (λ key. here.each key ∙ sym (there.each key))
 
   pub sums_of_range : (bars : List Bar) → AllSumsFit bars → AllSumsFit (filter test bars)
   sums_of_range bars fit = record {
@@ -146,40 +138,7 @@ range_more test tables i table parts new part within at is so_far made =
     ∙ sym (filter-append test (all_bars (map now (take i tables))) (get_or tables i table).now)
     ∙ ap (filter test) (sym (parts_more tables i table within))
 
--- ---- what the lines of a range ask
-
-start_in : (n : ℕ) (key : Key) (some : List Bar) → 0 < length some → All (λ (b : Bar). b.start < n) some → All (λ b. has b key ≡ true) some → key.start < n
-start_in n key [] h starts passes = absurd (omega arith)
-start_in n key (x ∷ xs) h starts passes =
-    subst (λ s. s < n) (eqb-true x.start key.start (and_parts _ _ (All-head (λ b. has b key ≡ true) x xs passes)).1)
-    (All-head (λ (b : Bar). b.start < n) x xs starts)
-
-some_joined : (xs : List Bar) (b : Bar) → joined_all None xs ≡ Some b → 0 < length xs
-some_joined [] b e = absurd (cc)
-some_joined (x ∷ xs) b e = omega arith
-
--- the bars of a union start as the bars that it is of
-pub union_starts : (n : ℕ) (bars table : List Bar) → IsUnionOf bars table → All (λ (b : Bar). b.start < n) bars → All (λ (b : Bar). b.start < n) table
-union_starts n bars table union starts =
-    All-weaker (Contains table) (λ (b : Bar). b.start < n)
-    (λ bar c.
-    let key : Key = record { locate = bar.locate; start = bar.start } in
-    let e : joined_all None (under key bars) ≡ Some bar = sym (union.each key) ∙ found_itself table bar union.rise c in
-    start_in n key (under key bars) (some_joined (under key bars) bar e) (All-filter (λ b. has b key) (λ (b : Bar). b.start < n) bars starts)
-    (filter_passes (λ b. has b key) bars))
-    table (All-contains_itself table)
-
-pub lines_are_writable : (bars : List Bar) → All (λ (b : Bar). b.start < TIME_LIMIT) bars → All IsTraded bars → All IsWritable bars
-lines_are_writable bars starts traded = λ k d h. let has = traded k d h in (starts k d h, has.0, average_fits (get_or bars k d) has)
-
 -- ---- the lines
-
-pub lines_more : (name : ℕ → List ℕ) (bars : List Bar) (i : ℕ) (d : Bar) → i < length bars
-    → lines_text name (take i bars) ++ bar_line (get_or bars i d) (name (get_or bars i d).locate) ≡ lines_text name (take (i + 1) bars)
-lines_more name bars i d h =
-    let line : Bar → List ℕ = λ bar. bar_line bar (name bar.locate) in
-    sym (ap (lines_text name) (take_more bars i d h) ∙ flat_map-append line (take i bars) (get_or bars i d ∷ [])
-    ∙ ap (λ l. lines_text name (take i bars) ++ l) (append-nil (line (get_or bars i d))))
 
 pub lines-append : (name : ℕ → List ℕ) (xs ys : List Bar) → lines_text name (xs ++ ys) ≡ lines_text name xs ++ lines_text name ys
 lines-append name xs ys = flat_map-append (λ (bar : Bar). bar_line bar (name bar.locate)) xs ys

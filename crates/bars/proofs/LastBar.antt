@@ -61,7 +61,7 @@ AreBarsOf-more width xs sale table h =
 -- ---- where the bar goes
 
 -- behind a table whose bars all stand before it
-merged_after : (table : List Bar) (bar : Bar) → ((z : Bar) → Contains table z → key_cmp z bar ≡ Less) → merged_tables table (bar ∷ []) ≡ table ++ bar ∷ []
+pub merged_after : (table : List Bar) (bar : Bar) → ((z : Bar) → Contains table z → key_cmp z bar ≡ Less) → merged_tables table (bar ∷ []) ≡ table ++ bar ∷ []
 merged_after [] bar h = refl
 merged_after (a ∷ table) bar h =
     ap (λ o. by_order o (a ∷ merged_tables table (bar ∷ [])) (joined_bar a bar ∷ merged_tables table []) (bar ∷ put_before a (merged_tables table) []))
@@ -69,7 +69,7 @@ merged_after (a ∷ table) bar h =
     ∙ ap (λ l. a ∷ l) (merged_after table bar (λ z c. h z (Contains_later a z table c)))
 
 -- into the last, which has its key
-merged_onto : (front : List Bar) (last bar : Bar) → ((z : Bar) → Contains front z → key_cmp z bar ≡ Less) → key_cmp last bar ≡ Equal
+pub merged_onto : (front : List Bar) (last bar : Bar) → ((z : Bar) → Contains front z → key_cmp z bar ≡ Less) → key_cmp last bar ≡ Equal
     → merged_tables (front ++ last ∷ []) (bar ∷ []) ≡ front ++ joined_bar last bar ∷ []
 merged_onto [] last bar h e = ap (λ o. by_order o (last ∷ bar ∷ []) (joined_bar last bar ∷ []) (bar ∷ put_before last (merged_tables []) [])) e
 merged_onto (a ∷ front) last bar h e =
@@ -77,7 +77,7 @@ merged_onto (a ∷ front) last bar h e =
     (bar ∷ put_before a (merged_tables (front ++ last ∷ [])) [])) (h a (Contains_head a front))
     ∙ ap (λ l. a ∷ l) (merged_onto front last bar (λ z c. h z (Contains_later a z front c)) e)
 
-below_last : (front : List Bar) (last : Bar) → IsByKey (front ++ last ∷ []) → (z : Bar) → Contains front z → key_cmp z last ≡ Less
+pub below_last : (front : List Bar) (last : Bar) → IsByKey (front ++ last ∷ []) → (z : Bar) → Contains front z → key_cmp z last ≡ Less
 below_last [] last up z c = absurd (omega (arith, c.1))
 below_last (a ∷ front) last up z c =
     let head = All-contains (λ w. key_cmp a w ≡ Less) (front ++ last ∷ []) last (All-from_recursion _ _ (sorted_head key_cmp a (front ++ last ∷ []) up))
@@ -85,7 +85,7 @@ below_last (a ∷ front) last up z c =
     ⊎_elim (λ e. subst (λ w. key_cmp w last ≡ Less) e head) (λ d. below_last front last (sorted_tail key_cmp a (front ++ last ∷ []) up) z d)
     (Contains_cons a z front c)
 
-below_more : (a b c : Bar) → key_cmp a b ≡ Less → is_gt (key_cmp b c) ≡ false → key_cmp a c ≡ Less
+pub below_more : (a b c : Bar) → key_cmp a b ≡ Less → is_gt (key_cmp b c) ≡ false → key_cmp a c ≡ Less
 below_more a b c p q = grind (arith, nat_tests)
 
 split_last : (table : List Bar) (n : ℕ) (d : Bar) → n + 1 ≡ length table → table ≡ take n table ++ get_or table n d ∷ []
@@ -105,6 +105,11 @@ joined_to_last table n last bar e at up same =
     ∙ sym (merged_onto front last bar (λ z c. below_more z last bar (below_last front last rises z c) (ap is_gt same)) same)
     ∙ ap (λ t. merged_tables t (bar ∷ [])) (sym split)
 
+pub less_from : (o : Ordering) → is_gt o ≡ false → is_eq o ≡ false → o ≡ Less
+less_from Less p q = refl
+less_from Equal p q = absurd (cc)
+less_from Greater p q = absurd (cc)
+
 -- the bar is pushed behind the last bar of a table
 pub pushed_after_last : (table : List Bar) (n : ℕ) (last bar : Bar) → n + 1 ≡ length table → last ≡ get_or table n last → IsByKey table
     → IsUpTo table bar → is_eq (key_cmp last bar) ≡ false → table ++ bar ∷ [] ≡ merged_tables table (bar ∷ [])
@@ -119,11 +124,6 @@ pushed_after_last table n last bar e at up to differ =
     ⊎_elim (λ d. below_more z last bar (below_last front last rises z d) here)
     (λ d. subst (λ w. key_cmp w bar ≡ Less) d less)
     (Contains-push_cases front last z (subst (λ t. Contains t z) split c))))
-  where
-    less_from : (o : Ordering) → is_gt o ≡ false → is_eq o ≡ false → o ≡ Less
-    less_from Less p q = refl
-    less_from Equal p q = absurd (cc)
-    less_from Greater p q = absurd (cc)
 
 -- a bar that is read and not changed leaves its table as it was
 pub set_same : (table : List Bar) (n : ℕ) (last : Bar) → last ≡ get_or table n last → set table n last ≡ table

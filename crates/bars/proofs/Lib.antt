@@ -1,5 +1,6 @@
 pub mod Bars
 pub mod BarsInRanges
+mod CurrentBar
 pub mod MergedTables
 pub mod JoinedTables
 pub mod LastBar

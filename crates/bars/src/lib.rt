@@ -5,6 +5,7 @@
 #![tactic(auto)]
 
 mod bar;
+mod joined_lines;
 mod ranges;
 mod table;
 mod texts;

@@ -6,13 +6,14 @@ ghost use Rattle.lists.specs.declared.limits.TheConstants.{TIME_LIMIT};
 ghost use Rattle.time_and_sales.specs.Names.{last_row, name_text};
 ghost use Rattle.time_and_sales.specs.Parted.{is_in_first};
 ghost use Rattle.bars.specs.Bars.{AllSumsFit, IsByKey, IsTraded, IsUnionOf, all_bars};
-ghost use Rattle.bars.specs.Texts.{IsWritable, lines_text};
+ghost use Rattle.bars.specs.Steps.{IsOrderOf};
+ghost use Rattle.bars.specs.Texts.{lines_text};
 ghost use Rattle.bars.specs.declared.bar.Bar.{Bar as TheBar};
 
 use crate::OutOfMemory;
 use crate::bar::Bar;
-use crate::table::{BarTable, unite};
-use crate::texts::write_bar;
+use crate::joined_lines::joined_lines;
+use crate::table::{BarTable, in_order};
 use std::alloc::Global;
 use std::thread::Threads;
 use time_and_sales::{Names, bounds_of, texts_of};
@@ -112,22 +113,25 @@ fn range_lines(
         text.items ≡ lines_text (λ locate. name_text locate (last_row names.now locate))
         (filter (is_in_first (λ bar. bar.locate) bounds.now) all)) }
 {
-    let bars = range_of(alloc, tables, bounds)?;
-    lines(alloc, bars.as_slice(), names)
+    let sorted = range_of(alloc, tables, bounds)?;
+    joined_lines(alloc, sorted.as_slice(), names)
 }
 
-/// The bars of all tables whose locates are in the first range, by key, those of one key made one.
-fn range_of(alloc: Global, tables: &[&BarTable], bounds: &[u64]) -> Result<Vec<Bar>, OutOfMemory>
-    requires { AllSumsFit (all_bars (map (λ table. table.now) tables.now)) }
-    ensures union { IfOk result (λ bars. IsUnionOf (filter (is_in_first (λ bar. bar.locate) bounds.now)
-        (all_bars (map (λ table. table.now) tables.now))) bars.items) }
-    ensures traded { IfOk result (λ bars. All IsTraded bars.items) }
+/// The bars of all tables whose locates are in the first range, in order of their keys.
+fn range_of<'a>(
+    alloc: Global,
+    tables: &[&'a BarTable],
+    bounds: &[u64],
+) -> Result<Vec<&'a Bar>, OutOfMemory>
+    ensures order { IfOk result (λ sorted. IsOrderOf (filter (is_in_first (λ bar. bar.locate) bounds.now)
+        (all_bars (map (λ table. table.now) tables.now))) (map (λ bar. bar.now) sorted.items)) }
+    ensures traded { IfOk result (λ sorted. All IsTraded (map (λ bar. bar.now) sorted.items)) }
 {
     let mut parts = Vec::with_capacity(alloc, tables.len())?;
     for table in tables {
         parts.push(within(table.items(), bounds))?;
     }
-    unite(alloc, parts.as_slice())
+    in_order(alloc, parts.as_slice())
 }
 
 /// The bars whose locates are in the first range.
@@ -157,17 +161,4 @@ fn from(bars: &[Bar], locate: u64) -> &[Bar]
     ensures { result.now ≡ filter (λ bar. not (nat_lt bar.locate locate)) bars.now }
 {
     &bars[bars.partition_point(|bar| u64::from(bar.locate) < locate)..]
-}
-
-/// The lines of bars, each under the name of its locate.
-fn lines(alloc: Global, bars: &[Bar], names: &Names) -> Result<Vec<u8>, OutOfMemory>
-    requires { All IsWritable bars.now }
-    ensures { IfOk result (λ text. text.items
-        ≡ lines_text (λ locate. name_text locate (last_row names.now locate)) bars.now) }
-{
-    let mut text = Vec::new(alloc);
-    for bar in bars {
-        write_bar(&mut text, bar, &names.name(bar.locate))?;
-    }
-    Ok(text)
 }

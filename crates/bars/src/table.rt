@@ -186,10 +186,7 @@ fn merge_bars<A: Allocator>(
 }
 
 /// One list of the bars of all parts, by key, those of one key made one.
-pub(crate) fn unite<A: Allocator + Clone>(
-    alloc: A,
-    parts: &[&[Bar]],
-) -> Result<Vec<Bar, A>, OutOfMemory>
+fn unite<A: Allocator + Clone>(alloc: A, parts: &[&[Bar]]) -> Result<Vec<Bar, A>, OutOfMemory>
     requires traded { All IsTraded (all_bars (map (λ part. part.now) parts.now)) }
     requires sums { AllSumsFit (all_bars (map (λ part. part.now) parts.now)) }
     ensures union { IfOk result
@@ -201,7 +198,10 @@ pub(crate) fn unite<A: Allocator + Clone>(
 }
 
 /// The bars of all parts in order of their keys.
-fn in_order<'a, A: Allocator>(alloc: A, parts: &[&'a [Bar]]) -> Result<Vec<&'a Bar, A>, OutOfMemory>
+pub(crate) fn in_order<'a, A: Allocator>(
+    alloc: A,
+    parts: &[&'a [Bar]],
+) -> Result<Vec<&'a Bar, A>, OutOfMemory>
     ensures { IfOk result (λ sorted. IsOrderOf (all_bars (map (λ part. part.now) parts.now))
         (map (λ bar. bar.now) sorted.items)) }
 {

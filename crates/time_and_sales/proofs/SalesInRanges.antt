@@ -1,13 +1,13 @@
 -- The sales of many listings that are in a range of places.
-use Rattle.std.proofs.Common.{◌≡◌, ℕ, ◌+◌, ◌<◌, ◌≤◌, Bool, true, false, cond, eqb, ltb, All, Bor}
+use Rattle.std.proofs.Common.{◌≡◌, ℕ, ◌+◌, ◌<◌, ◌≤◌, Bool, true, false, cond, eqb, All, Bor, arith}
 use Rattle.std.proofs.Common.{List, [], ◌∷◌, ◌++◌, length, map, take, get_or, filter, IsPermutation}
 use Rattle.std.proofs.Common.{sym, ap, ap₂, ◌∙◌, subst}
 use Rattle.std.specs.List.{AllByRecursion, IsDistinct, flat_map}
-use Rattle.std.specs.List.Sorted.{IsNonDecreasingBy, IsStrictlySortedBy}
+use Rattle.std.specs.List.Sorted.{IsNonDecreasingBy}
 use Rattle.std.proofs.lemmas.Bool.{ltb-false}
-use Rattle.std.proofs.lemmas.List.{append-nil, map-append, take_more, take_all}
+use Rattle.std.proofs.lemmas.List.{append-nil, get_or-map, length-map, map-append, take_more, take_all}
 use Rattle.std.proofs.lemmas.List.Concat.{flat_map-append}
-use Rattle.std.proofs.lemmas.List.Elements.{filter-append, All-filter}
+use Rattle.std.proofs.lemmas.List.Elements.{filter-append, All-filter, All-get_or}
 use Rattle.std.proofs.lemmas.List.Kept.{IsStrictlySortedBy-filter}
 use Rattle.std.proofs.lemmas.List.Sorted.{All-permutation, IsNonDecreasingBy-from_all_adjacent, IsPermutation-sym, IsPermutation-trans}
 use Rattle.lists.proofs.Lists.{IsPermutation-filter}
@@ -92,3 +92,23 @@ lines_more name sales i d h =
 
 pub lines-append : (name : ℕ → List ℕ) (xs ys : List Sale) → lines_text name (xs ++ ys) ≡ lines_text name xs ++ lines_text name ys
 lines-append name xs ys = flat_map-append (λ (sale : Sale). sale_line sale (name sale.locate)) xs ys
+
+-- ---- sales that stay in their listings
+
+-- what stands where the references lead
+abbrev pub seen : List (Bor Sale) → List Sale
+seen sales = map (λ (sale : Bor Sale). sale.now) sales
+
+pub seen_at : (sales : List (Bor Sale)) (i : ℕ) (d : Bor Sale) (e : Sale) → i < length sales → get_or (seen sales) i e ≡ (get_or sales i d).now
+seen_at sales i d e h = get_or-map (λ (sale : Bor Sale). sale.now) sales i d e h
+
+pub seen_rise : (sales : List (Bor Sale)) → IsNonDecreasingBy (λ (sale : Bor Sale). sale.now.place) sales → IsNonDecreasingBy place_of (seen sales)
+seen_rise sales up i j d low within =
+    let e : Bor Sale = record { ref_ptr = (0, 0); now = d } in
+    let n = length-map sales (λ (sale : Bor Sale). sale.now) in
+    rw (seen_at sales i e d (omega (arith, n, low, within)), seen_at sales j e d (omega (arith, n, within))) (up i j e low (omega (arith, n, within)))
+
+pub seen_has : (P : Sale → Type 0) (sales : List (Bor Sale)) (i : ℕ) (d : Bor Sale) → i < length sales → All P (seen sales) → P (get_or sales i d).now
+seen_has P sales i d within all =
+    let n = length-map sales (λ (sale : Bor Sale). sale.now) in
+    subst P (seen_at sales i d d.now within) (All-get_or P (seen sales) i d.now (omega (arith, n, within)) all)

@@ -1,5 +1,5 @@
 //! The lines of many listings, of ranges of places by threads.
-ghost use Rattle.std.specs.Prelude.{◌≡◌, ◌<◌, ◌≤◌, All, IfOk, List, drop, filter, length, map, nat_eq, nat_lt, not, slice_index};
+ghost use Rattle.std.specs.Prelude.{◌≡◌, ◌<◌, ◌≤◌, ◌++◌, All, IfOk, OnOk, List, drop, filter, length, map, nat_eq, nat_lt, not, slice_index};
 ghost use Rattle.std.specs.List.{IsDistinct, flat_map};
 ghost use Rattle.std.specs.List.Sorted.{IsNonDecreasing, IsPermutation};
 ghost use Rattle.lists.specs.declared.limits.TheConstants.{TIME_LIMIT};
@@ -120,25 +120,50 @@ fn range_lines(
         text.items ≡ lines_text (λ locate. name_text locate (last_row names.now locate))
         (filter (is_in_first (λ sale. sale.place) bounds.now) all)) }
 {
-    let sales = range_of(alloc, listings, bounds)?;
-    lines(alloc, sales.as_slice(), names)
+    let sorted = range_of(alloc, listings, bounds)?;
+    lines(alloc, sorted.as_slice(), names)
 }
 
-/// The sales of all listings that are in the first range, by place.
-fn range_of(alloc: Global, listings: &[&Listing], bounds: &[u64]) -> Result<Vec<Sale>, OutOfMemory>
+/// The sales of all listings that are in the first range, by place. They stay in their listings.
+fn range_of<'a>(
+    alloc: Global,
+    listings: &[&'a Listing],
+    bounds: &[u64],
+) -> Result<Vec<&'a Sale>, OutOfMemory>
     requires apart { IsDistinct nat_eq (map (λ sale. sale.place)
         (flat_map (λ listing. listing) (map (λ listing. listing.now) listings.now))) }
-    ensures permutation { IfOk result (λ sales. IsPermutation
+    ensures permutation { IfOk result (λ sorted. IsPermutation
         (filter (is_in_first (λ sale. sale.place) bounds.now)
-        (flat_map (λ listing. listing) (map (λ listing. listing.now) listings.now))) sales.items) }
-    ensures by_place { IfOk result (λ sales. IsByPlace sales.items) }
+        (flat_map (λ listing. listing) (map (λ listing. listing.now) listings.now)))
+        (map (λ sale. sale.now) sorted.items)) }
+    ensures by_place { IfOk result (λ sorted. IsByPlace (map (λ sale. sale.now) sorted.items)) }
 {
-    let mut sales = Vec::new(alloc);
+    let mut sales = Vec::with_capacity(alloc, count_within(listings, bounds))?;
     for listing in listings {
-        sales.extend_from_slice(within(listing.items(), bounds))?;
+        append(&mut sales, within(listing.items(), bounds))?;
     }
     sales.sort_by_key(|sale| sale.place)?;
     Ok(sales)
+}
+
+/// How many sales of all listings are in the first range, for room for them to be made.
+fn count_within(listings: &[&Listing], bounds: &[u64]) -> usize {
+    let mut count = 0usize;
+    for listing in listings {
+        count = count.saturating_add(within(listing.items(), bounds).len());
+    }
+    count
+}
+
+/// Appends where each of the sales stands.
+fn append<'a>(sales: &mut Vec<&'a Sale>, more: &'a [Sale]) -> Result<(), OutOfMemory>
+    ensures { OnOk result (map (λ sale. sale.now) sales.new.items
+        ≡ map (λ sale. sale.now) sales.old.items ++ more.now) }
+{
+    for sale in more {
+        sales.push(sale)?;
+    }
+    Ok(())
 }
 
 /// The sales that are in the first range.
@@ -171,10 +196,10 @@ fn from(sales: &[Sale], place: u64) -> &[Sale]
 }
 
 /// The lines of sales, each under the name of its locate.
-fn lines(alloc: Global, sales: &[Sale], names: &Names) -> Result<Vec<u8>, OutOfMemory>
-    requires { All (λ sale. sale.time < TIME_LIMIT) sales.now }
+fn lines(alloc: Global, sales: &[&Sale], names: &Names) -> Result<Vec<u8>, OutOfMemory>
+    requires { All (λ sale. sale.time < TIME_LIMIT) (map (λ sale. sale.now) sales.now) }
     ensures { IfOk result (λ text. text.items
-        ≡ lines_text (λ locate. name_text locate (last_row names.now locate)) sales.now) }
+        ≡ lines_text (λ locate. name_text locate (last_row names.now locate)) (map (λ sale. sale.now) sales.now)) }
 {
     let mut text = Vec::new(alloc);
     for sale in sales {

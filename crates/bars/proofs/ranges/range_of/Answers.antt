@@ -2,9 +2,9 @@ use Rattle.std.proofs.Common.{List, map, filter, sym, ap, ◌∙◌, subst, Bor,
 use Rattle.std.proofs.lemmas.Result.{IfOk-weaker}
 use Rattle.std.proofs.lemmas.List.Elements.{All-filter}
 use Rattle.time_and_sales.specs.Parted.{is_in_first}
-use Rattle.bars.specs.Bars.{Bar, AllSumsFit, IsTraded, IsUnionOf, all_bars}
-use Rattle.bars.proofs.JoinedTables.{parts_all, traded_more}
-use Rattle.bars.proofs.BarsInRanges.{first_as_locate, range_more, sums_of_range}
+use Rattle.bars.specs.Bars.{Bar, IsTraded, all_bars}
+use Rattle.bars.proofs.JoinedTables.{ordered_of, parts_all, traded_in_order, traded_more}
+use Rattle.bars.proofs.BarsInRanges.{range_more}
 use Rattle.bars.proofs.ranges.range_of.Goals as goal
 
 pub loop-table-preserved : goal.loop-table-preserved
@@ -18,17 +18,14 @@ loop-table-preserved c =
           (subst (All IsTraded) (sym c.within.ensures) (All-filter some IsTraded c.items.result.now c.items.ensures.traded)) c.in_ok-push.ensures.items;
     }
 
-pub unite-requires-clause-sums : goal.unite-requires-clause-sums
-unite-requires-clause-sums c =
+pub returns-clause-order : goal.returns-clause-order
+returns-clause-order c =
     let some = is_in_first (λ (b : Bar). b.locate) c.args.bounds.now in
     let all = ap (λ l. all_bars (map (λ (p : Bor (List Bar)). p.now) l)) c.as_slice.ensures.value ∙ c.loop-table.invariant.parts
     ∙ ap (filter some) (parts_all c.args.tables.now c.loop-table.table-index c.loop-table-test.false) in
-    subst AllSumsFit (sym all)
-    (sums_of_range some (first_as_locate c.args.bounds.now) (all_bars (map (λ (t : Bor (List Bar)). t.now) c.args.tables.now)) c.requires)
+    IfOk-weaker c.in_order.result _ _ (λ sorted h. ordered_of _ _ _ all h) c.in_order.ensures
 
-pub returns-clause-union : goal.returns-clause-union
-returns-clause-union c =
-    let some = is_in_first (λ (b : Bar). b.locate) c.args.bounds.now in
-    let all = ap (λ l. all_bars (map (λ (p : Bor (List Bar)). p.now) l)) c.as_slice.ensures.value ∙ c.loop-table.invariant.parts
-    ∙ ap (filter some) (parts_all c.args.tables.now c.loop-table.table-index c.loop-table-test.false) in
-    IfOk-weaker c.unite.result _ _ (λ bars h. subst (λ l. IsUnionOf l bars.items) all h) c.unite.ensures.union
+pub returns-clause-traded : goal.returns-clause-traded
+returns-clause-traded c =
+    let all = ap (λ l. all_bars (map (λ (p : Bor (List Bar)). p.now) l)) c.as_slice.ensures.value in
+    IfOk-weaker c.in_order.result _ _ (λ sorted h. traded_in_order _ _ (ordered_of _ _ _ all h) c.loop-table.invariant.traded) c.in_order.ensures

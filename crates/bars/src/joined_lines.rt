@@ -1,0 +1,61 @@
+//! The lines of sorted bars, those of one key made one while the lines are written.
+ghost use Rattle.std.specs.Prelude.{◌≡◌, ◌<◌, All, IfOk, List, map};
+ghost use Rattle.std.specs.List.Sorted.{IsSorted};
+ghost use Rattle.lists.specs.declared.limits.TheConstants.{TIME_LIMIT};
+ghost use Rattle.time_and_sales.specs.Names.{last_row, name_text};
+ghost use Rattle.bars.specs.Bars.{AllSumsFit, IsTraded, IsUnionOf, key_cmp};
+ghost use Rattle.bars.specs.Texts.{lines_text};
+ghost use Rattle.bars.specs.declared.bar.Bar.{Bar as TheBar};
+
+use crate::OutOfMemory;
+use crate::bar::Bar;
+use crate::texts::write_bar;
+use std::alloc::Global;
+use time_and_sales::{Name, Names};
+
+/// The lines of sorted bars, those of one key made one, each under the name of its locate. No bar is
+/// kept but the one that the next line is of.
+pub(crate) fn joined_lines(
+    alloc: Global,
+    sorted: &[&Bar],
+    names: &Names,
+) -> Result<Vec<u8>, OutOfMemory>
+    requires rise { IsSorted key_cmp (map (λ bar. bar.now) sorted.now) }
+    requires traded { All IsTraded (map (λ bar. bar.now) sorted.now) }
+    requires sums { AllSumsFit (map (λ bar. bar.now) sorted.now) }
+    requires starts { All (λ bar. bar.start < TIME_LIMIT) (map (λ bar. bar.now) sorted.now) }
+    ensures { IfOk result (λ text. (all : List TheBar) → IsUnionOf (map (λ bar. bar.now) sorted.now) all →
+        text.items ≡ lines_text (λ locate. name_text locate (last_row names.now locate)) all) }
+{
+    let mut text = Vec::new(alloc);
+    if sorted.is_empty() {
+        return Ok(text);
+    }
+    let mut current = *sorted[0];
+    let mut name = names.name(current.locate);
+    for i in 1..sorted.len() {
+        let bar = sorted[i];
+        if current.has_key_of(bar) {
+            current = current.join(bar);
+        } else {
+            write_bar(&mut text, &current, &name)?;
+            name = next_name(names, name, current.locate, bar.locate);
+            current = *bar;
+        }
+    }
+    write_bar(&mut text, &current, &name)?;
+    Ok(text)
+}
+
+/// The name of a locate, which isn't looked up where it is the locate before.
+#[inline]
+fn next_name(names: &Names, name: Name, before: u16, locate: u16) -> Name
+    requires { name ≡ name_text before (last_row names.now before) }
+    ensures { result ≡ name_text locate (last_row names.now locate) }
+{
+    if locate == before {
+        name
+    } else {
+        names.name(locate)
+    }
+}

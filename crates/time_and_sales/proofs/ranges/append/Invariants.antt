@@ -1,0 +1,8 @@
+use Rattle.std.proofs.Common.{◌≡◌, ◌++◌, Bor, map, take}
+use Rattle.probe.specs.declared.rows.Sale.{Sale}
+use Rattle.time_and_sales.proofs.ranges.append.Given as goal
+
+-- the sales so far stand behind those that there were
+abbrev pub invariant-loop-sale : goal.invariant-loop-sale
+invariant-loop-sale l =
+    map (λ (s : Bor Sale). s.now) l.sales.items ≡ map (λ (s : Bor Sale). s.now) l.initial.sales.items ++ take l.sale-index l.more
