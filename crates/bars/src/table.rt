@@ -83,6 +83,7 @@ impl<A: Allocator + Clone> BarTable<A> {
         for sale in sorted.as_slice() {
             add(&mut bars, Bar::of_sale(sale, width))?;
         }
+        bars.shrink_to_fit();
         Ok(BarTable { bars })
     }
 

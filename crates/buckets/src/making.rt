@@ -14,7 +14,7 @@ use std::alloc::Global;
 use time_and_sales::Listing;
 
 /// The listing of the sales, or their bars.
-pub(crate) fn product(alloc: Global, sales: Vec<Sale>, what: What) -> Result<Product, OutOfMemory>
+pub(crate) fn product(alloc: Global, mut sales: Vec<Sale>, what: What) -> Result<Product, OutOfMemory>
     requires places { IsDistinct nat_eq (map (λ sale. sale.place) sales.items) }
     requires count { length sales.items < TRADE_LIMIT }
     requires shares { All (λ sale. 0 < sale.shares) sales.items }
@@ -22,7 +22,10 @@ pub(crate) fn product(alloc: Global, sales: Vec<Sale>, what: What) -> Result<Pro
     ensures { IfOk result (λ product. product ≡ product_of what sales.items) }
 {
     match what {
-        What::Sales => Ok(Product::Listed(Listing::of_sales(sales))),
+        What::Sales => {
+            sales.shrink_to_fit();
+            Ok(Product::Listed(Listing::of_sales(sales)))
+        }
         What::Bars { width } => {
             let table = BarTable::of_sales(alloc, &sales, width)?;
             Ok(Product::Tabled(table))

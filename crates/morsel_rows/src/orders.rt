@@ -89,6 +89,14 @@ impl<A: Allocator> OrderList<A> {
         Ok(())
     }
 
+    /// Gives memory back that is taken for further rows.
+    pub(crate) fn shrink_to_fit(&mut self)
+        ensures { self.new ≡ self.old }
+    {
+        self.narrow.shrink_to_fit();
+        self.wide.shrink_to_fit();
+    }
+
     /// How many rows there are.
     #[inline(always)]
     pub fn len(&self) -> usize

@@ -99,6 +99,15 @@ impl<A: Allocator> Partition<A> {
         self.own_priced.push(row)?;
         Ok(())
     }
+
+    /// Gives memory back that is taken for further rows.
+    pub(crate) fn shrink_to_fit(&mut self)
+        ensures { self.new ≡ self.old }
+    {
+        self.orders.shrink_to_fit();
+        self.executions.shrink_to_fit();
+        self.own_priced.shrink_to_fit();
+    }
 }
 
 /// Partitions are equal if they have the same rows in the same order.

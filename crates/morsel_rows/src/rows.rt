@@ -121,6 +121,15 @@ impl<A: Allocator> MorselRows<A> {
         }
     }
 
+    /// Gives memory back that is taken for further rows.
+    pub fn shrink_to_fit(&mut self)
+        ensures { self.new ≡ self.old }
+    {
+        shrink_all(self.partitions.as_mut_slice());
+        self.breaks.shrink_to_fit();
+        self.directory.shrink_to_fit();
+    }
+
     /// Adds one row.
     #[inline(always)]
     fn push(&mut self, row: Row) -> Result<(), OutOfMemory>
@@ -185,5 +194,14 @@ impl<A: Allocator> MorselRows<A> {
     {
         self.directory.push(row)?;
         Ok(())
+    }
+}
+
+/// Gives memory back that the partitions take for further rows.
+fn shrink_all<A: Allocator>(partitions: &mut [Partition<A>])
+    ensures { partitions.new ≡ partitions.old }
+{
+    for partition in partitions.iter_mut() {
+        partition.shrink_to_fit();
     }
 }

@@ -58,11 +58,12 @@ impl OpenScan {
         Ok(())
     }
 
-    /// Ends the scan. Its rows are put where totals can share them.
+    /// Ends the scan. Its rows are put where totals can share them, in no more memory than they need.
     pub fn finish(self, alloc: Global) -> Result<Scanned, OutOfMemory>
         ensures { IfOk result (λ scanned. scanned ≡ self) }
     {
-        let OpenScan { rows, wrong } = self;
+        let OpenScan { mut rows, wrong } = self;
+        rows.shrink_to_fit();
         Scanned::of(alloc, rows, wrong)
     }
 }

@@ -1,4 +1,4 @@
-use Rattle.std.proofs.Common.{arith, nat_le, sym, ap, ◌∙◌, subst}
+use Rattle.std.proofs.Common.{IsPermutation, arith, nat_le, sym, ap, ◌∙◌, subst}
 use Rattle.std.proofs.lemmas.Bool.{and_parts, leb-true}
 use Rattle.bars.specs.Bars.{AreBarsOf}
 use Rattle.buckets.specs.Products.{product_of}
@@ -13,7 +13,8 @@ of_sales-requires-in-Bars-clause-width c =
 
 pub returns-in-Sales : goal.returns-in-Sales
 returns-in-Sales c =
-    ap Listed (listing_is_by_place c.args.sales.items c.of_sales.result c.requires.places c.of_sales.ensures.permutation c.of_sales.ensures.by_place)
+    let all = subst (λ l. IsPermutation l c.of_sales.result) c.shrink_to_fit.ensures.items c.of_sales.ensures.permutation in
+    ap Listed (listing_is_by_place c.args.sales.items c.of_sales.result c.requires.places all c.of_sales.ensures.by_place)
     ∙ ap (λ what. product_of what c.args.sales.items) (sym c.in-Sales.is)
 
 pub returns-in_ok-table-in-Bars : goal.returns-in_ok-table-in-Bars

@@ -1,11 +1,11 @@
-use Rattle.std.proofs.Common.{rules, ◌≡◌, ◌<◌, length, get_or, IsPermutation, sym, ap, subst, arith}
+use Rattle.std.proofs.Common.{rules, All, ◌≡◌, ◌<◌, length, get_or, IsPermutation, sym, ap, subst, arith}
 use Rattle.std.proofs.lemmas.List.{take_all, length-take-le}
 use Rattle.std.proofs.lemmas.List.Sorted.{All-permutation, IsPermutation-sym, length_permutation}
 use Rattle.std.proofs.lemmas.List.Elements.{All-get_or}
 use Rattle.lists.proofs.Least.{TellsApart-permutation}
 use Rattle.lists.proofs.Order.{TellsApart-from_distinct}
 use Rattle.probe.specs.declared.rows.Sale.{Sale}
-use Rattle.bars.specs.Bars.{AreBarsOf}
+use Rattle.bars.specs.Bars.{AreBarsOf, IsTraded}
 use Rattle.bars.specs.Steps.{bar_of_one}
 use Rattle.bars.proofs.Bars.{AreBarsOf-permutation}
 use Rattle.bars.proofs.SumsAreBounded.{sums_fit_one}
@@ -61,9 +61,10 @@ returns g c =
     (subst (IsPermutation c.in_ok-sorted.sorted.items) (sym items) c.in_ok-sort_by_key.ensures.permutation) in
     let whole = subst (λ l. AreBarsOf c.args.width l c.loop-sale.bars.items) (take_all _ c.as_slice-sale-items.result.now c.loop-sale-test.false)
     c.loop-sale.invariant.told in
+    let kept = sym c.shrink_to_fit.ensures.items in
     record {
-      bars = AreBarsOf-permutation c.args.width c.as_slice-sale-items.result.now c.args.sales.now c.loop-sale.bars.items
+      bars = subst (AreBarsOf c.args.width c.args.sales.now) kept (AreBarsOf-permutation c.args.width c.as_slice-sale-items.result.now c.args.sales.now c.loop-sale.bars.items
           (TellsApart-permutation (λ (s : Sale). s.place) _ _ perm (TellsApart-from_distinct (λ (s : Sale). s.place) c.args.sales.now c.requires.places))
-          (IsPermutation-sym _ _ perm) whole;
-      traded = c.loop-sale.invariant.traded;
+          (IsPermutation-sym _ _ perm) whole);
+      traded = subst (All IsTraded) kept c.loop-sale.invariant.traded;
     }
