@@ -13,6 +13,9 @@ use crate::texts::write_bar;
 use std::alloc::Global;
 use time_and_sales::{Name, Names};
 
+/// How many bytes most lines have at most.
+const USUAL_LINE: usize = 72;
+
 /// The lines of sorted bars, those of one key made one, each under the name of its locate. No bar is
 /// kept but the one that the next line is of.
 pub(crate) fn joined_lines(
@@ -27,10 +30,10 @@ pub(crate) fn joined_lines(
     ensures { IfOk result (λ text. (all : List TheBar) → IsUnionOf (map (λ bar. bar.now) sorted.now) all →
         text.items ≡ lines_text (λ locate. name_text locate (last_row names.now locate)) all) }
 {
-    let mut text = Vec::new(alloc);
     if sorted.is_empty() {
-        return Ok(text);
+        return Ok(Vec::new(alloc));
     }
+    let mut text = Vec::with_capacity(alloc, sorted.len().saturating_mul(USUAL_LINE))?;
     let mut current = *sorted[0];
     let mut name = names.name(current.locate);
     for i in 1..sorted.len() {

@@ -77,10 +77,27 @@ impl<A: Allocator + Clone> BarTable<A> {
         ensures bars { IfOk result (λ table. AreBarsOf width sales.now table) }
         ensures traded { IfOk result (λ table. All IsTraded table) }
     {
-        let mut sorted = Vec::from_slice(alloc.clone()?, sales)?;
-        sorted.sort_by_key(|sale| (sale.locate, sale.time))?;
-        let mut bars = Vec::new(alloc);
-        for sale in sorted.as_slice() {
+        let copy = Vec::from_slice(alloc.clone()?, sales)?;
+        BarTable::of_vec(alloc, copy, width)
+    }
+
+    /// The table of the sales as `of_sales` gives it, but they are sorted where they are, and no copy
+    /// is made. It is refused where there is no memory for the bars.
+    pub fn of_vec<B: Allocator>(
+        alloc: A,
+        mut sales: Vec<Sale, B>,
+        width: u32,
+    ) -> Result<BarTable<A>, OutOfMemory>
+        requires places { IsDistinct nat_eq (map (λ sale. sale.place) sales.items) }
+        requires count { length sales.items < TRADE_LIMIT }
+        requires shares { All (λ sale. 0 < sale.shares) sales.items }
+        requires width { (1 ≤ width) × (width ≤ SECONDS_OF_DAY) }
+        ensures bars { IfOk result (λ table. AreBarsOf width sales.items table) }
+        ensures traded { IfOk result (λ table. All IsTraded table) }
+    {
+        sales.sort_unstable_by_key(|sale| (sale.locate, sale.time));
+        let mut bars = Vec::with_capacity(alloc, sales.len())?;
+        for sale in sales.as_slice() {
             add(&mut bars, Bar::of_sale(sale, width))?;
         }
         bars.shrink_to_fit();
@@ -206,15 +223,23 @@ pub(crate) fn in_order<'a, A: Allocator>(
     ensures { IfOk result (λ sorted. IsOrderOf (all_bars (map (λ part. part.now) parts.now))
         (map (λ bar. bar.now) sorted.items)) }
 {
-    let mut bars = Vec::new(alloc);
+    let mut bars = Vec::with_capacity(alloc, count_bars(parts))?;
     for part in parts {
-        bars.reserve(part.len())?;
         for bar in *part {
             bars.push(bar)?;
         }
     }
     bars.sort_by_key(|bar| (bar.locate, bar.start))?;
     Ok(bars)
+}
+
+/// How many bars the parts have, for room for them to be made.
+fn count_bars(parts: &[&[Bar]]) -> usize {
+    let mut count = 0usize;
+    for part in parts {
+        count = count.saturating_add(part.len());
+    }
+    count
 }
 
 /// Sorted bars in one list, those of one key made one.

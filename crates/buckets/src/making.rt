@@ -14,7 +14,11 @@ use std::alloc::Global;
 use time_and_sales::Listing;
 
 /// The listing of the sales, or their bars.
-pub(crate) fn product(alloc: Global, mut sales: Vec<Sale>, what: What) -> Result<Product, OutOfMemory>
+pub(crate) fn product(
+    alloc: Global,
+    mut sales: Vec<Sale>,
+    what: What,
+) -> Result<Product, OutOfMemory>
     requires places { IsDistinct nat_eq (map (λ sale. sale.place) sales.items) }
     requires count { length sales.items < TRADE_LIMIT }
     requires shares { All (λ sale. 0 < sale.shares) sales.items }
@@ -27,7 +31,7 @@ pub(crate) fn product(alloc: Global, mut sales: Vec<Sale>, what: What) -> Result
             Ok(Product::Listed(Listing::of_sales(sales)))
         }
         What::Bars { width } => {
-            let table = BarTable::of_sales(alloc, &sales, width)?;
+            let table = BarTable::of_vec(alloc, sales, width)?;
             Ok(Product::Tabled(table))
         }
     }

@@ -18,6 +18,9 @@ use probe::Sale;
 use std::alloc::Global;
 use std::thread::Threads;
 
+/// How many bytes most lines have at most.
+const USUAL_LINE: usize = 48;
+
 /// The lines of the sales of all listings, by place, in pieces that stand for one text when they are
 /// joined. There are so many pieces, or one: each is of the sales in a range of places, which a thread
 /// of its own puts in order and writes. It is refused if a thread was refused memory.
@@ -201,7 +204,7 @@ fn lines(alloc: Global, sales: &[&Sale], names: &Names) -> Result<Vec<u8>, OutOf
     ensures { IfOk result (λ text. text.items
         ≡ lines_text (λ locate. name_text locate (last_row names.now locate)) (map (λ sale. sale.now) sales.now)) }
 {
-    let mut text = Vec::new(alloc);
+    let mut text = Vec::with_capacity(alloc, sales.len().saturating_mul(USUAL_LINE))?;
     for sale in sales {
         write_sale(&mut text, sale, &names.name(sale.locate))?;
     }

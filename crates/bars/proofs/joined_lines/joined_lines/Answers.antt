@@ -94,7 +94,7 @@ loop-i-init c =
     let here : (d : TheBar) → get_or seen 0 d ≡ (get_or c.args.sorted.now 0 e).now = λ d. seen_at c.args.sorted.now 0 e d some in
     record {
       done = [];
-      text = c.new-text.ensures.items;
+      text = c.in_ok-text.ensures.items;
       union = first_union seen e.now (get_or c.args.sorted.now 0 e).now (omega (arith, n, some)) (sym (here e.now));
       traded = at_has IsTraded c.args.sorted.now 0 e some c.requires.traded;
       start = at_has (λ (b : TheBar). b.start < TIME_LIMIT) c.args.sorted.now 0 e some c.requires.starts;
@@ -105,7 +105,7 @@ loop-i-init c =
 
 pub returns-then-is_empty : goal.returns-then-is_empty
 returns-then-is_empty c = λ table union.
-    c.new-text.ensures.items
+    c.new.ensures.items
     ∙ ap (lines_text (λ locate. name_text locate (last_row c.args.names.now locate)))
     (sym (union_of_none c.args.sorted.now table (none c.args.sorted.now (sym c.is_empty.ensures ∙ c.if-is_empty.true)) union))
 

@@ -1,13 +1,12 @@
 use Rattle.std.proofs.Common.{IsPermutation, arith, nat_le, sym, ap, ◌∙◌, subst}
 use Rattle.std.proofs.lemmas.Bool.{and_parts, leb-true}
-use Rattle.bars.specs.Bars.{AreBarsOf}
 use Rattle.buckets.specs.Products.{product_of}
 use Rattle.buckets.specs.declared.product.Product.TheVariants.{Listed, Tabled}
 use Rattle.buckets.proofs.ProductsOfSales.{listing_is_by_place, table_is}
 use Rattle.buckets.proofs.making.product.Goals as goal
 
-pub of_sales-requires-in-Bars-clause-width : goal.of_sales-requires-in-Bars-clause-width
-of_sales-requires-in-Bars-clause-width c =
+pub of_vec-requires-clause-width : goal.of_vec-requires-clause-width
+of_vec-requires-clause-width c =
     let within = and_parts (nat_le 1 c.in-Bars.width) (nat_le c.in-Bars.width 86400) (c.requires.width c.in-Bars.width c.in-Bars.is) in
     (omega (arith, leb-true 1 c.in-Bars.width within.0), omega (arith, leb-true c.in-Bars.width 86400 within.1))
 
@@ -19,6 +18,5 @@ returns-in-Sales c =
 
 pub returns-in_ok-table-in-Bars : goal.returns-in_ok-table-in-Bars
 returns-in_ok-table-in-Bars c =
-    ap Tabled (table_is c.in-Bars.width c.args.sales.items c.in_ok-table-in-Bars.table
-    (subst (λ l. AreBarsOf c.in-Bars.width l c.in_ok-table-in-Bars.table) c.deref.ensures.value c.in_ok-table-in-Bars.ensures.bars))
+    ap Tabled (table_is c.in-Bars.width c.args.sales.items c.in_ok-table-in-Bars.table c.in_ok-table-in-Bars.ensures.bars)
     ∙ ap (λ what. product_of what c.args.sales.items) (sym c.in-Bars.is)
