@@ -1,7 +1,0 @@
-use Rattle.std.proofs.Common.{rules}
-use Rattle.std.specs.List.{IsDistinct}
-use Rattle.tests_of_rows.proofs.rows.rising_rows.Goals as goal
-
-pub returns : goal.returns
-unfolding IsDistinct
-returns c = search rules
