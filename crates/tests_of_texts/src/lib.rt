@@ -9,4 +9,6 @@ mod listings;
 #[cfg(test)]
 mod names;
 #[cfg(test)]
+mod ranges;
+#[cfg(test)]
 mod tables;
