@@ -11,4 +11,6 @@ mod names;
 #[cfg(test)]
 mod ranges;
 #[cfg(test)]
+mod sale_ranges;
+#[cfg(test)]
 mod tables;

@@ -11,7 +11,7 @@ use std::test::Fail;
 use time_and_sales::{DirectoryRow, Names};
 
 /// A sale of five shares at half past nine and so many seconds.
-fn sale(place: u64, locate: u16, seconds: u8, price: u32) -> Sale
+pub(crate) fn sale(place: u64, locate: u16, seconds: u8, price: u32) -> Sale
     ensures place { result.place ≡ place }
     ensures shares { result.shares ≡ 5 }
     ensures time { result.time < TIME_LIMIT }
@@ -67,7 +67,7 @@ fn tables(alloc: Global) -> Result<(BarTable, BarTable, BarTable), OutOfMemory>
 }
 
 /// The names of two locates.
-fn names(alloc: Global) -> Result<Names, OutOfMemory> {
+pub(crate) fn names(alloc: Global) -> Result<Names, OutOfMemory> {
     let row = |locate, stock| DirectoryRow {
         place: 0,
         locate,
@@ -96,7 +96,7 @@ fn lines(alloc: Global, table: &BarTable, names: &Names) -> Result<Vec<u8>, OutO
 }
 
 /// The pieces of a text joined.
-fn joined(alloc: Global, pieces: &[Vec<u8>]) -> Result<Vec<u8>, OutOfMemory> {
+pub(crate) fn joined(alloc: Global, pieces: &[Vec<u8>]) -> Result<Vec<u8>, OutOfMemory> {
     let mut text = Vec::new(alloc);
     for piece in pieces {
         text.extend_from_slice(piece.as_slice())?;

@@ -13,4 +13,4 @@ starts_small width sales table are traded times =
     All-weaker IsWritable (λ (bar : Bar). bar.start < 2 ^ 48) (λ bar w. w.0) table (table_is_writable width sales table are traded times)
 
 pub returns-clause-starts : goal.returns-clause-starts
-returns-clause-starts c = starts_small _ _ _ c.in_ok-of_sales.ensures.bars c.in_ok-of_sales.ensures.traded c.requires.times
+returns-clause-starts c = starts_small _ _ _ c.in_ok-table.ensures.bars c.in_ok-table.ensures.traded c.requires.times
