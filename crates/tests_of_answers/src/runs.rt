@@ -1,6 +1,6 @@
 //! What runs over devices do, and what they answer.
 use crate::asking::{settings, settings_of};
-use crate::devices::{Interrupted, Narrow, Stuck};
+use crate::devices::{Narrow, Stuck};
 use executor::{
     Counted, CountedSink, DayFault, DeviceFailed, LONGEST_FILE, QueryFault, RunFault, Sink, Source,
     parse, run,
@@ -10,7 +10,7 @@ use std::process::Abort;
 use std::sync::Wait;
 use std::test::Fail;
 use std::thread::Threads;
-use tests_support::{Day, Trickle, UNNAMED, UNNAMED_TEXT};
+use tests_support::{Day, InterruptedWriter, Trickle, UNNAMED, UNNAMED_TEXT};
 
 /// The bytes that a sink takes a call and in all, whether its flush succeeds, the answer of a run, and
 /// how many bytes of the text the sink has taken then.
@@ -84,7 +84,7 @@ fn a_writer_is_called_once_a_call_and_never_after_its_error(rt: HostRuntime) -> 
         (true, 1, Ok(0), 0),
     ];
     for (flushes, interrupted, want, taken) in callings {
-        let mut writer = Interrupted::of(rt.alloc(), 1, interrupted);
+        let mut writer = InterruptedWriter::of(rt.alloc(), 1, interrupted);
         let mut sink = CountedSink::of(&mut writer);
         let told = if flushes {
             sink.flush().map(|_| 0)
@@ -109,7 +109,7 @@ fn a_run_ends_at_a_writers_first_error(rt: HostRuntime) -> Result<(), Fail> {
     // 75 bytes are written one a call, and then flushed.
     for call in 0..77u32 {
         let mut source = Counted::of(bytes.as_slice());
-        let mut writer = Interrupted::of(rt.alloc(), 1, call);
+        let mut writer = InterruptedWriter::of(rt.alloc(), 1, call);
         let mut sink = CountedSink::of(&mut writer);
         let told = run(
             &rt,

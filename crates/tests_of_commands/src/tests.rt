@@ -11,6 +11,7 @@ use std::test::Fail;
 use std::thread::Threads;
 
 mod arguments;
+mod calls;
 mod devices;
 mod example;
 mod faults;

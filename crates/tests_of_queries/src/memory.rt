@@ -44,6 +44,35 @@ fn write_succeeds_once_there_is_memory(rt: HostRuntime) -> Result<(), Fail> {
     panic!(rt; "no memory")
 }
 
+// Each query has other pieces; what stands before it is kept.
+#[test]
+fn a_refused_write_leaves_what_stood(rt: HostRuntime) -> Result<(), Fail> {
+    for text in [
+        "sales",
+        "bars 86400 s as of 09:30:59",
+        "sales where symbol in MSFT,A and time from 09:30:00 until 24:00:00 and kind in E,C,Q",
+    ] {
+        let query = parse(rt.alloc(), text)?;
+        let whole = format!(in rt.alloc(); "before {text}")?;
+        let (mut was_refused, mut finished) = (false, false);
+        for step in 0..SIZES {
+            let heap = LocalHeap::new(rt.alloc(), 16 * step)?;
+            let Ok(mut out) = Vec::from_slice(&heap, b"before ") else {
+                continue;
+            };
+            if write(&mut out, &query).is_ok() {
+                assert!(rt; out.as_slice() == whole.as_bytes());
+                finished = true;
+                break;
+            }
+            assert!(rt; out.as_slice() == b"before ".as_slice());
+            was_refused = true;
+        }
+        assert!(rt; was_refused && finished, "{text}");
+    }
+    Ok(())
+}
+
 // The names of two locates: 7 is MSFT, 9 is A.
 fn names(alloc: Global) -> Result<Names, OutOfMemory> {
     let rows = [(0, 7, *b"MSFT    "), (41, 9, *b"A       ")].map(|(

@@ -1,9 +1,11 @@
 //! Rows for the tests.
-ghost use Rattle.std.specs.Prelude.{map, nat_eq};
+ghost use Rattle.std.specs.Prelude.{IfOk, IsTrue, map, nat_eq};
 ghost use Rattle.std.specs.List.{IsDistinct};
 
 use order_table::OrderRow;
 use probe::{Execution, Kind, Sale};
+use std::alloc::Global;
+use std::test::Fail;
 
 /// Three rows of the reference 1, the first of them in the middle.
 pub(crate) fn order_rows() -> [OrderRow; 3]
@@ -42,5 +44,31 @@ pub(crate) fn sale(trade_no: u64, shares: u64, kind: Kind, time: u64) -> Sale {
         price: 4,
         shares,
         trade_no,
+    }
+}
+
+/// Whether each row stands behind those before it.
+fn places_rise(rows: &[OrderRow]) -> bool
+    ensures { IsTrue result → IsDistinct nat_eq (map (λ row. row.place) rows.now) }
+{
+    rows.is_sorted_by(|row, next| row.place < next.place)
+}
+
+/// Forty rows, of which each gives a reference below the one before, or above it.
+pub(crate) fn forty_rows(alloc: Global, falls: bool) -> Result<Vec<OrderRow>, Fail>
+    ensures { IfOk result (λ rows. IsDistinct nat_eq (map (λ row. row.place) rows.items)) }
+{
+    let mut rows = Vec::new(alloc);
+    for place in 0..40 {
+        rows.push(OrderRow {
+            place,
+            order_no: if falls { 40 - place } else { 1 + place },
+            price: 5,
+        })?;
+    }
+    if places_rise(rows.as_slice()) {
+        Ok(rows)
+    } else {
+        Err(Fail::from("the places don't rise"))
     }
 }

@@ -9,4 +9,8 @@ mod listings;
 #[cfg(test)]
 mod names;
 #[cfg(test)]
+mod ranges;
+#[cfg(test)]
+mod sale_ranges;
+#[cfg(test)]
 mod tables;

@@ -1,11 +1,12 @@
-//! What the tests of several crates share: sources and readers that give few bytes a call and fail
-//! at some call, and day files that are made of one form for each frame.
+//! What the tests of several crates share: sources, readers and writers that give or take few bytes
+//! a call and fail at some call, and day files that are made of one form for each frame.
 #![tactic(auto)]
 
 mod days;
 mod forms;
 mod readers;
 mod trickle;
+mod writers;
 
 pub use days::{
     BROKEN_EARLIER, MSFT, NAMED, NAMED_TEXT, SHORT_ADD, UNNAMED, UNNAMED_TEXT, WITH_A_SHORT_ADD,
@@ -14,3 +15,4 @@ pub use days::{
 pub use forms::{Day, Form, Placed};
 pub use readers::{Broken, Interrupted};
 pub use trickle::Trickle;
+pub use writers::InterruptedWriter;

@@ -1,0 +1,16 @@
+use Rattle.std.proofs.Common.{ℕ, ◌<◌, ◌^◌, All, List}
+use Rattle.std.proofs.lemmas.List.Elements.{All-weaker}
+use Rattle.probe.specs.declared.rows.Sale.{Sale}
+use Rattle.bars.specs.Bars.{AreBarsOf, IsTraded}
+use Rattle.bars.specs.Texts.{IsWritable}
+use Rattle.bars.specs.declared.bar.Bar.{Bar}
+use Rattle.bars.proofs.SumsAreBounded.{table_is_writable}
+use Rattle.tests_of_texts.proofs.ranges.minutes.Goals as goal
+
+starts_small : (width : ℕ) (sales : List Sale) (table : List Bar) → AreBarsOf width sales table → All IsTraded table
+    → All (λ (s : Sale). s.time < 2 ^ 48) sales → All (λ (bar : Bar). bar.start < 2 ^ 48) table
+starts_small width sales table are traded times =
+    All-weaker IsWritable (λ (bar : Bar). bar.start < 2 ^ 48) (λ bar w. w.0) table (table_is_writable width sales table are traded times)
+
+pub returns-clause-starts : goal.returns-clause-starts
+returns-clause-starts c = starts_small _ _ _ c.in_ok-table.ensures.bars c.in_ok-table.ensures.traded c.requires.times

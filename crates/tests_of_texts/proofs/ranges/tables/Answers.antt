@@ -1,0 +1,33 @@
+use Rattle.std.proofs.Common.{rules, arith, ◌<◌, ◌^◌, [], ◌∷◌, subst, sym, All}
+use Rattle.std.specs.List.{IsDistinct}
+use Rattle.std.proofs.lemmas.List.{append-nil}
+use Rattle.std.proofs.lemmas.List.Elements.{All-append}
+use Rattle.bars.specs.Bars.{IsTraded}
+use Rattle.bars.specs.declared.bar.Bar.{Bar}
+use Rattle.bars.proofs.SumsAreBounded.{all_sums_fit}
+use Rattle.tests_of_texts.proofs.ranges.tables.Goals as goal
+
+pub minutes-requires-clause-places : goal.minutes-requires-clause-places
+unfolding IsDistinct
+minutes-requires-clause-places c = search rules
+
+pub minutes-requires-2-clause-places : goal.minutes-requires-2-clause-places
+unfolding IsDistinct
+minutes-requires-2-clause-places c = search rules
+
+pub minutes-requires-3-clause-places : goal.minutes-requires-3-clause-places
+unfolding IsDistinct
+minutes-requires-3-clause-places c = search rules
+
+pub returns-clause-sums : goal.returns-clause-sums
+returns-clause-sums c =
+    all_sums_fit _ (_ ∷ _ ∷ _ ∷ []) (_ ∷ _ ∷ _ ∷ []) (c.in_ok-minutes.ensures.bars, (c.in_ok-minutes-2.ensures.bars, (c.in_ok-minutes-3.ensures.bars, tt)))
+    (All-append IsTraded _ _ c.in_ok-minutes.ensures.traded
+    (All-append IsTraded _ _ c.in_ok-minutes-2.ensures.traded
+    (subst (All IsTraded) (sym (append-nil _)) c.in_ok-minutes-3.ensures.traded))) (omega arith)
+
+pub returns-clause-starts : goal.returns-clause-starts
+returns-clause-starts c =
+    All-append (λ (bar : Bar). bar.start < 2 ^ 48) _ _ c.in_ok-minutes.ensures.starts
+    (All-append (λ (bar : Bar). bar.start < 2 ^ 48) _ _ c.in_ok-minutes-2.ensures.starts
+    (subst (All (λ (bar : Bar). bar.start < 2 ^ 48)) (sym (append-nil _)) c.in_ok-minutes-3.ensures.starts))

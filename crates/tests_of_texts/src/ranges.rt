@@ -1,0 +1,122 @@
+//! The lines of many tables that threads make by ranges, beside those of all bars in one table.
+ghost use Rattle.std.specs.Prelude.{◌≡◌, ◌<◌, ◌≤◌, All, IfOk, [], ◌∷◌, length, map, nat_eq};
+ghost use Rattle.std.specs.List.{IsDistinct};
+ghost use Rattle.lists.specs.declared.limits.TheConstants.{TIME_LIMIT};
+ghost use Rattle.bars.specs.Bars.{AllSumsFit, AreBarsOf, IsTraded, all_bars};
+
+use bars::{BarTable, OutOfMemory, Sale, lines_in_ranges, write_bar};
+use probe::Kind;
+use std::alloc::Global;
+use std::test::Fail;
+use time_and_sales::{DirectoryRow, Names};
+
+/// A sale of five shares at half past nine and so many seconds.
+pub(crate) fn sale(place: u64, locate: u16, seconds: u8, price: u32) -> Sale
+    ensures place { result.place ≡ place }
+    ensures shares { result.shares ≡ 5 }
+    ensures time { result.time < TIME_LIMIT }
+{
+    Sale {
+        place,
+        time: 34_200_000_000_000 + u64::from(seconds) * 1_000_000_000,
+        locate,
+        kind: Kind::P,
+        price,
+        shares: 5,
+        trade_no: place,
+    }
+}
+
+/// The bars of sales by minutes.
+fn minutes(alloc: Global, sales: &[Sale]) -> Result<BarTable, OutOfMemory>
+    requires places { IsDistinct nat_eq (map (λ sale. sale.place) sales.now) }
+    requires count { length sales.now < 100 }
+    requires shares { All (λ sale. 0 < sale.shares) sales.now }
+    requires times { All (λ sale. sale.time < TIME_LIMIT) sales.now }
+    ensures bars { IfOk result (λ table. AreBarsOf 60 sales.now table) }
+    ensures traded { IfOk result (λ table. All IsTraded table) }
+    ensures starts { IfOk result (λ table. All (λ bar. bar.start < TIME_LIMIT) table) }
+{
+    let table = BarTable::of_sales(alloc, sales, 60)?;
+    Ok(table)
+}
+
+/// Tables of four locates, of which 7 has bars in all three, and 9 in two of them.
+fn tables(alloc: Global) -> Result<(BarTable, BarTable, BarTable), OutOfMemory>
+    ensures sums { IfOk result (λ three. AllSumsFit (all_bars (three.0 ∷ three.1 ∷ three.2 ∷ []))) }
+    ensures starts { IfOk result (λ three.
+        All (λ bar. bar.start < TIME_LIMIT) (all_bars (three.0 ∷ three.1 ∷ three.2 ∷ []))) }
+{
+    let one = [
+        sale(10, 7, 1, 20_000),
+        sale(40, 9, 2, 30_000),
+        sale(70, 7, 62, 21_000),
+    ];
+    let other = [
+        sale(20, 7, 3, 26_000),
+        sale(50, 8, 4, 40_000),
+        sale(80, 9, 5, 31_000),
+        sale(81, 12, 6, 10_000),
+    ];
+    let third = [sale(5, 7, 0, 15_000), sale(90, 12, 70, 11_000)];
+    Ok((
+        minutes(alloc, &one)?,
+        minutes(alloc, &other)?,
+        minutes(alloc, &third)?,
+    ))
+}
+
+/// The names of two locates.
+pub(crate) fn names(alloc: Global) -> Result<Names, OutOfMemory> {
+    let row = |locate, stock| DirectoryRow {
+        place: 0,
+        locate,
+        stock,
+    };
+    Names::build(alloc, &[row(7, *b"MSFT    "), row(12, *b"A       ")])
+}
+
+const LINES: &str = "MSFT,09:30:00,1.5000,2.6000,1.5000,2.6000,15,3,2.0333+5/15
+MSFT,09:31:00,2.1000,2.1000,2.1000,2.1000,5,1,2.1000+0/5
+#8,09:30:00,4.0000,4.0000,4.0000,4.0000,5,1,4.0000+0/5
+#9,09:30:00,3.0000,3.1000,3.0000,3.1000,10,2,3.0500+0/10
+A,09:30:00,1.0000,1.0000,1.0000,1.0000,5,1,1.0000+0/5
+A,09:31:00,1.1000,1.1000,1.1000,1.1000,5,1,1.1000+0/5
+";
+
+/// The lines of a table.
+fn lines(alloc: Global, table: &BarTable, names: &Names) -> Result<Vec<u8>, OutOfMemory> {
+    let mut text = Vec::new(alloc);
+    for bar in table.items() {
+        if bar.start < 1 << 48 && bar.volume > 0 && bar.notional / bar.volume < 1 << 32 {
+            write_bar(&mut text, bar, &names.name(bar.locate))?;
+        }
+    }
+    Ok(text)
+}
+
+/// The pieces of a text joined.
+pub(crate) fn joined(alloc: Global, pieces: &[Vec<u8>]) -> Result<Vec<u8>, OutOfMemory> {
+    let mut text = Vec::new(alloc);
+    for piece in pieces {
+        text.extend_from_slice(piece.as_slice())?;
+    }
+    Ok(text)
+}
+
+#[test]
+fn lines_of_bars_in_ranges_are_those_of_one_table(rt: HostRuntime) -> Result<(), Fail> {
+    let alloc = rt.alloc();
+    let (one, other, third) = tables(alloc)?;
+    let names = names(alloc)?;
+    let all = BarTable::merge_all(alloc, &[&one, &other, &third])?;
+    let want = lines(alloc, &all, &names)?;
+    assert!(rt; want.as_slice() == LINES.as_bytes());
+    for ranges in [1, 2, 3, 5, 100] {
+        let pieces = lines_in_ranges(&rt, alloc, &[&one, &other, &third], &names, ranges)?;
+        assert!(rt; pieces.len() == ranges as usize, "{ranges}");
+        let text = joined(alloc, pieces.as_slice())?;
+        assert!(rt; text.as_slice() == want.as_slice(), "{ranges}");
+    }
+    Ok(())
+}

@@ -1,0 +1,95 @@
+//! The lines of listings that threads make by ranges, beside those of all sales in one listing.
+ghost use Rattle.std.specs.Prelude.{◌<◌, ◌++◌, All, IfOk, [], ◌∷◌, map, nat_eq};
+ghost use Rattle.std.specs.List.{IsDistinct, flat_map};
+ghost use Rattle.std.specs.List.Sorted.{IsPermutation};
+ghost use Rattle.lists.specs.declared.limits.TheConstants.{TIME_LIMIT};
+
+use crate::ranges::{joined, names, sale};
+use probe::Sale;
+use std::alloc::Global;
+use std::test::Fail;
+use time_and_sales::{Listing, Names, OutOfMemory, lines_in_ranges, write_sale};
+
+/// Sales of two listings, whose places lie between one another.
+fn sales() -> ([Sale; 3], [Sale; 2])
+    ensures one { IsDistinct nat_eq (map (λ sale. sale.place) result.0) }
+    ensures other { IsDistinct nat_eq (map (λ sale. sale.place) result.1) }
+    ensures both { IsDistinct nat_eq (map (λ sale. sale.place) (result.0 ++ result.1)) }
+    ensures one_time { All (λ sale. sale.time < TIME_LIMIT) result.0 }
+    ensures other_time { All (λ sale. sale.time < TIME_LIMIT) result.1 }
+{
+    (
+        [
+            sale(90, 7, 1, 20_000),
+            sale(10, 9, 2, 30_000),
+            sale(50, 7, 62, 21_000),
+        ],
+        [sale(70, 12, 3, 26_000), sale(20, 7, 0, 40_000)],
+    )
+}
+
+/// The listing of these sales.
+fn listed(alloc: Global, sales: &[Sale]) -> Result<Listing, OutOfMemory>
+    requires apart { IsDistinct nat_eq (map (λ sale. sale.place) sales.now) }
+    requires times { All (λ sale. sale.time < TIME_LIMIT) sales.now }
+    ensures permutation { IfOk result (λ listing. IsPermutation sales.now listing) }
+    ensures times { IfOk result (λ listing. All (λ sale. sale.time < TIME_LIMIT) listing) }
+{
+    Ok(Listing::of_sales(Vec::from_slice(alloc, sales)?))
+}
+
+/// The two listings.
+fn listings(alloc: Global) -> Result<(Listing, Listing), OutOfMemory>
+    ensures apart { IfOk result (λ two. IsDistinct nat_eq
+        (map (λ sale. sale.place) (flat_map (λ listing. listing) (two.0 ∷ two.1 ∷ [])))) }
+    ensures times { IfOk result (λ two. All (λ sale. sale.time < TIME_LIMIT)
+        (flat_map (λ listing. listing) (two.0 ∷ two.1 ∷ []))) }
+{
+    let (one, other) = sales();
+    let one = listed(alloc, &one)?;
+    let other = listed(alloc, &other)?;
+    Ok((one, other))
+}
+
+/// The two listings merged.
+fn merged(alloc: Global) -> Result<Listing, OutOfMemory> {
+    let (one, other) = listings(alloc)?;
+    let mut both = Vec::new(alloc);
+    both.push(one)?;
+    both.push(other)?;
+    Listing::merge_all(alloc, both)
+}
+
+const LINES: &str = "09:30:02.000000000,#9,P,3.0000,5,10
+09:30:00.000000000,MSFT,P,4.0000,5,20
+09:31:02.000000000,MSFT,P,2.1000,5,50
+09:30:03.000000000,A,P,2.6000,5,70
+09:30:01.000000000,MSFT,P,2.0000,5,90
+";
+
+/// The lines of a listing.
+fn lines(alloc: Global, listing: &Listing, names: &Names) -> Result<Vec<u8>, OutOfMemory> {
+    let mut text = Vec::new(alloc);
+    for sale in listing.items() {
+        if sale.time < 1 << 48 {
+            write_sale(&mut text, sale, &names.name(sale.locate))?;
+        }
+    }
+    Ok(text)
+}
+
+#[test]
+fn lines_of_sales_in_ranges_are_those_of_one_listing(rt: HostRuntime) -> Result<(), Fail> {
+    let alloc = rt.alloc();
+    let (one, other) = listings(alloc)?;
+    let names = names(alloc)?;
+    let want = lines(alloc, &merged(alloc)?, &names)?;
+    assert!(rt; want.as_slice() == LINES.as_bytes());
+    for ranges in [1, 2, 3, 5, 100] {
+        let pieces = lines_in_ranges(&rt, alloc, &[&one, &other], &names, ranges)?;
+        assert!(rt; pieces.len() == ranges as usize, "{ranges}");
+        let text = joined(alloc, pieces.as_slice())?;
+        assert!(rt; text.as_slice() == want.as_slice(), "{ranges}");
+    }
+    Ok(())
+}
