@@ -2,20 +2,21 @@
 
 /// What an Order Executed message tells (TotalView-ITCH 5.0, section 1.4.1).
 ///
-/// It is priced by the order whose reference it has.
+/// It is priced by the order whose reference it has. Its fields stand from wide to narrow, so that a
+/// row has 40 bytes, with no gap between two.
 #[derive(Clone, Copy, PartialEq, Eq, Debug)]
 pub struct Execution {
     /// Of the message, in bytes from the file's start.
     pub place: u64,
     /// In nanoseconds since midnight.
     pub time: u64,
-    /// Of the message's own header.
-    pub locate: u16,
     /// The order reference number.
     pub order_no: u64,
-    pub shares: u32,
     /// The match number.
     pub trade_no: u64,
+    pub shares: u32,
+    /// Of the message's own header.
+    pub locate: u16,
 }
 
 /// The type of the message that told a trade.
