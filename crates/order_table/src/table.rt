@@ -45,15 +45,26 @@ impl<A: Allocator + Clone> OrderTable<A> {
     {
         let mut kept = Vec::with_capacity(alloc, rows.len())?;
         kept.extend_from_slice(rows)?;
-        let repeated = if rises(rows) {
+        OrderTable::of_vec(kept)
+    }
+
+    /// The table of the rows, as `build` makes it of a copy of them. Where their references don't rise
+    /// they are sorted where they are, and where there is no memory for that, that is the refusal.
+    pub fn of_vec(mut rows: Vec<OrderRow, A>) -> Result<Built<A>, OutOfMemory>
+        requires { IsDistinct nat_eq (map (λ row. row.place) rows.items) }
+        ensures table { IfOk result (λ built. IsTableOf rows.items built.table) }
+        ensures repeated { IfOk result (λ built.
+            built.repeated ≡ option_map repeated_of (first_repeated rows.items)) }
+    {
+        let repeated = if rises(&rows) {
             None
         } else {
-            put_in_order(&mut kept)?;
-            first_repeated(&kept)
+            put_in_order(&mut rows)?;
+            first_repeated(&rows)
         };
         Ok(Built {
             table: OrderTable {
-                rows: SortedRows::new(kept),
+                rows: SortedRows::new(rows),
             },
             repeated: repeated.map(|row| Repeated {
                 place: row.place,
