@@ -70,7 +70,7 @@ fn table_of(alloc: Global, parts: &[&Partition]) -> Result<Built, OutOfMemory>
     ensures repeated { IfOk result (λ built. built.repeated ≡ repeated_in (rows_of_parts parts.now)) }
 {
     let orders = orders_of(alloc, parts)?;
-    OrderTable::of_vec(orders)
+    Ok(OrderTable::of_vec(orders))
 }
 
 /// The sales of the partitions' executions, in memory that is taken once for all trades.

@@ -1,14 +1,12 @@
 //! Rows in the order of their references.
-ghost use Rattle.std.specs.Prelude.{◌≡◌, ◌<◌, IsTrue, OnOk, length, map, nat_eq};
+ghost use Rattle.std.specs.Prelude.{◌≡◌, ◌<◌, IsTrue, length, map, nat_eq};
 ghost use Rattle.std.specs.List.{AllPairs, IsDistinct};
 ghost use Rattle.std.specs.List.Sorted.{IsPermutation};
 ghost use Rattle.order_table.specs.OneMoreRow.{earlier_row};
 ghost use Rattle.order_table.specs.Orders.{first_repeated};
 ghost use Rattle.order_table.specs.RowsInOrder.{IsInOrder};
 
-use crate::OutOfMemory;
 use crate::row::OrderRow;
-use std::alloc::Allocator;
 
 /// Whether each reference is above those before it.
 pub(crate) fn rises(rows: &[OrderRow]) -> bool
@@ -17,15 +15,14 @@ pub(crate) fn rises(rows: &[OrderRow]) -> bool
     rows.is_sorted_by(|row, next| row.order_no < next.order_no)
 }
 
-/// Puts the rows in order: by their references, and those of one reference by their places. Where
-/// they nearly stand so, that takes a few steps a row and no memory, and else those of a sort.
-pub(crate) fn put_in_order<A: Allocator>(rows: &mut Vec<OrderRow, A>) -> Result<(), OutOfMemory>
-    ensures permutation { OnOk result (IsPermutation rows.old.items rows.new.items) }
-    ensures in_order { OnOk result (IsInOrder rows.new.items) }
+/// Puts the rows in order: by their references, and those of one reference by their places. It takes
+/// no memory. Where they nearly stand so, that is a few steps a row, and else those of a sort.
+pub(crate) fn put_in_order(rows: &mut [OrderRow])
+    ensures permutation { IsPermutation rows.old rows.new }
+    ensures in_order { IsInOrder rows.new }
 {
-    move_near(rows.as_mut_slice());
-    rows.sort_by_key(|row: &OrderRow| (row.order_no, row.place))?;
-    Ok(())
+    move_near(rows);
+    rows.sort_unstable_by_key(|row: &OrderRow| (row.order_no, row.place));
 }
 
 /// How many rows before its own place a row of a list that nearly rises may belong.

@@ -34,9 +34,8 @@ pub struct Built<A: Allocator + Clone = Global> {
 }
 
 impl<A: Allocator + Clone> OrderTable<A> {
-    /// The table of the rows, in whatever order they stand. Room for all of them is made first, and
-    /// where their references don't rise they are sorted. Where there is no memory for either, that
-    /// is the refusal.
+    /// The table of the rows, in whatever order they stand. They are copied, and where there is no
+    /// memory for that, that is the refusal.
     pub fn build(alloc: A, rows: &[OrderRow]) -> Result<Built<A>, OutOfMemory>
         requires { IsDistinct nat_eq (map (λ row. row.place) rows.now) }
         ensures table { IfOk result (λ built. IsTableOf rows.now built.table) }
@@ -45,24 +44,23 @@ impl<A: Allocator + Clone> OrderTable<A> {
     {
         let mut kept = Vec::with_capacity(alloc, rows.len())?;
         kept.extend_from_slice(rows)?;
-        OrderTable::of_vec(kept)
+        Ok(OrderTable::of_vec(kept))
     }
 
     /// The table of the rows, as `build` makes it of a copy of them. Where their references don't rise
-    /// they are sorted where they are, and where there is no memory for that, that is the refusal.
-    pub fn of_vec(mut rows: Vec<OrderRow, A>) -> Result<Built<A>, OutOfMemory>
+    /// they are sorted where they are, so it takes no memory.
+    pub fn of_vec(mut rows: Vec<OrderRow, A>) -> Built<A>
         requires { IsDistinct nat_eq (map (λ row. row.place) rows.items) }
-        ensures table { IfOk result (λ built. IsTableOf rows.items built.table) }
-        ensures repeated { IfOk result (λ built.
-            built.repeated ≡ option_map repeated_of (first_repeated rows.items)) }
+        ensures table { IsTableOf rows.items result.table }
+        ensures repeated { result.repeated ≡ option_map repeated_of (first_repeated rows.items) }
     {
         let repeated = if rises(&rows) {
             None
         } else {
-            put_in_order(&mut rows)?;
+            put_in_order(rows.as_mut_slice());
             first_repeated(&rows)
         };
-        Ok(Built {
+        Built {
             table: OrderTable {
                 rows: SortedRows::new(rows),
             },
@@ -70,7 +68,7 @@ impl<A: Allocator + Clone> OrderTable<A> {
                 place: row.place,
                 order_no: row.order_no,
             }),
-        })
+        }
     }
 
     /// The price of an execution of the reference at the place: that of the reference's first row,

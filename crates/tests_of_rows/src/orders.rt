@@ -1,7 +1,8 @@
 //! The table of orders.
 use crate::rows::{forty_rows, order_rows};
 use linked_list_allocator::LocalHeap;
-use order_table::{OrderTable, Repeated, partition};
+use order_table::{Built, OrderRow, OrderTable, Repeated, partition};
+use std::alloc::Allocator;
 use std::test::Fail;
 
 #[test]
@@ -50,26 +51,39 @@ fn a_table_is_refused_until_there_is_room(rt: HostRuntime) -> Result<(), Fail> {
     Ok(())
 }
 
-// The rows that rise need no sort, so with as much room the others are refused for theirs.
+// The room that is enough for rows that rise is enough for others, which are sorted where they are.
 #[test]
-fn a_table_is_refused_until_its_rows_can_be_sorted(rt: HostRuntime) -> Result<(), Fail> {
-    let rising = forty_rows(rt.alloc(), false)?;
-    let falling = forty_rows(rt.alloc(), true)?;
+fn rows_are_sorted_where_they_are(rt: HostRuntime) -> Result<(), Fail> {
+    let rising = forty_rows(rt.alloc(), 1)?;
     let (mut was_refused, mut finished) = (false, false);
     for step in 1..400 {
         let heap = LocalHeap::new(rt.alloc(), 16 * step)?;
         let is_kept = OrderTable::build(&heap, rising.as_slice()).is_ok();
-        if let Ok(built) = OrderTable::build(&heap, falling.as_slice()) {
-            let price = |order_no, place| built.table.price_before(order_no, place);
-            assert!(rt; is_kept && built.repeated.is_none());
-            assert!(rt; price(1, 39).is_none() && price(1, 40) == Some(5));
-            assert!(rt; price(40, 0).is_none() && price(40, 1) == Some(5));
-            assert!(rt; price(0, 80).is_none() && price(41, 80).is_none());
+        for factor in [17, 40] {
+            let rows = forty_rows(rt.alloc(), factor)?;
+            let built = OrderTable::build(&heap, rows.as_slice());
+            assert!(rt; built.is_ok() == is_kept, "factor {factor}");
+            if let Ok(built) = built {
+                assert!(rt; prices_each(&built, rows.as_slice()), "factor {factor}");
+            }
+        }
+        if is_kept {
             finished = true;
             break;
         }
-        was_refused = was_refused || is_kept;
+        was_refused = true;
     }
     assert!(rt; was_refused && finished);
     Ok(())
+}
+
+/// Whether no reference repeats, and each prices what stands behind its row alone.
+fn prices_each<A: Allocator + Clone>(built: &Built<A>, rows: &[OrderRow]) -> bool {
+    let price = |order_no, place| built.table.price_before(order_no, place);
+    built.repeated.is_none()
+        && price(0, 80).is_none()
+        && price(41, 80).is_none()
+        && rows.iter().all(|row| {
+            price(row.order_no, row.place).is_none() && price(row.order_no, 40) == Some(row.price)
+        })
 }

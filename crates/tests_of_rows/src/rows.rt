@@ -54,15 +54,15 @@ fn places_rise(rows: &[OrderRow]) -> bool
     rows.is_sorted_by(|row, next| row.place < next.place)
 }
 
-/// Forty rows, of which each gives a reference below the one before, or above it.
-pub(crate) fn forty_rows(alloc: Global, falls: bool) -> Result<Vec<OrderRow>, Fail>
+/// Forty rows of the references 1 to 40, which rise by the factor 1, fall by 40, and do neither by 17.
+pub(crate) fn forty_rows(alloc: Global, factor: u64) -> Result<Vec<OrderRow>, Fail>
     ensures { IfOk result (λ rows. IsDistinct nat_eq (map (λ row. row.place) rows.items)) }
 {
     let mut rows = Vec::new(alloc);
-    for place in 0..40 {
+    for place in 0..40u64 {
         rows.push(OrderRow {
             place,
-            order_no: if falls { 40 - place } else { 1 + place },
+            order_no: (1 + place).wrapping_mul(factor) % 41,
             price: 5,
         })?;
     }
