@@ -16,13 +16,17 @@ pub(crate) fn rises(rows: &[OrderRow]) -> bool
 }
 
 /// Puts the rows in order: by their references, and those of one reference by their places. It takes
-/// no memory. Where they nearly stand so, that is a few steps a row, and else those of a sort.
+/// no memory. Where they nearly stand so, that is a few steps a row, and else those of a sort by the
+/// reference alone, to which one by both is added only where a reference is repeated.
 pub(crate) fn put_in_order(rows: &mut [OrderRow])
     ensures permutation { IsPermutation rows.old rows.new }
     ensures in_order { IsInOrder rows.new }
 {
     move_near(rows);
-    rows.sort_unstable_by_key(|row: &OrderRow| (row.order_no, row.place));
+    rows.sort_unstable_by_key(|row: &OrderRow| row.order_no);
+    if !rises(rows) {
+        rows.sort_unstable_by_key(|row: &OrderRow| (row.order_no, row.place));
+    }
 }
 
 /// How many rows before its own place a row of a list that nearly rises may belong.
