@@ -1,7 +1,8 @@
 //! Rehearsals that are run also with each allocation of the process refused in turn: what comes is the right
 //! answer, or want of memory.
-use crate::rehearsing::{HEADER, by_two, text, told_of_day};
+use crate::rehearsing::{HEADER, Told, by_two, text, told_of_day};
 use crate::schedules::{MERGE, at};
+use executor::Event;
 use std::test::Fail;
 use tests_support::{BROKEN_EARLIER, Form, MSFT};
 
@@ -51,6 +52,28 @@ fn answers_or_want_of_memory(rt: HostRuntime) -> Result<(), Fail> {
     for (query, forms, ends, want) in ASKED {
         let told = told_of_day(alloc, query, forms, ends, by_two(3), &first, &second)?;
         assert!(rt; told == text(alloc, want)?, "{query}");
+    }
+    Ok(())
+}
+
+/// Run also with each allocation of the process refused in turn.
+#[test]
+fn missing_tasks_or_want_of_memory(rt: HostRuntime) -> Result<(), Fail> {
+    let alloc = rt.alloc();
+    let all = [at(0, 3), at(1, 1), at(0, 0), at(1, 2), MERGE];
+    let lost = [at(0, 3), at(1, 1), Event::Lose { task: 0 }, at(1, 2), MERGE];
+    let never_there = [at(0, 3), at(1, 1), at(1, 2), MERGE];
+    let second = [at(1, 2), at(0, 0), at(1, 1)];
+    let table: [(&[Event], &[Event], Told); 4] = [
+        (&all, &second, text(alloc, HEADER)?),
+        (&lost, &second, Err((1, 0))),
+        (&never_there, &second, Err((1, 0))),
+        (&all, &[], Err((2, 0))),
+    ];
+    for (first, second, want) in table {
+        let (forms, ends) = (&BROKEN_EARLIER, &[41, 79, 100]);
+        let told = told_of_day(alloc, "sales", forms, ends, by_two(3), first, second)?;
+        assert!(rt; told == want, "{first:?} {second:?}");
     }
     Ok(())
 }
