@@ -91,3 +91,48 @@ impl Write for Stuck {
         Err(io::Error::from(io::ErrorKind::Interrupted))
     }
 }
+
+/// How many bytes a `Kept` has room for.
+const KEPT: usize = 128;
+
+/// A writer that takes at most `step` bytes a call and `room` in all, and keeps them without memory.
+#[derive(Drop)]
+pub struct Kept {
+    bytes: [u8; KEPT],
+    count: usize,
+    step: usize,
+    room: usize,
+}
+
+impl Kept {
+    /// The writer that has taken nothing. It has room for no more than `KEPT` bytes.
+    pub fn of(step: usize, room: usize) -> Kept {
+        Kept {
+            bytes: [0; KEPT],
+            count: 0,
+            step,
+            room: room.min(KEPT),
+        }
+    }
+
+    /// What was taken.
+    pub fn taken(&self) -> &[u8] {
+        self.bytes.get(..self.count).unwrap_or(&[])
+    }
+}
+
+impl Write for Kept {
+    fn write(&mut self, buf: &[u8]) -> io::Result<usize> {
+        let end = self.count.saturating_add(self.step).min(self.room);
+        let count = end.saturating_sub(self.count).min(buf.len());
+        for (byte, new) in self.bytes.iter_mut().skip(self.count).zip(&buf[..count]) {
+            *byte = *new;
+        }
+        self.count = self.count.saturating_add(count);
+        Ok(count)
+    }
+
+    fn flush(&mut self) -> io::Result<()> {
+        Ok(())
+    }
+}
