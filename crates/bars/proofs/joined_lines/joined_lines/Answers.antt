@@ -27,7 +27,7 @@ join-current-requires c =
     let h = c.loop-i.invariant in
     current_can_join h.done c.loop-i.current bar h.union.rise (equal_from _ (sym c.has_key_of.ensures ∙ c.if-has_key_of.true))
     (sums_of_this seen (h.done ++ c.loop-i.current ∷ []) c.loop-i.i e.now bar (omega (arith, n, c.loop-i-test.true))
-    (sym (seen_at c.args.sorted.now c.loop-i.i e e.now c.loop-i-test.true)) h.union c.requires.sums)
+    (sym (seen_at c.args.sorted.now c.loop-i.i e e.now (omega (arith, c.loop-i-test.true)))) h.union c.requires.sums)
 
 pub loop-i-preserved : goal.loop-i-preserved
 loop-i-preserved c =
@@ -43,7 +43,7 @@ loop-i-preserved c =
     let i = c.loop-i.i in
     let bar = (get_or c.args.sorted.now i e).now in
     let h = c.loop-i.invariant in
-    let here : (d : TheBar) → get_or seen i d ≡ bar = λ d. seen_at c.args.sorted.now i e d c.loop-i-test.true in
+    let here : (d : TheBar) → get_or seen i d ≡ bar = λ d. seen_at c.args.sorted.now i e d (omega (arith, c.loop-i-test.true)) in
     let later : (d : TheBar) → i + 1 < length c.args.sorted.now → is_gt (key_cmp bar (get_or seen (i + 1) d)) ≡ false = λ d within.
     subst (λ z. is_gt (key_cmp z (get_or seen (i + 1) d)) ≡ false) (here d) (next_not_lower seen i d c.requires.rise (omega (arith, n, within))) in
     elim c.if-has_key_of.branch [
@@ -56,7 +56,7 @@ loop-i-preserved c =
             union = subst (λ b. IsUnionOf (take (i + 1) seen) (h.done ++ b ∷ [])) (sym is)
                 (joined_union seen h.done i e.now c.loop-i.current bar (omega (arith, n, c.loop-i-test.true)) (sym (here e.now)) h.union same);
             traded = subst IsTraded (sym w.current-is)
-                (w.join-current.ensures.traded h.traded (at_has IsTraded c.args.sorted.now i e c.loop-i-test.true c.requires.traded));
+                (w.join-current.ensures.traded h.traded (at_has IsTraded c.args.sorted.now i e (omega (arith, c.loop-i-test.true)) c.requires.traded));
             start = subst (λ b. b.start < TIME_LIMIT) (sym is) h.start;
             name = w.name-is ∙ h.name ∙ ap (λ b. name b.locate) (sym is);
             next = λ d within. subst (λ b. is_gt (key_cmp b (get_or seen (i + 1) d)) ≡ false) (sym is)
@@ -65,16 +65,16 @@ loop-i-preserved c =
       | else-has_key_of+in_ok-write_bar w ↦
           let differ = sym c.has_key_of.ensures ∙ w.if-has_key_of.false in
           let up : is_gt (key_cmp c.loop-i.current bar) ≡ false =
-          subst (λ z. is_gt (key_cmp c.loop-i.current z) ≡ false) (here e.now) (h.next e.now c.loop-i-test.true) in
+          subst (λ z. is_gt (key_cmp c.loop-i.current z) ≡ false) (here e.now) (h.next e.now (omega (arith, c.loop-i-test.true))) in
           record {
             done = h.done ++ c.loop-i.current ∷ [];
             text = ap (λ t. t.items) w.text-is ∙ w.in_ok-write_bar.ensures.ok
                 ∙ ap₂ (λ l s. l ++ bar_line c.loop-i.current s) h.text h.name ∙ line_more name h.done c.loop-i.current;
             union = subst (λ b. IsUnionOf (take (i + 1) seen) ((h.done ++ c.loop-i.current ∷ []) ++ b ∷ [])) (sym w.current-is)
                 (next_union seen h.done i e.now c.loop-i.current bar (omega (arith, n, c.loop-i-test.true)) (sym (here e.now)) h.union up differ);
-            traded = subst IsTraded (sym w.current-is) (at_has IsTraded c.args.sorted.now i e c.loop-i-test.true c.requires.traded);
+            traded = subst IsTraded (sym w.current-is) (at_has IsTraded c.args.sorted.now i e (omega (arith, c.loop-i-test.true)) c.requires.traded);
             start = subst (λ b. b.start < TIME_LIMIT) (sym w.current-is)
-                (at_has (λ (b : TheBar). b.start < TIME_LIMIT) c.args.sorted.now i e c.loop-i-test.true c.requires.starts);
+                (at_has (λ (b : TheBar). b.start < TIME_LIMIT) c.args.sorted.now i e (omega (arith, c.loop-i-test.true)) c.requires.starts);
             name = w.name-is ∙ w.next_name-name.ensures ∙ ap (λ b. name b.locate) (sym w.current-is);
             next = λ d within. subst (λ b. is_gt (key_cmp b (get_or seen (i + 1) d)) ≡ false) (sym w.current-is) (later d within);
           }
