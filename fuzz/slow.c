@@ -1,11 +1,14 @@
 // Slows the process that it is preloaded into at random, for `stress`: readings, and the beginnings of its threads wait up to
-// SLOW_MOST microseconds; of its threads SLOW_REFUSED in a hundred can't be started. SLOW_SEED is the seed.
+// SLOW_MOST microseconds; of its threads SLOW_REFUSED in a hundred can't be started. SLOW_SEED is the seed. If it starts a
+// thread, it makes the file that SLOW_MARK names.
 typedef unsigned long size;
 
 void *dlsym(void *, const char *);
 char *getenv(const char *);
 long strtol(const char *, char **, int);
 int usleep(unsigned);
+int creat(const char *, unsigned);
+int close(int);
 unsigned alarm(unsigned);
 
 typedef long input(int, void *, size);
@@ -16,6 +19,7 @@ typedef int creation(unsigned long *, const void *, void *(*)(void *), void *);
 enum { TRY_AGAIN = 11, MOST_SECONDS = 60 };
 
 static size state = 1, most, refused;
+static const char *mark;
 static input *next_read;
 static input_at *next_pread;
 static yielding *next_yield;
@@ -34,6 +38,7 @@ __attribute__((constructor)) static void begin(void) {
     state = number("SLOW_SEED");
     most = number("SLOW_MOST");
     refused = number("SLOW_REFUSED");
+    mark = getenv("SLOW_MARK");
     alarm(MOST_SECONDS);
 }
 
@@ -87,6 +92,7 @@ static void *begin_late(void *at) {
 }
 
 int pthread_create(unsigned long *thread, const void *attributes, void *(*start)(void *), void *argument) {
+    if (mark) close(creat(mark, 0600));
     if (below(100) < refused) return TRY_AGAIN;
     // (it is kept until the process ends)
     struct beginning *it = __libc_malloc(sizeof *it);
