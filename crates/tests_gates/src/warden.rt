@@ -3,7 +3,7 @@
 use pipelines::{Gate, OutOfMemory};
 use std::alloc::Global;
 use std::sync::atomic::{AtomicBool, Ordering};
-use tests_works::hold;
+use tests_works::hold_for;
 
 /// What a gate hears. Pipelines are 1 and 2.
 #[derive(Clone, Copy, Debug, PartialEq, Eq)]
@@ -18,27 +18,42 @@ pub enum Heard {
     Done(u8),
 }
 
-/// The run of a task at its first giving is held until something is heard.
+/// The run of a task in a round is held until something is heard, for so many turns at most.
 #[derive(Clone, Copy, Debug)]
 pub struct Hold {
     pub pipeline: u8,
     pub task: u32,
+    pub round: u8,
     pub until: Heard,
+    pub turns: u32,
 }
 
-/// A hold, and whether it has ended.
+impl Hold {
+    /// The hold of a task at its first giving, which has a million turns.
+    pub fn first(pipeline: u8, task: u32, until: Heard) -> Hold {
+        Hold {
+            pipeline,
+            task,
+            round: 0,
+            until,
+            turns: 1_000_000,
+        }
+    }
+}
+
+/// A hold, whether it has ended, and whether a run was held in vain.
 #[derive(Drop)]
 struct Held {
     hold: Hold,
     has_ended: AtomicBool,
+    gave_up: AtomicBool,
 }
 
-/// Holds some runs, each for a million turns at most.
+/// Holds some runs.
 #[derive(Drop)]
 pub struct Warden {
     held: Vec<Held>,
     is_run_by_caller: AtomicBool,
-    gave_up: AtomicBool,
 }
 
 impl Warden {
@@ -49,18 +64,29 @@ impl Warden {
             held.push(Held {
                 hold: *hold,
                 has_ended: AtomicBool::new(false),
+                gave_up: AtomicBool::new(false),
             })?;
         }
         Ok(Warden {
             held,
             is_run_by_caller: AtomicBool::new(false),
-            gave_up: AtomicBool::new(false),
         })
     }
 
     /// Whether each hold has ended because of what was heard.
     pub fn never_gave_up(&self) -> bool {
-        !self.gave_up.load(Ordering::SeqCst)
+        !self
+            .held
+            .iter()
+            .any(|held| held.gave_up.load(Ordering::SeqCst))
+    }
+
+    /// Whether this one of the holds, which are numbered from 0, held a run in vain.
+    pub fn gave_up(&self, hold: usize) -> bool {
+        match self.held.get(hold) {
+            Some(held) => held.gave_up.load(Ordering::SeqCst),
+            None => false,
+        }
     }
 
     /// Whether it heard of a run of the caller's own.
@@ -78,10 +104,11 @@ impl Warden {
     }
 
     /// Holds a run.
-    fn detain(&self, pipeline: u8, task: u32) {
+    fn detain(&self, pipeline: u8, task: u32, round: u8) {
         for held in &self.held {
-            if held.hold.pipeline == pipeline && held.hold.task == task {
-                hold(&held.has_ended, &self.gave_up);
+            let hold = &held.hold;
+            if (hold.pipeline, hold.task, hold.round) == (pipeline, task, round) {
+                hold_for(hold.turns, &held.has_ended, &held.gave_up);
             }
         }
     }
@@ -92,10 +119,11 @@ impl Gate for Warden {
         self.hear(Heard::Pipeline(pipeline));
         self.hear(Heard::Task(pipeline, task));
         match round {
-            0 => self.detain(pipeline, task),
+            0 => {}
             1 => self.hear(Heard::Again(pipeline, task)),
             _ => self.is_run_by_caller.store(true, Ordering::SeqCst),
         }
+        self.detain(pipeline, task, round);
     }
 
     fn done(&self, pipeline: u8) {

@@ -1,9 +1,9 @@
 //! Days that are answered by several gatherers.
 use crate::answering::{text, told_of_day};
-use crate::threads::{held, is_answered};
+use crate::threads::is_answered;
 use executor::{Crew, FreeGate};
 use std::test::Fail;
-use tests_gates::{Heard, Warden};
+use tests_gates::{Heard, Hold, Warden};
 use tests_support::NAMED;
 
 #[test]
@@ -20,8 +20,8 @@ fn overlap_over_two_gatherers(rt: HostRuntime) -> Result<(), Fail> {
     let alloc = rt.alloc();
     // One task of each pipeline is given again while its first run is held.
     let holds = [
-        held(1, 0, Heard::Again(1, 0)),
-        held(2, 1, Heard::Again(2, 1)),
+        Hold::first(1, 0, Heard::Again(1, 0)),
+        Hold::first(2, 1, Heard::Again(2, 1)),
     ];
     let gate = Warden::of(alloc, &holds)?;
     let crew = Crew {

@@ -47,33 +47,27 @@ fn is_answered_under<R: Threads + Wait + Abort + Sync>(
     Ok(())
 }
 
-/// The first giving of a task is held.
-pub fn held(pipeline: u8, task: u32, until: Heard) -> Hold {
-    Hold {
-        pipeline,
-        task,
-        until,
-    }
-}
-
 #[test]
 fn two_tasks_meet(rt: HostRuntime) -> Result<(), Fail> {
     let holds = [
-        held(1, 0, Heard::Task(1, 1)),
-        held(1, 1, Heard::Task(1, 0)),
-        held(2, 0, Heard::Task(2, 1)),
-        held(2, 1, Heard::Task(2, 0)),
+        Hold::first(1, 0, Heard::Task(1, 1)),
+        Hold::first(1, 1, Heard::Task(1, 0)),
+        Hold::first(2, 0, Heard::Task(2, 1)),
+        Hold::first(2, 1, Heard::Task(2, 0)),
     ];
     is_answered_under(&rt, rt.alloc(), &holds)
 }
 
 #[test]
 fn slow_task_given_again(rt: HostRuntime) -> Result<(), Fail> {
-    let holds = [held(1, 0, Heard::Done(1)), held(2, 0, Heard::Done(2))];
+    let holds = [
+        Hold::first(1, 0, Heard::Done(1)),
+        Hold::first(2, 0, Heard::Done(2)),
+    ];
     is_answered_under(&rt, rt.alloc(), &holds)
 }
 
 #[test]
 fn slow_worker_left_behind(rt: HostRuntime) -> Result<(), Fail> {
-    is_answered_under(&rt, rt.alloc(), &[held(1, 0, Heard::Pipeline(2))])
+    is_answered_under(&rt, rt.alloc(), &[Hold::first(1, 0, Heard::Pipeline(2))])
 }

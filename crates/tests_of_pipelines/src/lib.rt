@@ -9,6 +9,8 @@ mod gatherers;
 #[cfg(test)]
 mod link;
 #[cfg(test)]
+mod points;
+#[cfg(test)]
 mod refusals;
 #[cfg(test)]
 mod schedules;

@@ -9,81 +9,8 @@ use std::sync::atomic::{AtomicBool, AtomicU64, Ordering};
 use std::sync::{Arc, Wait};
 use std::test::Fail;
 use std::thread::Threads;
-use tests_works::{NUMBERS, Watch, hold, shared_inputs_of};
-
-/// How long the first giving of task 0 is held, in each pipeline or, the last, in the first alone.
-#[derive(Clone, Copy, PartialEq, Eq)]
-enum Held {
-    NotAtAll,
-    /// Until task 1 is begun, which is held until task 0 is.
-    UntilTheOther,
-    UntilDone,
-    UntilTheSecondPipeline,
-}
-
-/// Holds some runs.
-#[derive(Drop)]
-struct Warden {
-    held: Held,
-    begun: [AtomicBool; 4],
-    second_pipeline: AtomicBool,
-    done: [AtomicBool; 2],
-    /// Whether it heard of a run of the caller's own.
-    is_run_by_caller: AtomicBool,
-    gave_up: AtomicBool,
-}
-
-impl Warden {
-    fn new(held: Held) -> Self {
-        Warden {
-            held,
-            begun: [
-                AtomicBool::new(false),
-                AtomicBool::new(false),
-                AtomicBool::new(false),
-                AtomicBool::new(false),
-            ],
-            second_pipeline: AtomicBool::new(false),
-            done: [AtomicBool::new(false), AtomicBool::new(false)],
-            is_run_by_caller: AtomicBool::new(false),
-            gave_up: AtomicBool::new(false),
-        }
-    }
-}
-
-impl Gate for Warden {
-    fn before(&self, pipeline: u8, task: u32, round: u8) {
-        if pipeline == 2 {
-            self.second_pipeline.store(true, Ordering::SeqCst);
-        }
-        if round == 2 {
-            self.is_run_by_caller.store(true, Ordering::SeqCst);
-        }
-        if pipeline < 1 || pipeline > 2 || task > 1 {
-            return;
-        }
-        let first = 2 * (pipeline as usize - 1);
-        let own = task as usize;
-        self.begun[first + own].store(true, Ordering::SeqCst);
-        if round > 0 {
-            return;
-        }
-        match self.held {
-            Held::UntilTheOther => hold(&self.begun[first + 1 - own], &self.gave_up),
-            Held::UntilDone if own == 0 => hold(&self.done[first / 2], &self.gave_up),
-            Held::UntilTheSecondPipeline if own == 0 && first == 0 => {
-                hold(&self.second_pipeline, &self.gave_up);
-            }
-            _ => {}
-        }
-    }
-
-    fn done(&self, pipeline: u8) {
-        if pipeline == 1 || pipeline == 2 {
-            self.done[pipeline as usize - 1].store(true, Ordering::SeqCst);
-        }
-    }
-}
+use tests_gates::{Heard, Hold, Warden};
+use tests_works::{NUMBERS, Watch, shared_inputs_of};
 
 /// One worker and one gatherer.
 const ONE: Crew = Crew {
@@ -299,39 +226,49 @@ fn lost_pieces_are_run_again(rt: HostRuntime) -> Result<(), Fail> {
     Ok(())
 }
 
-/// Whether two workers finish under such a gate, which never gives up and hears of no run of the
-/// caller's own.
-fn finishes_when<R: Threads + Wait + Sync>(
+/// Whether two workers finish under these holds, each of which ends, and leave the caller no run of its
+/// own.
+fn finishes_under<R: Threads + Wait + Sync>(
     rt: &R,
     alloc: Global,
-    held: Held,
+    holds: &[Hold],
 ) -> Result<bool, OutOfMemory> {
     let watch = Watch::shared(alloc)?;
-    let gate = Warden::new(held);
+    let gate = Warden::of(alloc, holds)?;
     let second = Arc::try_clone(&watch)?;
     let finished = match outcome(rt, alloc, &watch, second, &NUMBERS, false, TWO, &gate)? {
         Outcome::Finished { total, kept } => total == 3 && kept == 255,
         Outcome::Stopped { stop: _ } => false,
     };
-    let is_run_by_caller = gate.is_run_by_caller.load(Ordering::SeqCst);
-    Ok(finished && !is_run_by_caller && !gate.gave_up.load(Ordering::SeqCst))
+    Ok(finished && gate.never_gave_up() && !gate.is_run_by_caller())
 }
 
 #[test]
 fn two_tasks_meet(rt: HostRuntime) -> Result<(), Fail> {
-    assert!(rt; finishes_when(&rt, rt.alloc(), Held::UntilTheOther)?);
+    let holds = [
+        Hold::first(1, 0, Heard::Task(1, 1)),
+        Hold::first(1, 1, Heard::Task(1, 0)),
+        Hold::first(2, 0, Heard::Task(2, 1)),
+        Hold::first(2, 1, Heard::Task(2, 0)),
+    ];
+    assert!(rt; finishes_under(&rt, rt.alloc(), &holds)?);
     Ok(())
 }
 
 #[test]
 fn slow_task_given_again(rt: HostRuntime) -> Result<(), Fail> {
-    assert!(rt; finishes_when(&rt, rt.alloc(), Held::UntilDone)?);
+    let holds = [
+        Hold::first(1, 0, Heard::Done(1)),
+        Hold::first(2, 0, Heard::Done(2)),
+    ];
+    assert!(rt; finishes_under(&rt, rt.alloc(), &holds)?);
     Ok(())
 }
 
 #[test]
 fn slow_worker_left_behind(rt: HostRuntime) -> Result<(), Fail> {
-    assert!(rt; finishes_when(&rt, rt.alloc(), Held::UntilTheSecondPipeline)?);
+    let holds = [Hold::first(1, 0, Heard::Pipeline(2))];
+    assert!(rt; finishes_under(&rt, rt.alloc(), &holds)?);
     Ok(())
 }
 

@@ -10,4 +10,4 @@ pub mod watch;
 
 pub use inputs::{NUMBERS, inputs_of, shared_inputs_of};
 pub use sum::{Number, Sum, Value};
-pub use watch::{Watch, hold};
+pub use watch::{Watch, hold, hold_for};

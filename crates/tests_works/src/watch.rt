@@ -10,7 +10,12 @@ use std::thread;
 /// Looks at a flag until it is set. It gives up after a million turns, and then sets the other
 /// flag.
 pub fn hold(flag: &AtomicBool, gave_up: &AtomicBool) {
-    for _ in 0..1_000_000 {
+    hold_for(1_000_000, flag, gave_up);
+}
+
+/// Does as `hold` does, but gives up after so many turns.
+pub fn hold_for(turns: u32, flag: &AtomicBool, gave_up: &AtomicBool) {
+    for _ in 0..turns {
         if flag.load(Ordering::SeqCst) {
             return;
         }
@@ -31,6 +36,9 @@ pub struct Watch {
     end_of_refused: AtomicU64,
     refuses_runs: AtomicBool,
     refuses_additions: AtomicBool,
+    /// The number of which runs are refused, and how many are.
+    refused_input: (u64, u64),
+    runs_of_it: AtomicU64,
     meets: bool,
     begun: [AtomicBool; 2],
     gave_up: AtomicBool,
@@ -40,6 +48,7 @@ impl Watch {
     fn made(
         alloc: Global,
         refused: Range<u64>,
+        refused_input: (u64, u64),
         meets: bool,
     ) -> Result<Arc<Watch, Global>, OutOfMemory> {
         Ok(Arc::new(
@@ -53,6 +62,8 @@ impl Watch {
                 end_of_refused: AtomicU64::new(refused.end),
                 refuses_runs: AtomicBool::new(false),
                 refuses_additions: AtomicBool::new(false),
+                refused_input,
+                runs_of_it: AtomicU64::new(0),
                 meets,
                 begun: [AtomicBool::new(false), AtomicBool::new(false)],
                 gave_up: AtomicBool::new(false),
@@ -62,18 +73,27 @@ impl Watch {
 
     /// It refuses nothing.
     pub fn shared(alloc: Global) -> Result<Arc<Watch, Global>, OutOfMemory> {
-        Watch::made(alloc, 0..0, false)
+        Watch::made(alloc, 0..0, (0, 0), false)
     }
 
     /// It refuses the growths with these numbers, counted from 0.
     pub fn refusing(alloc: Global, growths: Range<u64>) -> Result<Arc<Watch, Global>, OutOfMemory> {
-        Watch::made(alloc, growths, false)
+        Watch::made(alloc, growths, (0, 0), false)
+    }
+
+    /// It refuses so many runs, the first ones, of the input with this number.
+    pub fn refusing_runs(
+        alloc: Global,
+        number: u64,
+        runs: u64,
+    ) -> Result<Arc<Watch, Global>, OutOfMemory> {
+        Watch::made(alloc, 0..0, (number, runs), false)
     }
 
     /// The runs of the inputs 1 and 2 wait for one another, and give up after a while. It refuses
     /// nothing.
     pub fn meeting(alloc: Global) -> Result<Arc<Watch, Global>, OutOfMemory> {
-        Watch::made(alloc, 0..0, true)
+        Watch::made(alloc, 0..0, (0, 0), true)
     }
 
     /// From now on growths are counted from 0 again, and those with these numbers are refused, and
@@ -140,7 +160,10 @@ impl Watch {
             hold(&self.begun[1 - own], &self.gave_up);
         }
         self.runs.fetch_add(1, Ordering::SeqCst);
-        if self.refuses_runs.load(Ordering::SeqCst) {
+        let (refused, runs) = self.refused_input;
+        if self.refuses_runs.load(Ordering::SeqCst)
+            || number == refused && self.runs_of_it.fetch_add(1, Ordering::SeqCst) < runs
+        {
             return Err(AllocError);
         }
         self.grow()
