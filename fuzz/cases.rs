@@ -429,8 +429,12 @@ pub fn exhaustive_case(kind: &str, number: u64) -> Case {
         "bytes" => {
             let (mut file, at) =
                 if half / 256 < one.len() { (one, half / 256) } else { (many, half / 256 - one_sale().len()) };
-            file[at] = (half % 256) as u8;
-            case_of(file, query, number / 2)
+            let value = half % 256;
+            file[at] = value as u8;
+            // (the ways move on with the byte, so that over all bytes each of them meets each value)
+            let mut case = case_of(file, query, (at + value) as u64);
+            case.ways.push(Way::Threads(b'R', 3, 2, 1, 5));
+            case
         }
         "cuts" => {
             let mut file = if half <= one.len() { one } else { many };
