@@ -1,12 +1,12 @@
 -- Of rows in the order of their references: that a sort gives it, which row comes first, and what a search finds.
 use Rattle.std.proofs.Common.{◌≡◌, ℕ, zero, suc, ◌<◌, ◌≤◌, Bool, true, false, cond, eqb, ltb, List, [], ◌∷◌, length, get_or, Some, None, filter}
-use Rattle.std.proofs.Common.{Ordering, nat_cmp, IsPermutation, refl, sym, ap, ◌∙◌, subst, arith, map, take, drop, ◌++◌, ◌≢◌, ◌⊎◌, inl, inr, ⊎_elim}
+use Rattle.std.proofs.Common.{Ordering, nat_cmp, IsPermutation, ◌-◌, refl, sym, ap, ◌∙◌, subst, arith, map, take, drop, ◌++◌, ◌≢◌, ◌⊎◌, inl, inr, ⊎_elim}
 use Rattle.std.specs.Cmp.{IsTotalOrder}
-use Rattle.std.specs.List.{All, AllPairs, AllAdjacentBelow, IsAllAdjacentAnswer, IsDistinct, find}
+use Rattle.std.specs.List.{All, AllPairs, AllAdjacentBelow, IsAllAdjacentAnswer, IsDistinct, ReversedBelow, find}
 use Rattle.std.proofs.Math.Seq.{take-append_seam}
 use Rattle.std.specs.List.Sorted.{IsNonDecreasingBy, IsPartitionPoint, IsSortedByKey}
 use Rattle.std.specs.Ordering.{is_lt, ordering_then}
-use Rattle.std.proofs.lemmas.Bool.{cases_order, both_ways, eq-eqb, eqb-true, eqb-false, ltb-true, ltb-false, le-ltb}
+use Rattle.std.proofs.lemmas.Bool.{cases_order, both_ways, eq-eqb, eqb-true, eqb-false, ltb-true, ltb-false, lt-ltb, le-ltb}
 use Rattle.std.proofs.lemmas.Cmp.{ranked, by_ranked, nat_cmp_total, on_total, then_total}
 use Rattle.std.proofs.lemmas.List.Elements.{All-filter, filter_passes}
 use Rattle.std.proofs.lemmas.List.Sorted.{sorted_far, ranks_by}
@@ -62,22 +62,36 @@ in_order_from_sorted rows up i j d p q =
 
 -- ---- references that rise
 
--- of elements by a number
-module _ {X : Type 0} (f : X → ℕ) (rows : List X) where
-  rising_pairs : AllAdjacentBelow (λ x y. true ≡ ltb (f x) (f y)) rows (length rows) → AllPairs (λ x y. f x < f y) rows
-  rising_pairs h i zero d p q = absurd (omega (arith, p))
-  rising_pairs h i (suc j) d p q =
-      let one : f (get_or rows j d) < f (get_or rows (suc j) d) =
-      subst (λ k. f (get_or rows j d) < f (get_or rows k d)) (omega arith) (ltb-true _ _ (sym (h j d (omega (arith, q))))) in
+below_on : {X : Type 0} (f : X → ℕ) (x y z : X) → ltb (f x) (f y) ≡ true → ltb (f y) (f z) ≡ true → ltb (f x) (f z) ≡ true
+below_on f x y z a b = lt-ltb _ _ (omega (arith, ltb-true _ _ a, ltb-true _ _ b))
+
+-- of elements by a test that goes on from each to the next
+module _ {X : Type 0} (test : X → X → Bool) (goes_on : (x y z : X) → test x y ≡ true → test y z ≡ true → test x z ≡ true) (rows : List X) where
+  tested_pairs : AllAdjacentBelow (λ x y. true ≡ test x y) rows (length rows) → AllPairs (λ x y. test x y ≡ true) rows
+  tested_pairs h i zero d p q = absurd (omega (arith, p))
+  tested_pairs h i (suc j) d p q =
+      let one : test (get_or rows j d) (get_or rows (suc j) d) ≡ true =
+      subst (λ k. test (get_or rows j d) (get_or rows k d) ≡ true) (omega arith) (sym (h j d (omega (arith, q)))) in
       ⊎_elim
-      (λ e. subst (λ k. f (get_or rows k d) < f (get_or rows (suc j) d)) (sym e) one)
-      (λ r. ⊎_elim (λ l. omega (arith, one, rising_pairs h i j d l (omega (arith, q)))) (λ l. absurd (omega (arith, l, p))) r)
+      (λ e. subst (λ k. test (get_or rows k d) (get_or rows (suc j) d) ≡ true) (sym e) one)
+      (λ r. ⊎_elim (λ l. goes_on _ _ _ (tested_pairs h i j d l (omega (arith, q))) one) (λ l. absurd (omega (arith, l, p))) r)
       (cases_order i j)
 
+  pairs_from_answer : (all : Bool) → IsAllAdjacentAnswer (λ x y b. b ≡ test x y) rows all → all ≡ true → AllPairs (λ x y. test x y ≡ true) rows
+  pairs_from_answer true h e = tested_pairs h
+  pairs_from_answer false h e = absurd (both_ways false refl e)
+
+-- of elements by a number
+module _ {X : Type 0} (f : X → ℕ) (rows : List X) where
   pub rising_from_answer : (rises : Bool) → IsAllAdjacentAnswer (λ x y b. b ≡ ltb (f x) (f y)) rows rises
       → rises ≡ true → AllPairs (λ x y. f x < f y) rows
-  rising_from_answer true h e = rising_pairs h
-  rising_from_answer false h e = absurd (both_ways false refl e)
+  rising_from_answer rises h e i j d p q =
+      ltb-true _ _ (pairs_from_answer (λ x y. ltb (f x) (f y)) (below_on f) rows rises h e i j d p q)
+
+  pub falling_from_answer : (falls : Bool) → IsAllAdjacentAnswer (λ x y b. b ≡ ltb (f y) (f x)) rows falls
+      → falls ≡ true → AllPairs (λ x y. f y < f x) rows
+  falling_from_answer falls h e i j d p q =
+      ltb-true _ _ (pairs_from_answer (λ x y. ltb (f y) (f x)) (λ x y z a b. below_on f z y x b a) rows falls h e i j d p q)
 
   pub rising_does_not_fall : AllPairs (λ x y. f x < f y) rows → IsNonDecreasingBy f rows
   rising_does_not_fall up i j d p q =
@@ -88,6 +102,16 @@ module _ {X : Type 0} (f : X → ℕ) (rows : List X) where
 
 pub in_order_from_rising : (rows : List OrderRow) → AllPairs (λ x y. x.order_no < y.order_no) rows → IsInOrder rows
 in_order_from_rising rows up i j d p q = inl (up i j d p q)
+
+-- and where they fall, once they are turned over
+pub in_order_from_falling : (rows turned : List OrderRow) → ReversedBelow rows turned (length rows) → length turned ≡ length rows
+    → AllPairs (λ x y. y.order_no < x.order_no) rows → IsInOrder turned
+in_order_from_falling rows turned over len down i j d p q =
+    let n = length rows in
+    let high : j < n = omega (arith, q, len) in
+    let low : i < n = omega (arith, p, high) in
+    let less = down (n - 1 - j) (n - 1 - i) d (omega (arith, p, high)) (omega (arith, low)) in
+    inl (rw (over i d low) (rw (over j d high) less))
 
 pub references_do_not_fall : (rows : List OrderRow) → IsInOrder rows → IsNonDecreasingBy (λ row. row.order_no) rows
 references_do_not_fall rows up i j d p q =

@@ -15,13 +15,24 @@ pub(crate) fn rises(rows: &[OrderRow]) -> bool
     rows.is_sorted_by(|row, next| row.order_no < next.order_no)
 }
 
+/// Whether each reference is below those before it.
+fn falls(rows: &[OrderRow]) -> bool
+    ensures { IsTrue result → AllPairs (λ x y. y.order_no < x.order_no) rows.now }
+{
+    rows.is_sorted_by(|row, next| next.order_no < row.order_no)
+}
+
 /// Puts the rows in order: by their references, and those of one reference by their places. It takes
-/// no memory. Where they nearly stand so, that is a few steps a row, and else those of a sort by the
-/// reference alone, to which one by both is added only where a reference is repeated.
+/// no memory. Where they fall or nearly stand so, that is a few steps a row, and else those of a sort
+/// by the reference alone, to which one by both is added only where a reference is repeated.
 pub(crate) fn put_in_order(rows: &mut [OrderRow])
     ensures permutation { IsPermutation rows.old rows.new }
     ensures in_order { IsInOrder rows.new }
 {
+    if falls(rows) {
+        rows.reverse();
+        return;
+    }
     move_near(rows);
     rows.sort_unstable_by_key(|row: &OrderRow| row.order_no);
     if !rises(rows) {

@@ -1,5 +1,5 @@
 //! The table of orders.
-use crate::rows::{forty_rows, order_rows};
+use crate::rows::{forty_rows, hundred_rows, order_rows};
 use linked_list_allocator::LocalHeap;
 use order_table::{Built, OrderRow, OrderTable, Repeated, partition};
 use std::alloc::Allocator;
@@ -86,4 +86,51 @@ fn prices_each<A: Allocator + Clone>(built: &Built<A>, rows: &[OrderRow]) -> boo
         && rows.iter().all(|row| {
             price(row.order_no, row.place).is_none() && price(row.order_no, 40) == Some(row.price)
         })
+}
+
+#[test]
+fn a_table_answers_as_a_search_over_its_rows(rt: HostRuntime) -> Result<(), Fail> {
+    for (bits, factor) in [
+        (0, 1),
+        (21, 1),
+        (99, 1),
+        (0, u64::MAX),
+        (21, u64::MAX),
+        (0, 1 << 48),
+        (0, 3 << 58),
+        (0, 1 << 61),
+        (0, 0x9e37_79b9_7f4a_7c15),
+    ] {
+        let rows = hundred_rows(rt.alloc(), bits, factor)?;
+        let built = OrderTable::build(rt.alloc(), rows.as_slice())?;
+        assert!(rt;
+            answers_as_a_search(&built, rows.as_slice()),
+            "{bits}, {factor}"
+        );
+    }
+    Ok(())
+}
+
+/// Whether the table of these rows, which are in the order of their places, tells what a search over
+/// them all tells.
+fn answers_as_a_search<A: Allocator + Clone>(built: &Built<A>, rows: &[OrderRow]) -> bool {
+    let price = |order_no, place| built.table.price_before(order_no, place);
+    let repeats = |row: &OrderRow| first_of(rows, row.order_no) != Some(*row);
+    let repeated = rows.iter().find(|row| repeats(*row)).map(|row| Repeated {
+        place: row.place,
+        order_no: row.order_no,
+    });
+    built.repeated == repeated
+        && rows.iter().all(|row| {
+            let first = first_of(rows, row.order_no);
+            let before = first.filter(|first| first.place < row.place);
+            price(row.order_no, row.place) == before.map(|row| row.price)
+                && price(row.order_no, 100) == first.map(|row| row.price)
+                && price(!row.order_no, 100) == first_of(rows, !row.order_no).map(|row| row.price)
+        })
+}
+
+/// The first of the rows that gives the reference.
+fn first_of(rows: &[OrderRow], order_no: u64) -> Option<OrderRow> {
+    rows.iter().find(|row| row.order_no == order_no).copied()
 }

@@ -72,3 +72,23 @@ pub(crate) fn forty_rows(alloc: Global, factor: u64) -> Result<Vec<OrderRow>, Fa
         Err(Fail::from("the places don't rise"))
     }
 }
+
+/// A hundred rows, each the place's reference with these bits changed, times the factor: they fall by the
+/// factor 2^64 - 1, and nearly rise where low bits are changed and the factor is 1.
+pub(crate) fn hundred_rows(alloc: Global, bits: u64, factor: u64) -> Result<Vec<OrderRow>, Fail>
+    ensures { IfOk result (λ rows. IsDistinct nat_eq (map (λ row. row.place) rows.items)) }
+{
+    let mut rows = Vec::new(alloc);
+    for place in 0..100u64 {
+        rows.push(OrderRow {
+            place,
+            order_no: (place ^ bits).wrapping_add(1).wrapping_mul(factor),
+            price: 7 + place as u32,
+        })?;
+    }
+    if places_rise(rows.as_slice()) {
+        Ok(rows)
+    } else {
+        Err(Fail::from("the places don't rise"))
+    }
+}

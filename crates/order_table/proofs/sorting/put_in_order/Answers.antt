@@ -1,7 +1,11 @@
 use Rattle.std.proofs.Common.{rules}
 use Rattle.std.proofs.lemmas.List.Sorted.{IsPermutation-trans, answers_always}
-use Rattle.order_table.proofs.RowsInOrder.{key_of, in_order_from_sorted}
+use Rattle.order_table.proofs.RowsInOrder.{key_of, in_order_from_falling, in_order_from_sorted}
 use Rattle.order_table.proofs.sorting.put_in_order.Goals as goal
+
+pub returns-then-falls-clause-in_order : goal.returns-then-falls-clause-in_order
+returns-then-falls-clause-in_order c =
+    in_order_from_falling _ _ c.reverse.ensures.by_index c.reverse.ensures.len (c.falls.ensures c.if-falls.true)
 
 pub returns-then-not-rises-clause-permutation : goal.returns-then-not-rises-clause-permutation
 returns-then-not-rises-clause-permutation c =
