@@ -25,8 +25,8 @@ const BUFFER: usize = 262_144;
 /// Reads a source of at most `limit` bytes to its end, and scans what it reads while it reads. It gives the
 /// rows of the messages that count up to this moment, in seconds since midnight, in so many partitions, and
 /// the wrong length of least place. It reads in so many blocks, each on a thread of its own where one can be
-/// made; `length` is how many bytes are expected, and only tells where blocks begin. Of the bytes that were
-/// read it holds no more than 256 KiB a block.
+/// made; `length` is how many bytes are expected, and only tells where blocks begin and for how many rows room
+/// is taken at once. Of the bytes that were read it holds no more than 256 KiB a block.
 ///
 /// The byte at `limit` is asked for first, so a source that is too long is refused before it is read.
 pub fn scan_blocks<R: Threads + Sync, S: BlockSource + Sync>(
@@ -49,12 +49,13 @@ pub fn scan_blocks<R: Threads + Sync, S: BlockSource + Sync>(
     ensures fault { IfErr result (IsBlocksFault S.GaveAt S.EndsAt S.FailsAt source.now limit) }
 {
     refuse_longer(source, limit)?;
+    let block = (length / u64::from(blocks.max(1))).saturating_add(1);
     let request = Request {
         limit,
         as_of,
         parts,
+        block,
     };
-    let size = (length / u64::from(blocks.max(1))).saturating_add(1);
     let last = u64::from(blocks.saturating_sub(1));
     let pieces = thread::map_indices(
         rt,
@@ -63,7 +64,7 @@ pub fn scan_blocks<R: Threads + Sync, S: BlockSource + Sync>(
         &|i| -> Result<Piece, BlocksFault>
             requires { IsAskable request }
             ensures { IsTried S.GaveAt S.EndsAt S.FailsAt source.entry.now request result }
-        { scan_block(alloc, source, request, i as u64, size, last) },
+        { scan_block(alloc, source, request, i as u64, last) },
     )?;
     let mut buffer = zeros(alloc, BUFFER)?;
     chain(alloc, source, request, pieces, &mut buffer)
@@ -76,17 +77,16 @@ fn scan_block<S: BlockSource>(
     source: &S,
     request: Request,
     number: u64,
-    size: u64,
     last: u64,
 ) -> Result<Piece, BlocksFault>
     requires { IsAskable request }
     ensures { IsTried S.GaveAt S.EndsAt S.FailsAt source.now request result }
 {
-    let from = request.limit.min(number.saturating_mul(size));
+    let from = request.limit.min(number.saturating_mul(request.block));
     let target = if number >= last {
         request.limit + 1
     } else {
-        from.saturating_add(size)
+        from.saturating_add(request.block)
     };
     let mut buffer = zeros(alloc, BUFFER)?;
     let start = guess(source, from, request.limit, &mut buffer);

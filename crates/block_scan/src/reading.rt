@@ -42,7 +42,8 @@ pub(crate) fn scan_piece<S: BlockSource>(
     ensures start { IfOk result (λ piece. piece.start ≡ start) }
     ensures more { IfOk result (λ piece. piece.tail ≡ Tail.More → target ≤ piece.end) }
 {
-    let mut scan = OpenScan::new(alloc, request.parts)?;
+    let bytes = request.block.min(target.saturating_sub(start));
+    let mut scan = OpenScan::new(alloc, request.parts, bytes)?;
     let mut place = start;
     let mut filled = 0;
     while place < target {

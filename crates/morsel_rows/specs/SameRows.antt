@@ -43,15 +43,15 @@ is_same_partition a b =
 
 -- ---- what compares as equal is one
 
-and_left : (a b : Bool) → (a && b) ≡ true → a ≡ true
+pub and_left : (a b : Bool) → (a && b) ≡ true → a ≡ true
 and_left true b h = refl
 and_left false b h = h
 
-and_right : (a b : Bool) → (a && b) ≡ true → b ≡ true
+pub and_right : (a b : Bool) → (a && b) ≡ true → b ≡ true
 and_right true b h = h
 and_right false b h = absurd (cc)
 
-same_lists : {X : Type 0} (test : X → X → Bool) → ((x y : X) → test x y ≡ true → x ≡ y) →
+pub same_lists : {X : Type 0} (test : X → X → Bool) → ((x y : X) → test x y ≡ true → x ≡ y) →
     (xs ys : List X) → pointwise test xs ys ≡ true → xs ≡ ys
 same_lists test one [] [] h = refl
 same_lists test one [] (y ∷ ys) h = cc
@@ -59,10 +59,10 @@ same_lists test one (x ∷ xs) [] h = cc
 same_lists test one (x ∷ xs) (y ∷ ys) h =
     ap₂ ◌∷◌ (one x y (and_left _ _ h)) (same_lists test one xs ys (and_right _ _ h))
 
-number : (a b : ℕ) → (a == b) ≡ true → a ≡ b
+pub number : (a b : ℕ) → (a == b) ≡ true → a ≡ b
 number a b h = eqb-true a b h
 
-same_order : (a b : OrderRow) → is_same_order a b ≡ true → a ≡ b
+pub same_order : (a b : OrderRow) → is_same_order a b ≡ true → a ≡ b
 same_order a b h =
     let h2 = and_right _ _ h in
     let place = number a.place b.place (and_left _ _ h) in

@@ -1,6 +1,6 @@
 //! Order rows in narrow memory.
 ghost use Rattle.std.specs.Prelude.{◌≡◌, ◌+◌, ◌^◌, ◌<◌, ◌≤◌, [], ◌∷◌, ◌++◌, length, map};
-ghost use Rattle.std.specs.Prelude.{OnErr, OnOk, slice_index_or, vec_capacity, vec_len};
+ghost use Rattle.std.specs.Prelude.{IfOk, IsTrue, OnErr, OnOk, slice_index_or, vec_capacity, vec_len};
 ghost use Rattle.std.specs.Cmp.{partial_equiv_from_equiv};
 ghost use Rattle.std.specs.List.{AllPairs};
 ghost use Rattle.std.specs.Option.{IfSome};
@@ -22,7 +22,7 @@ const RANGE: u64 = 1 << 32;
 const LAST_START: u64 = u64::MAX - (RANGE - 1);
 
 /// An order row in 16 bytes. Its place is `offset` bytes past the start of its list.
-#[derive(Clone, Copy, Debug)]
+#[derive(Clone, Copy, Debug, PartialEq, Eq)]
 pub(crate) struct Narrow {
     pub(crate) order_no: u64,
     pub(crate) price: u32,
@@ -64,6 +64,18 @@ impl<A: Allocator + Copy> OrderList<A> {
             narrow: Vec::new(alloc),
             wide: Vec::new(alloc),
         }
+    }
+
+    /// No rows, and room for so many narrow ones, which is taken at once. It is refused where there is no
+    /// memory for them.
+    pub fn with_room(alloc: A, rows: usize) -> Result<Self, OutOfMemory>
+        ensures { IfOk result (λ list. list ≡ []) }
+    {
+        Ok(OrderList {
+            start: 0,
+            narrow: Vec::with_capacity(alloc, rows)?,
+            wide: Vec::new(alloc),
+        })
     }
 }
 
@@ -128,6 +140,13 @@ impl<A: Allocator> OrderList<A> {
         Ok(())
     }
 
+    /// Whether the rows are the same and lie alike, narrow or wide, as those of one list do.
+    fn lies_alike(&self, other: &OrderList<A>) -> bool
+        ensures { IsTrue result → self.now ≡ other.now }
+    {
+        self.start == other.start && self.narrow == other.narrow && self.wide == other.wide
+    }
+
     /// The row at this index.
     #[inline(always)]
     fn at(&self, index: usize) -> OrderRow
@@ -175,6 +194,10 @@ impl<A: Allocator> PartialEq for OrderList<A> {
     ghost laws = { partial_equiv_from_equiv orders_equiv };
 
     fn eq(&self, other: &OrderList<A>) -> bool {
+        // The usual case, and the fast one: slices are compared, and no row is widened.
+        if self.lies_alike(other) {
+            return true;
+        }
         if self.len() != other.len() {
             return false;
         }

@@ -1,5 +1,5 @@
 //! The rows of one partition.
-ghost use Rattle.std.specs.Prelude.{◌≡◌, OnErr, OnOk};
+ghost use Rattle.std.specs.Prelude.{◌≡◌, IfOk, OnErr, OnOk};
 ghost use Rattle.std.specs.Cmp.{partial_equiv_from_equiv};
 ghost use Rattle.morsel_rows.specs.MoreRows.{with_execution, with_order, with_sale};
 ghost use Rattle.morsel_rows.specs.Partitions.{no_rows_in};
@@ -33,15 +33,16 @@ impl<A: Allocator> Model for Partition<A> {
 }
 
 impl<A: Allocator + Copy> Partition<A> {
-    /// No rows. It takes no memory.
-    pub(crate) fn new(alloc: A) -> Self
-        ensures { result ≡ no_rows_in }
+    /// No rows, and room for so many order rows, which is taken at once. It is refused where there is no
+    /// memory for them.
+    pub(crate) fn with_room(alloc: A, orders: usize) -> Result<Self, OutOfMemory>
+        ensures { IfOk result (λ partition. partition ≡ no_rows_in) }
     {
-        Partition {
-            orders: OrderList::new(alloc),
+        Ok(Partition {
+            orders: OrderList::with_room(alloc, orders)?,
             executions: Vec::new(alloc),
             own_priced: Vec::new(alloc),
-        }
+        })
     }
 }
 

@@ -54,14 +54,15 @@ impl<A: Allocator> Model for MorselRows<A> {
 }
 
 impl<A: Allocator + Copy> MorselRows<A> {
-    /// No rows, in this many partitions. It is refused where there is no memory for them.
-    pub fn new(alloc: A, parts: u32) -> Result<Self, OutOfMemory>
+    /// No rows, in this many partitions, each with room for so many order rows, which is taken at once. It is
+    /// refused where there is no memory for them.
+    pub fn new(alloc: A, parts: u32, orders: usize) -> Result<Self, OutOfMemory>
         requires { (0 < parts) × (parts ≤ MOST_PARTITIONS) }
         ensures { IfOk result (λ rows. rows ≡ in_partitions parts no_rows) }
     {
         let mut partitions = Vec::with_capacity(alloc, parts as usize)?;
         for _ in 0..parts {
-            partitions.push(Partition::new(alloc))?;
+            partitions.push(Partition::with_room(alloc, orders)?)?;
         }
         Ok(MorselRows {
             partitions,

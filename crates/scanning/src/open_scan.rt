@@ -14,6 +14,13 @@ use morsel_rows::MorselRows;
 use std::alloc::Global;
 use std::marker::Model;
 
+/// In how many bytes of a day room is taken for one order row. There is one in about 60 bytes; with a tenth
+/// more room, hardly a list grows, though not all partitions have the same number of rows.
+const BYTES_AN_ORDER: u64 = 54;
+
+/// The most bytes that room is taken for at once, so that a long block takes no more.
+const MOST_AT_ONCE: u64 = 4 << 20;
+
 /// What the frames that were taken in so far give: the rows of their messages that count, and the least
 /// wrong length.
 #[derive(Drop)]
@@ -31,13 +38,16 @@ impl Model for OpenScan {
 }
 
 impl OpenScan {
-    /// The scan of no frames, whose rows will stand in so many partitions.
-    pub fn new(alloc: Global, parts: u32) -> Result<Self, OutOfMemory>
+    /// The scan of no frames, whose rows will stand in so many partitions. `bytes` is how many bytes the
+    /// frames are expected to have, and only tells for how many order rows room is taken at once: about as
+    /// many as so many bytes of a day give, and no more than 4 MiB do.
+    pub fn new(alloc: Global, parts: u32, bytes: u64) -> Result<Self, OutOfMemory>
         requires { (0 < parts) × (parts ≤ MOST_PARTITIONS) }
         ensures { IfOk result (λ scan. (as_of : Option ℕ) → scan ≡ scan_of parts as_of []) }
     {
+        let orders = bytes.min(MOST_AT_ONCE) / BYTES_AN_ORDER / u64::from(parts);
         Ok(OpenScan {
-            rows: MorselRows::new(alloc, parts)?,
+            rows: MorselRows::new(alloc, parts, orders as usize)?,
             wrong: None,
         })
     }

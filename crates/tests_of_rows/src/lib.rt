@@ -9,6 +9,8 @@ mod orders;
 #[cfg(test)]
 mod rising;
 #[cfg(test)]
+mod room;
+#[cfg(test)]
 mod rows;
 #[cfg(test)]
 mod sales;

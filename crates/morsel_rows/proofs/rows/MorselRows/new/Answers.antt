@@ -7,7 +7,7 @@ use Rattle.morsel_rows.proofs.rows.MorselRows.new.Goals as goal
 
 pub loop-preserved : goal.loop-preserved
 loop-preserved g c =
-    c.in_ok-push.ensures.items ∙ ap₂ (λ l w. l ++ w ∷ []) c.loop.invariant c.new.ensures
+    c.in_ok-push.ensures.items ∙ ap₂ (λ l w. l ++ w ∷ []) c.loop.invariant c.in_ok-with_room.ensures
     ∙ sym (map-range_with_len_more (partition_of c.args.parts no_rows) 0 c.loop.counter c.loop.counter (omega arith))
 
 pub invariant_of-result : goal.invariant_of-result
@@ -21,4 +21,4 @@ returns g c =
     let all : c.loop.counter ≡ c.args.parts = omega arith in
     let partitions : c.loop.partitions.items ≡ map (partition_of c.args.parts no_rows) (numbers_below c.args.parts) =
     c.loop.invariant ∙ ap (λ k. map (partition_of c.args.parts no_rows) (numbers_below k)) all in
-    λ i. record { partitions = partitions i; breaks = c.new-2.ensures.items i; directory = c.new-3.ensures.items i }
+    λ i. record { partitions = partitions i; breaks = c.new.ensures.items i; directory = c.new-2.ensures.items i }

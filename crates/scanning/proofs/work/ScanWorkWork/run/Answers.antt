@@ -32,6 +32,6 @@ returns c =
     let found = scan_ends input.parts input.as_of c.into_iter-frame-iterator.result.frames c.loop-frame.frame-iterator.frames c.loop-frame.scan
     c.loop-frame.invariant c.in-None.ensures.steps.0.0 in
     let frames = ap (λ l. l.frames) c.into_iter-frame-iterator.ensures.into_iter_gives ∙ c.frames-frame-items.ensures.walked
-    ∙ ap frames_of (c.deref.ensures ∙ c.morsel.ensures) in
+    ∙ ap frames_of (c.deref-2.ensures ∙ c.morsel-morsel.ensures) in
     IfOk-weaker c.finish.result (λ output. output ≡ c.loop-frame.scan) (λ output. output ≡ scanned input)
     (λ output e. e ∙ found ∙ ap (scan_of input.parts input.as_of) frames) c.finish.ensures

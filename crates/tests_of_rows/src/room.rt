@@ -1,0 +1,59 @@
+//! Room for rows that is taken at once.
+use linked_list_allocator::LocalHeap;
+use morsel_rows::{MorselRows, OrderList};
+use order_table::OrderRow;
+use std::alloc::Allocator;
+use std::test::Fail;
+
+/// An order of this reference, at the place of the same number.
+fn order(number: u64) -> OrderRow {
+    OrderRow {
+        place: number,
+        order_no: number,
+        price: 5,
+    }
+}
+
+#[test]
+fn a_list_takes_its_room_at_once_or_is_refused(rt: HostRuntime) -> Result<(), Fail> {
+    let mut enough = None;
+    for step in 1..100 {
+        let heap = LocalHeap::new(rt.alloc(), 16 * step)?;
+        if let Ok(mut list) = OrderList::with_room(&heap, 9) {
+            let used = heap.used();
+            assert!(rt; list.len() == 0 && used >= 9 * 16);
+            for number in 0..9 {
+                list.push(order(number))?;
+            }
+            assert!(rt; list.len() == 9 && heap.used() == used);
+            enough = Some(step);
+            break;
+        }
+    }
+    assert!(rt; enough.is_some_and(|step| step >= 9));
+    Ok(())
+}
+
+/// Whether there are three partitions, none of which has an order.
+fn are_three_without_orders<A: Allocator>(rows: &MorselRows<A>) -> bool {
+    let has_none = |number| rows
+        .partition(number)
+        .is_some_and(|part| part.orders().len() == 0);
+    has_none(0) && has_none(1) && has_none(2) && rows.partition(3).is_none()
+}
+
+#[test]
+fn each_partition_takes_its_room_or_all_are_refused(rt: HostRuntime) -> Result<(), Fail> {
+    let mut enough = None;
+    for step in 1..200 {
+        let heap = LocalHeap::new(rt.alloc(), 16 * step)?;
+        if let Ok(rows) = MorselRows::new(&heap, 3, 9) {
+            assert!(rt; heap.used() >= 3 * 9 * 16 && are_three_without_orders(&rows));
+            enough = Some(step);
+            break;
+        }
+        assert!(rt; heap.used() == 0);
+    }
+    assert!(rt; enough.is_some_and(|step| step >= 27));
+    Ok(())
+}
