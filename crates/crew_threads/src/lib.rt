@@ -3,8 +3,12 @@
 //! Workers claim tasks of a dispatcher, run them and send the pieces to gatherers, of which the
 //! caller's thread is the first. The caller runs itself what no worker brought. Neither the crew nor the
 //! schedule of its threads changes the total.
+//!
+//! Where inputs become known one after another, workers can run their tasks before all are there
+//! (`run_ahead`); `total_of_pieces` then gives the total.
 #![tactic(auto)]
 
+mod ahead;
 mod crew;
 mod employ;
 mod gate;
@@ -14,13 +18,14 @@ mod port;
 mod runs;
 mod worker;
 
+pub use ahead::{Task, run_ahead};
 pub use crew::Crew;
 pub use gate::{FreeGate, Gate};
 pub use gatherers::{
     Gatherer, channel_of, gather_all, gather_until_covered, merge_all, start_gatherers,
 };
 pub use gathering::{Gathering, Inputs, OutOfMemory, Piece, Work};
-pub use pipeline::run_pipeline;
+pub use pipeline::{run_pipeline, total_of_pieces};
 pub use port::{ChannelPort, KeepingPort, Port};
 pub use runs::{run_missing, run_task};
 pub use worker::work;

@@ -48,7 +48,44 @@ pub fn run_pipeline<'s, E, W: Work + 's, G: Gate, R: Threads + Wait + Sync>(
             pipeline,
         );
     }
-    run_missing(alloc, &mut gathering, &inputs, pipeline, gate)?;
+    complete(alloc, gathering, &inputs, gate, pipeline)
+}
+
+/// The total of all inputs of one pipeline, some of whose tasks were run ahead: these are their pieces,
+/// in whatever order, repeated or not. One of other work is dropped. The caller's thread runs itself the
+/// tasks that no piece covers.
+///
+/// It is refused if memory was refused to it.
+pub fn total_of_pieces<W: Work, G: Gate>(
+    alloc: Global,
+    inputs: &Arc<Inputs<W>, Global>,
+    pieces: Vec<Piece<W>>,
+    gate: &G,
+    pipeline: u8,
+) -> Result<W::Total, OutOfMemory>
+    ensures total { IfOk result (λ total. total ≡ W.total_of (arc_value inputs.now)) }
+    ensures admissible { OnOk result (W.IsAdmissible (arc_value inputs.now)) }
+{
+    let mut gathering = Gathering::new(alloc, Arc::try_clone(inputs)?)?;
+    for piece in pieces {
+        let _ = gathering.file(piece);
+    }
+    complete(alloc, gathering, inputs, gate, pipeline)
+}
+
+/// Runs the tasks that are not covered, and gives the total of all inputs.
+fn complete<W: Work, G: Gate>(
+    alloc: Global,
+    mut gathering: Gathering<W>,
+    inputs: &Arc<Inputs<W>, Global>,
+    gate: &G,
+    pipeline: u8,
+) -> Result<W::Total, OutOfMemory>
+    requires own { gathering.inputs ≡ arc_value inputs.now }
+    ensures total { IfOk result (λ total. total ≡ W.total_of (arc_value inputs.now)) }
+    ensures admissible { OnOk result (W.IsAdmissible (arc_value inputs.now)) }
+{
+    run_missing(alloc, &mut gathering, inputs, pipeline, gate)?;
     gate.done(pipeline);
     match gathering.total() {
         Ok(total) => Ok(total),

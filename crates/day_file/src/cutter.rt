@@ -75,6 +75,14 @@ impl Cutter {
         self.cut.length() + self.past + (self.rest.len() - self.start) as u64
     }
 
+    /// The morsels that it has cut so far and keeps, in order. They are the first ones of the cut that
+    /// `finish` gives.
+    pub fn cut_so_far(&self) -> &Cut
+        ensures { result.now ≡ self.now.cut }
+    {
+        &self.cut
+    }
+
     /// Takes the next bytes of the file. After a refusal it stands for the same bytes as before.
     pub fn feed(&mut self, piece: &[u8]) -> Result<(), OutOfMemory>
         requires { fed_length self.old + length piece.now ≤ LONGEST_FILE }

@@ -3,3 +3,4 @@ pub mod Runs
 pub mod FirstPipeline
 pub mod Rehearsals
 pub mod Sources
+pub mod CutRead

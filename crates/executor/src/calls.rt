@@ -1,4 +1,5 @@
 //! The calls that answer a query.
+pub(crate) mod ahead;
 pub(crate) mod answer;
 pub(crate) mod ends;
 pub(crate) mod first_pipeline;

@@ -13,7 +13,9 @@ mod owner;
 mod pair;
 mod rehearse;
 
-pub use crew_threads::{Crew, FreeGate, Gate, KeepingPort, Port, work};
+pub use crew_threads::{
+    Crew, FreeGate, Gate, KeepingPort, Port, Task, run_ahead, total_of_pieces, work,
+};
 pub use dispatcher::{Dispatcher, Seat};
 pub use event::{Event, apply};
 pub use gathering::{Gathering, Inputs, OutOfMemory, Piece, Work};

@@ -6,6 +6,7 @@ ghost use Rattle.day_file.specs.Feeding.{HasFed, fed_length};
 ghost use Rattle.streaming.specs.Fed.{IsFedBy};
 ghost use Rattle.streaming.specs.Streams.{GaveAll, IsReadFault};
 
+use crate::listener::{Listener, tell};
 use day_file::{
     Cut, CutFault, Cutter, DeviceFailed, LONGEST_FILE, MOST_MORSELS, OutOfMemory, Source,
 };
@@ -53,11 +54,14 @@ impl From<DeviceFailed> for CutReadFault {
 /// is the shortest run of frames that has at least `target` bytes, or the rest. It asks for at most
 /// 65,536 bytes a call and for at most `limit` + 1 in all, and stops at the first call that fails.
 /// Beside the morsels it holds no more than such a piece and a morsel that is not full yet.
-pub fn read_cut<S: Source>(
+///
+/// The listener is told of each morsel once it is cut, and of the last one at the source's end.
+pub fn read_cut<S: Source, L: Listener>(
     alloc: Global,
     source: &mut S,
     limit: u64,
     target: u64,
+    listener: &mut L,
 ) -> Result<Cut, CutReadFault>
     requires source { S.has_failed source.old ≡ false }
     requires limit { limit ≤ LONGEST_FILE }
@@ -74,10 +78,10 @@ pub fn read_cut<S: Source>(
     ensures failed { IsErrOf result CutReadFault.ReadFailed ↔ (S.has_failed source.new ≡ true) }
 {
     let mut cutter = Cutter::new(alloc, target);
-    feed_all(alloc, source, &mut cutter, limit)?;
+    let told = feed_all(alloc, source, &mut cutter, limit, listener)?;
     match cutter.finish() {
         Ok(cut) => {
-            let count = cut.count();
+            let count = tell(listener, &cut, told);
             prove!(count <= MOST_MORSELS);
             Ok(cut)
         }
@@ -88,13 +92,14 @@ pub fn read_cut<S: Source>(
     }
 }
 
-/// Feeds the cutter all that the source gives.
-fn feed_all<S: Source>(
+/// Feeds the cutter all that the source gives, and says of how many morsels it has told the listener.
+fn feed_all<S: Source, L: Listener>(
     alloc: Global,
     source: &mut S,
     cutter: &mut Cutter,
     limit: u64,
-) -> Result<(), CutReadFault>
+    listener: &mut L,
+) -> Result<u32, CutReadFault>
     requires source { S.has_failed source.old ≡ false }
     requires limit { limit ≤ LONGEST_FILE }
     requires none { HasFed cutter.old [] }
@@ -106,8 +111,11 @@ fn feed_all<S: Source>(
     ensures failed { IsErrOf result CutReadFault.ReadFailed ↔ (S.has_failed source.new ≡ true) }
 {
     let mut piece = zeros(alloc, PIECE)?;
-    while feed_next(source, cutter, &mut piece, limit)? > 0 {}
-    Ok(())
+    let mut told = 0;
+    while feed_next(source, cutter, &mut piece, limit)? > 0 {
+        told = tell(listener, cutter.cut_so_far(), told);
+    }
+    Ok(told)
 }
 
 /// So many bytes.

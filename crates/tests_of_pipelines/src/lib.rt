@@ -5,6 +5,8 @@
 #[cfg(test)]
 mod additions;
 #[cfg(test)]
+mod ahead;
+#[cfg(test)]
 mod gatherers;
 #[cfg(test)]
 mod link;

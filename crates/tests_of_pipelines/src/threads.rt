@@ -99,14 +99,14 @@ fn every_crew_gives_one_answer(rt: HostRuntime) -> Result<(), Fail> {
 
 /// Notes what it hears of each run, while one worker makes them one after the other.
 #[derive(Drop)]
-struct Ledger {
+pub(crate) struct Ledger {
     watch: Arc<Watch, Global>,
     /// How often it heard of a run, by its pipeline, its round and its task.
     heard: Vec<AtomicU64>,
     all: AtomicU64,
-    all_when_done: [AtomicU64; 2],
+    pub(crate) all_when_done: [AtomicU64; 2],
     /// How often each pipeline was done.
-    done: [AtomicU64; 2],
+    pub(crate) done: [AtomicU64; 2],
     /// It heard of a run or a pipeline that is none of these, or only after the run was made.
     is_wrong: AtomicBool,
 }
@@ -117,13 +117,13 @@ fn place_of(pipeline: u8, round: u8, task: u32) -> usize {
 }
 
 /// Both counts.
-fn counts(of: &[AtomicU64; 2]) -> [u64; 2] {
+pub(crate) fn counts(of: &[AtomicU64; 2]) -> [u64; 2] {
     let [first, second] = of;
     [first.load(Ordering::SeqCst), second.load(Ordering::SeqCst)]
 }
 
 impl Ledger {
-    fn new(alloc: Global, watch: &Arc<Watch, Global>) -> Result<Self, OutOfMemory> {
+    pub(crate) fn new(alloc: Global, watch: &Arc<Watch, Global>) -> Result<Self, OutOfMemory> {
         let mut heard = Vec::new(alloc);
         for _ in 0..72 {
             heard.push(AtomicU64::new(0))?;
@@ -138,8 +138,13 @@ impl Ledger {
         })
     }
 
+    /// Whether it heard of what there is none of, or too late.
+    pub(crate) fn heard_wrong(&self) -> bool {
+        self.is_wrong.load(Ordering::SeqCst)
+    }
+
     /// How often it heard of each task in a round.
-    fn tasks(&self, pipeline: u8, round: u8) -> [u64; 8] {
+    pub(crate) fn tasks(&self, pipeline: u8, round: u8) -> [u64; 8] {
         let mut tasks = [0; 8];
         for (task, count) in tasks.iter_mut().enumerate() {
             if let Some(heard) = self.heard.get(place_of(pipeline, round, task as u32)) {
@@ -185,7 +190,7 @@ fn marked_tasks_are_passed_over(rt: HostRuntime) -> Result<(), Fail> {
         let gate = Ledger::new(alloc, &watch)?;
         let linked = Arc::try_clone(&watch)?;
         let _ = outcome(&rt, alloc, &watch, linked, &NUMBERS, halts, ONE, &gate)?;
-        assert!(rt; !gate.is_wrong.load(Ordering::SeqCst));
+        assert!(rt; !gate.heard_wrong());
         assert!(rt; gate.tasks(1, 0) == [1; 8]);
         assert!(rt; gate.tasks(2, 0) == second);
         assert!(rt; counts(&gate.all_when_done) == all_when_done);
@@ -216,7 +221,7 @@ fn lost_pieces_are_run_again(rt: HostRuntime) -> Result<(), Fail> {
             Ok(Outcome::Finished { total: _, kept: _ }) => assert!(rt; false),
             Err(_) => assert!(rt; !answers),
         }
-        assert!(rt; !gate.is_wrong.load(Ordering::SeqCst));
+        assert!(rt; !gate.heard_wrong());
         assert!(rt; gate.tasks(1, 0) == each && gate.tasks(1, 1) == each);
         assert!(rt; gate.tasks(1, 2) == by_caller);
         assert!(rt; gate.all.load(Ordering::SeqCst) == all);

@@ -6,24 +6,26 @@ ghost use Rattle.executor.specs.Runs.{Ran, is_read_failed, is_write_failed};
 ghost use Rattle.executor.specs.Sources.{IsAnswered, IsSourceRefusal};
 
 use crate::OutOfMemory;
-use crate::calls::answer::answer_inputs;
+use crate::calls::ahead::{ScannedCut, read_scanned};
+use crate::calls::answer::answer_scans;
 use crate::calls::ends::{hand_over, query_of};
 use crate::run_fault::RunFault;
 use crate::settings::Settings;
 use answers::{Answer, DayFault};
-use day_file::Cut;
-use pipelines::FreeGate;
+use pipelines::{FreeGate, total_of_pieces};
 use query::Query;
 use scanning::scan_inputs;
 use sinks::Sink;
 use std::alloc::{AllocError, Global};
-use std::sync::Wait;
+use std::sync::{Arc, Wait};
+use std::thread;
 use std::thread::Threads;
-use streaming::{CutReadFault, Source, read_cut};
+use streaming::{CutReadFault, Source};
 
-/// Reads a whole day file from a source and cuts it into morsels meanwhile. Threads find the answer to
-/// the query, which is then written to a sink. Nothing is written before every refusal but that of the
-/// sink is past. After a refusal the source may have been read in part. It waits for the threads.
+/// Reads a whole day file from a source and cuts it into morsels meanwhile, which threads scan as soon
+/// as they are cut. Threads then find the answer to the query, which is written to a sink. Nothing is
+/// written before every refusal but that of the sink is past. After a refusal the source may have been
+/// read in part. It waits for the threads.
 pub fn run<R: Threads + Wait + Sync, S: Source, K: Sink>(
     rt: &R,
     alloc: Global,
@@ -61,8 +63,8 @@ fn answer_source<R: Threads + Wait + Sync, S: Source>(
     ensures read_failed { S.has_failed source.new ≡ is_read_failed result }
 {
     let limit = settings.limit;
-    let cut = match read_cut(alloc, source, limit, settings.morsel) {
-        Ok(cut) => cut,
+    let scanned = match read_scanned(rt, alloc, source, query.as_of, settings) {
+        Ok(scanned) => scanned,
         Err(CutReadFault::ReadFailed) => return Err(RunFault::ReadFailed),
         Err(CutReadFault::TooLong) => return Err(RunFault::TooLong { limit }),
         Err(CutReadFault::Truncated { place }) => {
@@ -71,25 +73,32 @@ fn answer_source<R: Threads + Wait + Sync, S: Source>(
         Err(CutReadFault::TooManyMorsels) => return Err(RunFault::TooManyMorsels),
         Err(CutReadFault::OutOfMemory) => return Err(RunFault::OutOfMemory),
     };
-    match answer_cut(rt, alloc, cut, query, settings) {
+    match answer_cut(rt, alloc, scanned, query, settings) {
         Ok(answer) => Ok(answer),
         Err(AllocError) => Err(RunFault::OutOfMemory),
     }
 }
 
-/// The answer to a query over a cut day file, which is let go before the pipelines start: so its bytes
-/// are freed once all are scanned.
+/// The answer to a query over a cut day file, by the scans of its morsels; those that aren't there are
+/// done first. The bytes are freed on a thread of its own meanwhile.
 fn answer_cut<R: Threads + Wait + Sync>(
     rt: &R,
     alloc: Global,
-    cut: Cut,
+    scanned: ScannedCut,
     query: &Query,
     settings: Settings,
 ) -> Result<Answer, OutOfMemory>
-    ensures { IfOk result (λ answer. IsAnswer (concat cut) query.now (told_by answer)) }
+    ensures { IfOk result (λ answer. IsAnswer (concat scanned.cut) query.now (told_by answer)) }
 {
     let Settings { crew, parts, .. } = settings;
-    let inputs = scan_inputs(alloc, &cut, query.as_of, parts)?;
+    let ScannedCut { cut, scans } = scanned;
+    let inputs = Arc::new(alloc, scan_inputs(alloc, &cut, query.as_of, parts)?)?;
     drop(cut);
-    answer_inputs(rt, alloc, inputs, query, parts, crew, &FreeGate)
+    let total = total_of_pieces(alloc, &inputs, scans, &FreeGate, 1)?;
+    let freeing = thread::spawn(rt, move || drop(inputs));
+    let answer = answer_scans(rt, alloc, total, query, parts, crew);
+    if let Ok(freeing) = freeing {
+        freeing.join(rt);
+    }
+    answer
 }

@@ -1,0 +1,203 @@
+//! Tasks that are run before all inputs are known, and the total of their pieces.
+ghost use Rattle.std.specs.Prelude.{◌≡◌, ◌<◌, ◌≤◌, length};
+
+use crate::threads::{Ledger, counts};
+use crossbeam_channel::Sender;
+use pipelines::{FreeGate, Inputs, OutOfMemory, Piece, Task, run_ahead, total_of_pieces};
+use std::alloc::Global;
+use std::process::Abort;
+use std::sync::atomic::{AtomicU64, Ordering};
+use std::sync::{Arc, Wait};
+use std::test::Fail;
+use std::thread::{Threads, join_mut, yield_now};
+use tests_works::{NUMBERS, Number, Sum, Watch, shared_inputs_of};
+
+/// The task of this number, whose input is this one.
+fn task_of(
+    alloc: Global,
+    watch: &Arc<Watch, Global>,
+    number: u32,
+    input: u64,
+) -> Result<Task<Sum>, OutOfMemory> {
+    let input = Number {
+        number: input,
+        watch: Arc::try_clone(watch)?,
+    };
+    Ok(Task {
+        number,
+        input: Arc::new(alloc, input)?,
+    })
+}
+
+/// Sends the task of this number, whose input is this one.
+fn send<R: Wait>(
+    rt: &R,
+    alloc: Global,
+    to: &Sender<Task<Sum>>,
+    watch: &Arc<Watch, Global>,
+    number: u32,
+    input: u64,
+) -> Result<(), OutOfMemory> {
+    let _ = to.send(rt, task_of(alloc, watch, number, input)?);
+    Ok(())
+}
+
+/// The pieces of these tasks, each with its number and its input, by so many workers.
+fn pieces_of<R: Threads + Wait + Sync>(
+    rt: &R,
+    alloc: Global,
+    watch: &Arc<Watch, Global>,
+    tasks: &[(u32, u64)],
+    workers: u32,
+) -> Result<Vec<Piece<Sum>>, OutOfMemory> {
+    let (to, from) = crossbeam_channel::unbounded::<Task<Sum>, Global>(alloc)?;
+    for (number, input) in tasks {
+        send(rt, alloc, &to, watch, *number, *input)?;
+    }
+    drop(to);
+    Ok(run_ahead(rt, alloc, &from, workers))
+}
+
+/// The tasks of all numbers.
+const ALL: [(u32, u64); 8] = [
+    (0, 1),
+    (1, 2),
+    (2, 4),
+    (3, 8),
+    (4, 16),
+    (5, 32),
+    (6, 64),
+    (7, 128),
+];
+
+/// What the caller runs of the tasks, after these were run ahead.
+#[derive(Clone, Copy)]
+struct Row {
+    tasks: &'static [(u32, u64)],
+    by_caller: [u64; 8],
+}
+
+const ROWS: [Row; 6] = [
+    Row {
+        tasks: &ALL,
+        by_caller: [0; 8],
+    },
+    // None.
+    Row {
+        tasks: &[],
+        by_caller: [1; 8],
+    },
+    // Two of them, in another order, and repeated.
+    Row {
+        tasks: &[(7, 128), (0, 1), (7, 128), (7, 128)],
+        by_caller: [0, 1, 1, 1, 1, 1, 1, 0],
+    },
+    // All but the first.
+    Row {
+        tasks: &[(7, 128), (6, 64), (5, 32), (4, 16), (3, 8), (2, 4), (1, 2)],
+        by_caller: [1, 0, 0, 0, 0, 0, 0, 0],
+    },
+    // The input of another task, a number past the last, and one that is neither.
+    Row {
+        tasks: &[(1, 1), (8, 1), (0, 3)],
+        by_caller: [1; 8],
+    },
+    // The same, and the right one.
+    Row {
+        tasks: &[(1, 1), (1, 2)],
+        by_caller: [1, 0, 1, 1, 1, 1, 1, 1],
+    },
+];
+
+#[test]
+fn what_was_not_run_ahead_is_run_by_the_caller(rt: HostRuntime) -> Result<(), Fail> {
+    let alloc = rt.alloc();
+    for Row { tasks, by_caller } in ROWS {
+        for workers in [1, 3] {
+            let ahead = Watch::shared(alloc)?;
+            let pieces = pieces_of(&rt, alloc, &ahead, tasks, workers)?;
+            assert!(rt; pieces.len() == tasks.len() && ahead.runs() == tasks.len() as u64);
+            let watch = Watch::shared(alloc)?;
+            let gate = Ledger::new(alloc, &watch)?;
+            let inputs = shared_inputs_of(alloc, &watch, &NUMBERS)?;
+            let total = total_of_pieces(alloc, &inputs, pieces, &gate, 1)?;
+            assert!(rt; total == 255);
+            assert!(rt; !gate.heard_wrong() && gate.tasks(1, 2) == by_caller);
+            let all = by_caller.iter().filter(|runs| **runs > 0).count() as u64;
+            assert!(rt; gate.tasks(1, 0) == [0; 8] && watch.runs() == all);
+            assert!(rt; counts(&gate.done) == [1, 0] && counts(&gate.all_when_done) == [all, 0]);
+        }
+    }
+    Ok(())
+}
+
+#[test]
+fn no_inputs_have_a_total(rt: HostRuntime) -> Result<(), Fail> {
+    let alloc = rt.alloc();
+    let watch = Watch::shared(alloc)?;
+    let inputs = shared_inputs_of(alloc, &watch, &[])?;
+    let pieces = pieces_of(&rt, alloc, &watch, &[(0, 1)], 2)?;
+    assert!(rt; total_of_pieces(alloc, &inputs, pieces, &FreeGate, 1)? == 0);
+    Ok(())
+}
+
+#[test]
+fn a_run_that_is_refused_ahead_is_made_by_the_caller(rt: HostRuntime) -> Result<(), Fail> {
+    let alloc = rt.alloc();
+    let watch = Watch::refusing_runs(alloc, 4, 1)?;
+    let pieces = pieces_of(&rt, alloc, &watch, &ALL, 2)?;
+    assert!(rt; pieces.len() == 7 && watch.runs() == 8);
+    let inputs = shared_inputs_of(alloc, &watch, &NUMBERS)?;
+    assert!(rt; total_of_pieces(alloc, &inputs, pieces, &FreeGate, 1)? == 255);
+    assert!(rt; watch.runs() == 9);
+    Ok(())
+}
+
+#[test]
+fn two_run_ahead_at_once(rt: HostRuntime) -> Result<(), Fail> {
+    let alloc = rt.alloc();
+    let watch = Watch::meeting(alloc)?;
+    let pieces = pieces_of(&rt, alloc, &watch, &[(0, 1), (1, 2)], 2)?;
+    assert!(rt; pieces.len() == 2 && !watch.gave_up());
+    Ok(())
+}
+
+/// Sends a task, waits until it was run, and only then sends the other one. Says how many runs there were
+/// before that.
+fn send_one_by_one<R: Wait>(
+    rt: &R,
+    alloc: Global,
+    to: &mut Option<Sender<Task<Sum>>>,
+    watch: &Arc<Watch, Global>,
+) -> Result<u64, OutOfMemory> {
+    let Some(to) = to.take() else {
+        return Ok(0);
+    };
+    send(rt, alloc, &to, watch, 0, 1)?;
+    for _ in 0..1_000_000 {
+        if watch.runs() > 0 {
+            break;
+        }
+        yield_now();
+    }
+    let runs = watch.runs();
+    send(rt, alloc, &to, watch, 1, 2)?;
+    Ok(runs)
+}
+
+#[test]
+fn a_task_is_run_before_the_next_one_is_known(rt: HostRuntime) -> Result<(), Fail> {
+    let alloc = rt.alloc();
+    for workers in [1, 4] {
+        let watch = Watch::shared(alloc)?;
+        let (to, from) = crossbeam_channel::unbounded::<Task<Sum>, Global>(alloc)?;
+        let mut to = Some(to);
+        let (pieces, runs) = join_mut(
+            &rt,
+            &mut || run_ahead(&rt, alloc, &from, workers),
+            &mut || send_one_by_one(&rt, alloc, &mut to, &watch),
+        );
+        assert!(rt; runs? == 1 && pieces.len() == 2 && watch.runs() == 2);
+    }
+    Ok(())
+}
