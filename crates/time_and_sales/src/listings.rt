@@ -38,13 +38,14 @@ impl<A: Allocator> Listing<A> {
         }
     }
 
-    /// The listing of the sales, which are sorted in the vector that they come in.
+    /// The listing of the sales, which are sorted in the vector that they come in; the fewer rising runs
+    /// they come in, the faster.
     pub fn of_sales(mut sales: Vec<Sale, A>) -> Listing<A>
         requires { IsDistinct nat_eq (map (λ sale. sale.place) sales.items) }
         ensures permutation { IsPermutation sales.items result }
         ensures by_place { IsByPlace result }
     {
-        sales.sort_unstable_by_key(|sale| sale.place);
+        put_by_place(&mut sales);
         Listing { sales }
     }
 
@@ -59,9 +60,7 @@ impl<A: Allocator> Listing<A> {
         ensures none { other.now ≡ [] → IsOk result }
     {
         self.sales.extend_from_slice(other.items())?;
-        if self.sales.sort_by_key(|listed| listed.place).is_err() {
-            self.sales.sort_unstable_by_key(|listed| listed.place);
-        }
+        put_by_place(&mut self.sales);
         Ok(())
     }
 
@@ -100,6 +99,18 @@ impl<A: Allocator> Listing<A> {
         ensures by_place { IsByPlace result.now }
     {
         self.sales.as_slice()
+    }
+}
+
+/// Puts sales in the order of their places. Where there is memory for it the rising runs that they come
+/// in are merged, and else they are sorted where they lie.
+fn put_by_place<A: Allocator>(sales: &mut Vec<Sale, A>)
+    requires { IsDistinct nat_eq (map (λ sale. sale.place) sales.old.items) }
+    ensures permutation { IsPermutation sales.old.items sales.new.items }
+    ensures by_place { IsByPlace sales.new.items }
+{
+    if sales.sort_by_key(|sale| sale.place).is_err() {
+        sales.sort_unstable_by_key(|sale| sale.place);
     }
 }
 
