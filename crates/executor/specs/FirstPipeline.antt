@@ -1,4 +1,4 @@
--- What the first pipeline is given and gives, what the second then gives, and what is told of a wrong length.
+-- What the first pipeline gives, what the second then gives, and what is told of a wrong length.
 -- Derived: no public clause cites it.
 use Rattle.std.specs.Prelude.{◌≡◌, ℕ, ◌<◌, ◌≤◌, All, List, Option, length}
 use Rattle.std.specs.List.{concat}
@@ -6,7 +6,7 @@ use Rattle.lists.specs.declared.limits.TheConstants.{LONGEST_FILE}
 use Rattle.day_file.specs.Cuts.{AreBytes, IsRun}
 use Rattle.answers.specs.declared.day_fault.DayFault.{DayFault}
 use Rattle.answers.specs.declared.day_fault.DayFault.TheVariants.{WrongLength}
-use Rattle.scanning.specs.Scans.{ScanInputView, ScanTotalView, inputs_of, total_of}
+use Rattle.scanning.specs.Scans.{ScanTotalView, inputs_of, total_of}
 use Rattle.scanning.specs.declared.wrong.WrongLength.{WrongLength as FoundWrong}
 use Rattle.time_and_sales.specs.declared.directory.DirectoryRow.{DirectoryRow}
 use Rattle.query.specs.Meaning.{Meaning}
@@ -21,12 +21,6 @@ pub record AreRuns (runs : List (List ℕ)) : Type 0 where
   pub each : All IsRun runs
   pub bytes : All AreBytes runs
   pub within : length (concat runs) ≤ LONGEST_FILE
-
--- these are the inputs of the scans of a file that is cut into these runs
-pub record AreInputsOf (as_of : Option ℕ) (parts : ℕ) (inputs : List ScanInputView)
-    (runs : List (List ℕ)) : Type 0 where
-  pub cut : AreRuns runs
-  pub are : inputs ≡ inputs_of as_of parts runs
 
 -- this is the total of the scans of a file that is cut into these runs
 pub record IsScanOf (as_of : Option ℕ) (parts : ℕ) (total : ScanTotalView) (runs : List (List ℕ)) : Type 0 where

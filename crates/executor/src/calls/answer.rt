@@ -2,17 +2,17 @@ ghost use Rattle.std.specs.Prelude.{ℕ, List, ◌<◌, ◌≤◌, IfOk};
 ghost use Rattle.std.specs.List.{concat};
 ghost use Rattle.lists.specs.declared.limits.TheConstants.{MOST_PARTITIONS};
 ghost use Rattle.answers.specs.Answers.{IsAnswer, told_by};
-ghost use Rattle.executor.specs.FirstPipeline.{AreInputsOf, IsOutcomeOf, IsScanOf};
+ghost use Rattle.executor.specs.FirstPipeline.{IsOutcomeOf, IsScanOf};
 
 use crate::OutOfMemory;
 use crate::calls::first_pipeline::told_of;
 use answers::Answer;
 use buckets::BucketTotal;
 use day_file::Cut;
-use pipelines::{Crew, FreeGate, Gate, Inputs, Outcome, run_pair, run_second};
+use pipelines::{Crew, FreeGate, Gate, Outcome, run_pair, run_second};
 use planning::{DayNames, PlanLink, answer_in_ranges};
 use query::Query;
-use scanning::{ScanTotal, ScanWork, WrongLength, scan_inputs};
+use scanning::{ScanTotal, WrongLength, scan_inputs};
 use std::alloc::Global;
 use std::sync::{Arc, Wait};
 use std::thread::Threads;
@@ -35,28 +35,8 @@ pub fn answer<G: Gate, R: Threads + Wait + Sync>(
     requires parts { (0 < parts) × (parts ≤ MOST_PARTITIONS) }
     ensures { IfOk result (λ answer. IsAnswer (concat cut.now) query.now (told_by answer)) }
 {
-    let inputs = scan_inputs(alloc, cut, query.as_of, parts)?;
-    answer_inputs(rt, alloc, inputs, query, parts, crew, gate)
-}
-
-/// The answer that the inputs of the scans of a cut give. The morsels that nobody else has are freed
-/// when the first pipeline is done.
-pub(crate) fn answer_inputs<G: Gate, R: Threads + Wait + Sync>(
-    rt: &R,
-    alloc: Global,
-    inputs: Inputs<ScanWork>,
-    query: &Query,
-    parts: u32,
-    crew: Crew,
-    gate: &G,
-) -> Result<Answer, OutOfMemory>
-    requires parts { (0 < parts) × (parts ≤ MOST_PARTITIONS) }
-    requires inputs { (runs : List (List ℕ)) × AreInputsOf query.now.as_of parts inputs runs }
-    ensures { IfOk result (λ answer. (runs : List (List ℕ)) →
-        AreInputsOf query.now.as_of parts inputs runs →
-        IsAnswer (concat runs) query.now (told_by answer)) }
-{
-    let inputs = Arc::new(alloc, inputs)?;
+    let scans = scan_inputs(alloc, cut, query.as_of, parts)?;
+    let inputs = Arc::new(alloc, scans)?;
     let link = PlanLink::new(query, parts);
     let outcome = run_pair(rt, alloc, inputs, &link, crew, gate)?;
     answer_of_outcome(rt, alloc, query, outcome, crew)
