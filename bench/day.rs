@@ -1,10 +1,11 @@
 //! Writes a synthetic day file of Nasdaq TotalView-ITCH 5.0 to standard output.
 //!
-//!     day BYTES rising|near|random|falling|executions [SEED]
+//!     day BYTES rising|near|random|falling|reversed|executions [SEED]
 //!
 //! The mixture is that of a trading day: 45 of 100 messages add an order, 43 delete one, 5 replace one, 4 execute
-//! one. The word says in which order references are given out; `executions` is a file of few orders, each executed
-//! over and over, so that nearly every message is a trade. A seed gives the same bytes each time.
+//! one. The word says in which order references are given out; `reversed` turns the bits of rising ones, so that all
+//! are multiples of a great power of two and far apart: chosen ones, of one partition. `executions` is a file of few
+//! orders, each executed over and over, so that nearly every message is a trade. A seed gives the same bytes each time.
 use std::io::{self, BufWriter, Write};
 
 const LOCATES: u16 = 8_000;
@@ -19,6 +20,7 @@ enum Shape {
     Near,
     Random,
     Falling,
+    Reversed,
     Executions,
 }
 
@@ -93,6 +95,7 @@ impl<W: Write> Day<W> {
             Shape::Rising | Shape::Executions => given,
             Shape::Near => given ^ 21,
             Shape::Falling => u64::MAX - given,
+            Shape::Reversed => given.reverse_bits(),
             Shape::Random => {
                 let mixed = given.wrapping_mul(0x9e37_79b9_7f4a_7c15);
                 (mixed ^ mixed >> 32).wrapping_mul(0xd6e8_feb8_6659_fd93)
@@ -216,8 +219,9 @@ fn main() -> io::Result<()> {
         Some("near") => Shape::Near,
         Some("random") => Shape::Random,
         Some("falling") => Shape::Falling,
+        Some("reversed") => Shape::Reversed,
         Some("executions") => Shape::Executions,
-        _ => return Err(io::Error::other("day BYTES rising|near|random|falling|executions [SEED]")),
+        _ => return Err(io::Error::other("day BYTES rising|near|random|falling|reversed|executions [SEED]")),
     };
     let wanted: u64 = words[0].parse().map_err(io::Error::other)?;
     let seed = words.get(2).map_or(Ok(1), |word| word.parse()).map_err(io::Error::other)?;
