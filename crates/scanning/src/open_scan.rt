@@ -1,8 +1,9 @@
 //! A scan under way.
-ghost use Rattle.std.specs.Prelude.{◌≡◌, ◌<◌, ◌≤◌, ℕ, [], ◌∷◌, IfOk, OnOk, Option};
+ghost use Rattle.std.specs.Prelude.{◌≡◌, ◌*◌, ◌<◌, ◌≤◌, ℕ, [], ◌∷◌, IfOk, OnOk, Option};
 ghost use Rattle.lists.specs.declared.limits.TheConstants.{MOST_PARTITIONS};
 ghost use Rattle.day_file.specs.Placed.{placed_body};
 ghost use Rattle.scanning.specs.Scans.{TakesIn, scan_of};
+ghost use Rattle.scanning.specs.declared.open_scan.TheConstants.{BYTES_AN_ORDER, MOST_AT_ONCE};
 
 use crate::OutOfMemory;
 use crate::output::Scanned;
@@ -45,9 +46,9 @@ impl OpenScan {
         requires { (0 < parts) × (parts ≤ MOST_PARTITIONS) }
         ensures { IfOk result (λ scan. (as_of : Option ℕ) → scan ≡ scan_of parts as_of []) }
     {
-        let orders = bytes.min(MOST_AT_ONCE) / BYTES_AN_ORDER / u64::from(parts);
+        let orders = orders_of(bytes, parts) as usize;
         Ok(OpenScan {
-            rows: MorselRows::new(alloc, parts, orders as usize)?,
+            rows: MorselRows::new(alloc, parts, orders)?,
             wrong: None,
         })
     }
@@ -76,4 +77,14 @@ impl OpenScan {
         rows.shrink_to_fit();
         Scanned::of(alloc, rows, wrong)
     }
+}
+
+/// For how many order rows each of so many partitions takes room at once: about as many as so many bytes of
+/// a day give.
+fn orders_of(bytes: u64, parts: u32) -> u64
+    requires { 0 < parts }
+    ensures all { result * parts * BYTES_AN_ORDER ≤ bytes }
+    ensures most { result * parts * BYTES_AN_ORDER ≤ MOST_AT_ONCE }
+{
+    bytes.min(MOST_AT_ONCE) / BYTES_AN_ORDER / u64::from(parts)
 }

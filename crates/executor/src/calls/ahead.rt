@@ -1,5 +1,6 @@
 //! A source that is read and cut while threads scan what is cut of it.
 ghost use Rattle.std.specs.Prelude.{◌≡◌, ◌<◌, ◌≤◌, ◌↔◌, length, false, true, IfErr, IfOk, IsErrOf};
+ghost use Rattle.std.specs.Arc.{arc_value};
 ghost use Rattle.std.specs.List.{concat};
 ghost use Rattle.lists.specs.declared.limits.TheConstants.{MOST_MORSELS, MOST_PARTITIONS};
 ghost use Rattle.day_file.specs.Cuts.{IsCutBy};
@@ -31,14 +32,26 @@ struct Sending<'r, R: Wait> {
 impl<R: Wait> Sending<'_, R> {
     /// Sends a morsel. One that isn't sent, for want of memory, is scanned later.
     fn send(&self, number: u32, morsel: &Arc<Morsel, Global>) -> Result<(), OutOfMemory> {
-        let Some(to) = &self.to else {
-            return Ok(());
-        };
+        if let Some(to) = &self.to {
+            let _ = to.send(self.rt, self.task_of(number, morsel)?);
+        }
+        Ok(())
+    }
+
+    /// The task of a morsel, which is its scan.
+    fn task_of(
+        &self,
+        number: u32,
+        morsel: &Arc<Morsel, Global>,
+    ) -> Result<Task<ScanWork>, OutOfMemory>
+        ensures number { IfOk result (λ task. task.number ≡ number) }
+        ensures input { IfOk result (λ task. arc_value task.input ≡
+            record { morsel = arc_value morsel.now; as_of = self.now.as_of; parts = self.now.parts }) }
+    {
         let morsel = Arc::try_clone(morsel)?;
         let input = ScanInput::of(morsel, self.as_of, self.parts);
         let input = Arc::new(self.alloc, input)?;
-        let _ = to.send(self.rt, Task { number, input });
-        Ok(())
+        Ok(Task { number, input })
     }
 }
 
@@ -56,7 +69,8 @@ pub(crate) struct ScannedCut {
 }
 
 /// Reads and cuts a source, as `read_cut` does. As many threads as the crew has workers meanwhile scan
-/// each morsel as soon as it is cut. It waits for them.
+/// each morsel as soon as it is cut; where none can be made, the caller's does so once all are. It waits
+/// for them. What isn't scanned yet when the reading fails isn't scanned any more.
 pub(crate) fn read_scanned<R: Threads + Wait + Sync, S: Source>(
     rt: &R,
     alloc: Global,
@@ -81,17 +95,15 @@ pub(crate) fn read_scanned<R: Threads + Wait + Sync, S: Source>(
         as_of,
         parts: settings.parts,
     };
-    let workers = settings.crew.workers;
-    let (scans, cut) = scan_and_read(rt, alloc, &from, workers, &settings, &mut sending, source);
+    let (scans, cut) = scan_and_read(&from, &settings, &mut sending, source);
     Ok(ScannedCut { cut: cut?, scans })
 }
 
-/// Reads and cuts a source on the caller's thread, while so many others scan what is sent.
+/// Reads and cuts a source on the caller's thread, while the crew's workers scan what is sent. These come
+/// first in the call of `join_mut`, since without a thread it does last what is first: scans that the
+/// caller began would wait for morsels which it then couldn't read.
 fn scan_and_read<R: Threads + Wait + Sync, S: Source>(
-    rt: &R,
-    alloc: Global,
     from: &Receiver<Task<ScanWork>>,
-    workers: u32,
     settings: &Settings,
     sending: &mut Sending<'_, R>,
     source: &mut S,
@@ -100,19 +112,22 @@ fn scan_and_read<R: Threads + Wait + Sync, S: Source>(
     ensures { IsCutRead S.Gave S.HasEnded S.has_failed settings.now.limit settings.now.morsel
         source.old source.new result.1 }
 {
+    let (rt, alloc, workers) = (sending.rt, sending.alloc, settings.crew.workers);
     let mut scan = || -> Vec<Piece<ScanWork>> { run_ahead(rt, alloc, from, workers) };
     let mut read = || -> Result<Cut, CutReadFault>
         requires { S.has_failed source.now ≡ false }
         ensures { IsCutRead S.Gave S.HasEnded S.has_failed settings.entry.now.limit
             settings.entry.now.morsel source.entry.now source.exit.now result }
-    { read_sending(settings, sending, source) };
+    { read_sending(settings, sending, from, source) };
     join_mut(rt, &mut scan, &mut read)
 }
 
-/// Reads and cuts a source, and sends each morsel. The channel ends with it.
+/// Reads and cuts a source, and sends each morsel. The channel ends with it. Where there is no cut, the
+/// morsels that nobody has taken yet are taken back.
 fn read_sending<R: Wait, S: Source>(
     settings: &Settings,
     sending: &mut Sending<'_, R>,
+    from: &Receiver<Task<ScanWork>>,
     source: &mut S,
 ) -> Result<Cut, CutReadFault>
     requires { S.has_failed source.old ≡ false }
@@ -122,5 +137,15 @@ fn read_sending<R: Wait, S: Source>(
     let Settings { morsel, limit, .. } = *settings;
     let cut = read_cut(sending.alloc, source, limit, morsel, sending);
     sending.to = None;
+    if cut.is_err() {
+        drop_all(sending.rt, from);
+    }
     cut
+}
+
+/// Takes the tasks that are there, and drops them.
+fn drop_all<R: Wait>(rt: &R, from: &Receiver<Task<ScanWork>>) {
+    for task in from.try_iter(rt) {
+        drop(task);
+    }
 }
