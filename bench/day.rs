@@ -1,11 +1,13 @@
 //! Writes a synthetic day file of Nasdaq TotalView-ITCH 5.0 to standard output.
 //!
-//!     day BYTES rising|near|random|falling|reversed|executions [SEED]
+//!     day BYTES rising|near|random|falling|colliding|reversed|executions [SEED]
 //!
 //! The mixture is that of a trading day: 45 of 100 messages add an order, 43 delete one, 5 replace one, 4 execute
-//! one. The word says in which order references are given out; `reversed` turns the bits of rising ones, so that all
-//! are multiples of a great power of two and far apart: chosen ones, of one partition. `executions` is a file of few
-//! orders, each executed over and over, so that nearly every message is a trade. A seed gives the same bytes each time.
+//! one. The word says in which order references are given out. Two of them are chosen by somebody who wants a run to be
+//! slow: `colliding` draws them in no order until the hash that a map of `plain.rs` gives them ends in zeros; `reversed`
+//! turns the bits of rising ones, so that all are multiples of a great power of two and far apart, of one partition.
+//! `executions` is a file of few orders, each executed over and over, so that nearly every message is a trade. A seed
+//! gives the same bytes each time.
 use std::io::{self, BufWriter, Write};
 
 const LOCATES: u16 = 8_000;
@@ -20,11 +22,13 @@ enum Shape {
     Near,
     Random,
     Falling,
+    Colliding,
     Reversed,
     Executions,
 }
 
 struct Order {
+    /// As it is written.
     reference: u64,
     locate: u16,
     shares: u32,
@@ -96,10 +100,8 @@ impl<W: Write> Day<W> {
             Shape::Near => given ^ 21,
             Shape::Falling => u64::MAX - given,
             Shape::Reversed => given.reverse_bits(),
-            Shape::Random => {
-                let mixed = given.wrapping_mul(0x9e37_79b9_7f4a_7c15);
-                (mixed ^ mixed >> 32).wrapping_mul(0xd6e8_feb8_6659_fd93)
-            }
+            Shape::Random => mixed(given),
+            Shape::Colliding => colliding(given),
         }
     }
 
@@ -116,7 +118,7 @@ impl<W: Write> Day<W> {
 
     fn give(&mut self) -> u64 {
         self.given += 1 + self.random.below(4);
-        self.given
+        self.reference(self.given)
     }
 
     fn add(&mut self) -> io::Result<()> {
@@ -124,37 +126,34 @@ impl<W: Write> Day<W> {
         let end = 1 + self.random.below(u64::from(LOCATES));
         let locate = 1 + self.random.below(end) as u16;
         let shares = 100 * (1 + self.random.below(10));
-        let given = self.give();
-        let (reference, price, time) = (self.reference(given), self.price(locate), self.time);
+        let (reference, price, time) = (self.give(), self.price(locate), self.time);
         self.begin(b'A', locate, time).number(reference, 8).bytes(b"B");
         self.number(shares, 4).stock(locate).number(price, 4).end()?;
-        self.orders.push(Order { reference: given, locate, shares: shares as u32 });
+        self.orders.push(Order { reference, locate, shares: shares as u32 });
         Ok(())
     }
 
     fn delete(&mut self) -> io::Result<()> {
         let at = self.pick();
         let order = self.orders.swap_remove(at);
-        let (reference, time) = (self.reference(order.reference), self.time);
-        self.begin(b'D', order.locate, time).number(reference, 8).end()
+        let time = self.time;
+        self.begin(b'D', order.locate, time).number(order.reference, 8).end()
     }
 
     fn replace(&mut self) -> io::Result<()> {
         let at = self.pick();
-        let given = self.give();
-        let (locate, time) = (self.orders[at].locate, self.time);
-        let (old, new) = (self.reference(self.orders[at].reference), self.reference(given));
+        let (old, new, locate, time) = (self.orders[at].reference, self.give(), self.orders[at].locate, self.time);
         let price = self.price(locate);
         self.begin(b'U', locate, time).number(old, 8).number(new, 8).number(200, 4).number(price, 4).end()?;
-        self.orders[at] = Order { reference: given, locate, shares: 200 };
+        self.orders[at] = Order { reference: new, locate, shares: 200 };
         Ok(())
     }
 
     fn execute(&mut self) -> io::Result<()> {
         let at = self.pick();
-        let (given, locate, left) = (self.orders[at].reference, self.orders[at].locate, self.orders[at].shares);
+        let (reference, locate, left) = (self.orders[at].reference, self.orders[at].locate, self.orders[at].shares);
         let shares = 1 + self.random.below(u64::from(left)) as u32;
-        let (reference, time, matched) = (self.reference(given), self.time, self.matched);
+        let (time, matched) = (self.time, self.matched);
         self.matched += 1;
         self.begin(b'E', locate, time).number(reference, 8).number(u64::from(shares), 4).number(matched, 8).end()?;
         if self.shape == Shape::Executions {
@@ -200,6 +199,27 @@ impl<W: Write> Day<W> {
     }
 }
 
+/// A number with its bits mixed, another for each.
+fn mixed(number: u64) -> u64 {
+    let mixed = number.wrapping_mul(0x9e37_79b9_7f4a_7c15);
+    (mixed ^ mixed >> 32).wrapping_mul(0xd6e8_feb8_6659_fd93)
+}
+
+/// A reference whose hash ends in zeros, as many as a map of one partition of a day of 100 MB looks at.
+fn colliding(given: u64) -> u64 {
+    let mut reference = mixed(given);
+    while plain_hash(reference) & 0x3fff != 0 {
+        reference = mixed(reference);
+    }
+    reference
+}
+
+/// What the maps of `plain.rs` hash a reference to.
+fn plain_hash(reference: u64) -> u64 {
+    let product = u128::from(reference ^ 0x243f_6a88_85a3_08d3) * 0x9e37_79b9_7f4a_7c15;
+    product as u64 ^ (product >> 64) as u64
+}
+
 /// A stock of up to three letters, padded with spaces.
 fn stock(locate: u16) -> [u8; 8] {
     let mut name = *b"        ";
@@ -219,9 +239,10 @@ fn main() -> io::Result<()> {
         Some("near") => Shape::Near,
         Some("random") => Shape::Random,
         Some("falling") => Shape::Falling,
+        Some("colliding") => Shape::Colliding,
         Some("reversed") => Shape::Reversed,
         Some("executions") => Shape::Executions,
-        _ => return Err(io::Error::other("day BYTES rising|near|random|falling|reversed|executions [SEED]")),
+        _ => return Err(io::Error::other("day BYTES rising|near|random|falling|colliding|reversed|executions [SEED]")),
     };
     let wanted: u64 = words[0].parse().map_err(io::Error::other)?;
     let seed = words.get(2).map_or(Ok(1), |word| word.parse()).map_err(io::Error::other)?;
