@@ -6,7 +6,7 @@ use Rattle.probe.specs.Pricing.{first_unknown}
 use Rattle.probe.specs.declared.rows.Sale.{Sale}
 use Rattle.query.specs.Meaning.{Meaning}
 use Rattle.time_and_sales.specs.Names.{name_of}
-use Rattle.answers.specs.Messages.{Placed, counted, directory_rows, executions, first_wrong, messages_of, order_rows}
+use Rattle.day_rows.specs.Messages.{Placed, counted, directory_rows, executions, first_wrong, messages_of, order_rows}
 use Rattle.answers.specs.Answers.{IsAnswer, IsAnswerToMessages, IsTextOfMessages, IsTextOfSales, selected_sales, wrong_length_at}
 use Rattle.answers.specs.declared.day_fault.DayFault.{DayFault}
 use Rattle.answers.specs.declared.day_fault.DayFault.TheVariants.{Truncated}

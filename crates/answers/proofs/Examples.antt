@@ -11,8 +11,9 @@ use Rattle.probe.specs.declared.rows.Kind.TheVariants.{E, P}
 use Rattle.probe.specs.declared.rows.Sale.{Sale}
 use Rattle.query.specs.Meaning.{Meaning}
 use Rattle.query.specs.declared.query.What.TheVariants.{Sales}
-use Rattle.answers.specs.Answers.{selected_sales, trades}
-use Rattle.answers.specs.Messages.{Placed, counted, executions, order_rows}
+use Rattle.answers.specs.Answers.{selected_sales}
+use Rattle.day_rows.specs.Messages.{trades}
+use Rattle.day_rows.specs.Messages.{Placed, counted, executions, order_rows}
 
 -- a header at so many nanoseconds since midnight, of the locate 7
 abbrev at : ℕ → HeaderFields

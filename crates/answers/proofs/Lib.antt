@@ -1,14 +1,6 @@
 pub mod AnswerOfSteps
-pub mod CountedMessages
 pub mod Examples
-pub mod FewTrades
-pub mod JoinedRows
 pub mod MomentLaws
 pub mod OneAnswer
-pub mod RowsByPlace
-pub mod RowsOfFrames
 pub mod SelectedSales
-pub mod StampedMessages
-pub mod StampedSales
 pub mod TextsByLine
-pub mod TradesOfRows

@@ -4,11 +4,11 @@ use Rattle.day_file.specs.Frames.{PlacedBody, StandsFor}
 use Rattle.day_file.proofs.Laws.{frames_are_one, not_both}
 use Rattle.query.specs.Meaning.{Meaning}
 use Rattle.answers.specs.Answers.{IsAnswer, IsAnswerToFrames, IsAnswerToMessages, wrong_length_at}
-use Rattle.answers.specs.Messages.{Placed, counted, first_wrong, messages_of}
+use Rattle.day_rows.specs.Messages.{Placed, counted, first_wrong, messages_of}
 use Rattle.answers.specs.Moments.{HasCounted, NoneIsPast, without_moment}
 use Rattle.answers.specs.declared.day_fault.DayFault.{DayFault}
 use Rattle.answers.proofs.AnswerOfSteps.{messages_answer}
-use Rattle.answers.proofs.CountedMessages.{counted-all, counted-none}
+use Rattle.day_rows.proofs.CountedMessages.{counted-all, counted-none}
 
 -- a list of counted messages for another
 counts_alike : (one other : List Placed) (query : Meaning) (answer : Result (List ℕ) DayFault) (wrong : Option PlacedBody) → one ≡ other

@@ -12,7 +12,7 @@ use Rattle.bars.proofs.Bars.{AreBarsOf-unique}
 use Rattle.query.specs.Meaning.{Meaning}
 use Rattle.query.specs.declared.query.What.{What}
 use Rattle.query.specs.declared.query.What.TheVariants.{Sales, Bars}
-use Rattle.answers.specs.Messages.{Placed, counted, executions, first_wrong, messages_of, order_rows}
+use Rattle.day_rows.specs.Messages.{Placed, counted, executions, first_wrong, messages_of, order_rows}
 use Rattle.answers.specs.Answers.{IsAnswer, IsAnswerToFrames, IsAnswerToMessages, IsTextOfMessages, IsTextOfSales, wrong_length_at}
 use Rattle.answers.specs.declared.day_fault.DayFault.{DayFault}
 use Rattle.answers.specs.declared.day_fault.DayFault.TheVariants.{Truncated, RepeatedReference, UnknownReference}

@@ -32,11 +32,11 @@ use Rattle.query.specs.Selected.{has_name}
 use Rattle.query.specs.declared.query.What.TheVariants.{Sales, Bars}
 use Rattle.query.proofs.ListedLocates.{AreLocatesOf}
 use Rattle.answers.specs.Answers.{asks_for, selected_sales}
-use Rattle.answers.specs.Messages.{Placed, order_rows, executions, own_priced_sales, break_numbers, directory_rows}
-use Rattle.answers.specs.DayRows.{AreByPlace, IsStamped}
+use Rattle.day_rows.specs.Messages.{Placed, order_rows, executions, own_priced_sales, break_numbers, directory_rows}
+use Rattle.day_rows.specs.DayRows.{AreByPlace, IsStamped}
 use Rattle.answers.specs.declared.day_fault.DayFault.{DayFault}
-use Rattle.answers.proofs.RowsByPlace.{distinct_places, kept_distinct}
-use Rattle.answers.proofs.TradesOfRows.{listing_is}
+use Rattle.day_rows.proofs.RowsByPlace.{distinct_places, kept_distinct}
+use Rattle.day_rows.proofs.TradesOfRows.{listing_is}
 
 -- ---- a selection with the query's locates admits what the query asks for
 

@@ -23,7 +23,8 @@ use Rattle.query.specs.Meaning.{Meaning}
 use Rattle.query.specs.Selected.{has_name}
 use Rattle.query.specs.declared.query.What.{What}
 use Rattle.query.specs.declared.query.What.TheVariants.{Sales, Bars}
-use Rattle.answers.specs.Messages.{
+use Rattle.day_rows.specs.Messages.{
+  trades,
   Placed,
   messages_of,
   counted,
@@ -46,17 +47,6 @@ use Rattle.answers.specs.declared.day_fault.DayFault.TheVariants.{
 }
 
 -- ---- what is asked for
-
--- the sale of a message, if it has one: of an execution at the price of its order, where a message before it gives
--- that; of another message at a price of its own, where it has one
-abbrev pub trade_at : List OrderRow → ℕ → Message → Option Sale
-trade_at rows place (Executed executed) =
-    option_and_then (sale_of rows) (execution_at place (Executed executed))
-trade_at rows place message = own_priced_at place message
-
--- the trades of the message list, in its order; those of zero shares are among them
-abbrev pub trades : List Placed → List Sale
-trades messages = filter_map (λ m. trade_at (order_rows messages) m.place m.message) messages
 
 -- a query asks for a sale: its name is among the symbols, its time in the span and its kind admitted
 abbrev pub asks_for : Meaning → List DirectoryRow → Sale → Bool

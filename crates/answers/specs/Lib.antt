@@ -1,4 +1,2 @@
-pub mod Messages
 pub mod Answers
-pub mod DayRows
 pub mod Moments

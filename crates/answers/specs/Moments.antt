@@ -3,7 +3,7 @@
 use Rattle.std.specs.Prelude.{◌≡◌, ℕ, true, List, All, Option, None}
 use Rattle.day_file.specs.Frames.{PlacedBody, StandsFor}
 use Rattle.query.specs.Meaning.{Meaning}
-use Rattle.answers.specs.Messages.{Placed, messages_of, first_wrong, is_counted, counted}
+use Rattle.day_rows.specs.Messages.{Placed, messages_of, first_wrong, is_counted, counted}
 
 -- the same query without a moment
 abbrev pub without_moment : Meaning → Meaning

@@ -1,8 +1,6 @@
-ghost use Rattle.std.specs.Prelude.{◌≡◌, ◌↔◌, ℕ, List, Option, None, Result, ◌++◌, map};
-ghost use Rattle.std.specs.List.{flat_map};
+ghost use Rattle.std.specs.Prelude.{◌≡◌, ◌↔◌, ℕ, List, Result};
 ghost use Rattle.answers.specs.Answers.{IsAnswer};
-ghost use Rattle.answers.specs.DayRows.{all_rows, joined, rows_of};
-ghost use Rattle.answers.specs.Messages.{Placed, counted};
+ghost use Rattle.day_rows.specs.Messages.{Placed};
 ghost use Rattle.answers.specs.Moments.{HasCounted, NoneIsPast, without_moment};
 ghost use Rattle.answers.specs.declared.day_fault.DayFault.{DayFault};
 ghost use Rattle.query.specs.Meaning.{Meaning};
@@ -11,25 +9,6 @@ ghost use Rattle.query.specs.Meaning.{Meaning};
 pub fn one_answer()
     ensures { (file : List ℕ) (query : Meaning) (one other : Result (List ℕ) DayFault) →
         IsAnswer file query one → IsAnswer file query other → one ≡ other }
-{}
-
-/// The law of rows: those of joined lists of messages are the joined rows. It does nothing when it
-/// runs.
-pub fn rows_are_joined()
-    ensures two { (one other : List Placed) →
-        rows_of (one ++ other) ≡ joined (rows_of one) (rows_of other) }
-    ensures parts { (parts : List (List Placed)) →
-        rows_of (flat_map (λ part. part) parts) ≡ all_rows (map rows_of parts) }
-{}
-
-/// The law of counted messages: those of joined lists are the joined counted ones, and without a moment
-/// all count. It does nothing when it runs.
-pub fn counted_are_joined()
-    ensures two { (as_of : Option ℕ) (one other : List Placed) →
-        counted as_of (one ++ other) ≡ counted as_of one ++ counted as_of other }
-    ensures parts { (as_of : Option ℕ) (parts : List (List Placed)) →
-        counted as_of (flat_map (λ part. part) parts) ≡ flat_map (λ part. counted as_of part) parts }
-    ensures all { (messages : List Placed) → counted None messages ≡ messages }
 {}
 
 /// The law of a late moment: where no message of a file is past it, a query has the answers that it has

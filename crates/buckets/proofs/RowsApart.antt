@@ -9,7 +9,7 @@ use Rattle.probe.specs.declared.rows.Execution.{Execution}
 use Rattle.probe.specs.declared.rows.Sale.{Sale}
 use Rattle.probe.proofs.KeptSales.{length-kept}
 use Rattle.probe.proofs.PricedSales.{length-priced}
-use Rattle.answers.proofs.RowsByPlace.{executions_distinct, kept_apart, orders_distinct}
+use Rattle.day_rows.proofs.RowsByPlace.{executions_distinct, kept_apart, orders_distinct}
 use Rattle.morsel_rows.specs.Partitions.{AreRowsByPlace, PartitionView}
 use Rattle.buckets.specs.FoundRows.{sales_in, trades_in}
 

@@ -12,13 +12,13 @@ use Rattle.day_file.proofs.CutFrames.{frames_of_cut}
 use Rattle.day_file.proofs.Laws.{places_rise}
 use Rattle.query.specs.Meaning.{Meaning}
 use Rattle.answers.specs.Answers.{IsAnswer, IsAnswerToMessages}
-use Rattle.answers.specs.Messages.{Placed, first_wrong, messages_of}
+use Rattle.day_rows.specs.Messages.{Placed, first_wrong, messages_of}
 use Rattle.answers.specs.declared.day_fault.DayFault.{DayFault}
 use Rattle.answers.proofs.AnswerOfSteps.{messages_answer, wrong_length_answers}
-use Rattle.answers.proofs.CountedMessages.{counted_by_place}
-use Rattle.answers.proofs.FewTrades.{few_trades}
-use Rattle.answers.proofs.RowsByPlace.{messages_by_place}
-use Rattle.answers.proofs.StampedMessages.{stamped_rows}
+use Rattle.day_rows.proofs.CountedMessages.{counted_by_place}
+use Rattle.day_rows.proofs.FewTrades.{few_trades}
+use Rattle.day_rows.proofs.RowsByPlace.{messages_by_place}
+use Rattle.day_rows.proofs.StampedMessages.{stamped_rows}
 use Rattle.scanning.specs.Scans.{ScanTotalView, total_of}
 use Rattle.scanning.specs.declared.wrong.WrongLength.{WrongLength}
 use Rattle.buckets.specs.BucketRows.{BucketView}

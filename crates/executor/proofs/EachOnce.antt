@@ -9,7 +9,7 @@ use Rattle.lists.specs.Least.{numbers_below}
 use Rattle.lists.proofs.Among.{among_from}
 use Rattle.day_file.specs.Frames.{PlacedBody}
 use Rattle.query.specs.Meaning.{Meaning}
-use Rattle.answers.specs.Messages.{first_wrong}
+use Rattle.day_rows.specs.Messages.{first_wrong}
 use Rattle.pipelines.specs.Schedules.{brings, first_left, has_arrived}
 use Rattle.pipelines.specs.declared.event.Event.{Event}
 use Rattle.pipelines.specs.declared.event.Event.TheVariants.{Arrive}

@@ -5,7 +5,7 @@ use Rattle.day_file.specs.Frames.{PlacedBody}
 use Rattle.day_file.proofs.Laws.{frames_are_one}
 use Rattle.query.specs.Meaning.{Meaning}
 use Rattle.answers.specs.Answers.{told_by}
-use Rattle.answers.specs.Messages.{first_wrong}
+use Rattle.day_rows.specs.Messages.{first_wrong}
 use Rattle.answers.proofs.OneAnswer.{answers_are_one}
 use Rattle.pipelines.specs.Schedules.{first_left}
 use Rattle.pipelines.specs.declared.event.Event.{Event}

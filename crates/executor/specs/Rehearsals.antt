@@ -9,7 +9,7 @@ use Rattle.pipelines.specs.Schedules.{first_left, has_arrived}
 use Rattle.pipelines.specs.declared.event.Event.{Event}
 use Rattle.pipelines.specs.declared.event.Event.TheVariants.{Arrive}
 use Rattle.answers.specs.Answers.{IsAnswer, told_by}
-use Rattle.answers.specs.Messages.{first_wrong}
+use Rattle.day_rows.specs.Messages.{first_wrong}
 use Rattle.executor.specs.declared.calls.rehearse.Rehearsal.{Rehearsal}
 use Rattle.executor.specs.declared.calls.rehearse.Rehearsal.TheVariants.{Finished, Missing}
 

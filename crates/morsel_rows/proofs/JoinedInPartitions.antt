@@ -12,7 +12,7 @@ use Rattle.order_table.specs.declared.row.OrderRow.{OrderRow}
 use Rattle.probe.specs.declared.rows.Execution.{Execution}
 use Rattle.probe.specs.declared.rows.Sale.{Sale}
 use Rattle.time_and_sales.specs.declared.directory.DirectoryRow.{DirectoryRow}
-use Rattle.answers.specs.DayRows.{DayRows, joined, only_execution, only_order, only_sale}
+use Rattle.day_rows.specs.DayRows.{DayRows, joined, only_execution, only_order, only_sale}
 use Rattle.morsel_rows.specs.MoreRows.{BecomesJoined, with_execution, with_order, with_sale}
 use Rattle.morsel_rows.specs.Partitions.{PartitionView, partition_of}
 

@@ -8,7 +8,7 @@ use Rattle.lists.proofs.Lists.{filter-flat_map}
 use Rattle.order_table.specs.declared.row.OrderRow.{OrderRow}
 use Rattle.probe.specs.declared.rows.Execution.{Execution}
 use Rattle.probe.specs.declared.rows.Sale.{Sale}
-use Rattle.answers.specs.DayRows.{DayRows, all_rows}
+use Rattle.day_rows.specs.DayRows.{DayRows, all_rows}
 use Rattle.morsel_rows.specs.Partitions.{PartitionView, in_partitions, joined_partitions, no_rows_in, partition_at, partition_of}
 
 part_of_parts : {Y : Type 0} (n b : ℕ) (number : Y → ℕ) (all : DayRows → List Y) (one : PartitionView → List Y)

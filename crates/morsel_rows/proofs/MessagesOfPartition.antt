@@ -12,10 +12,10 @@ use Rattle.lists.specs.declared.limits.TheConstants.{TRADE_LIMIT}
 use Rattle.order_table.specs.declared.row.OrderRow.{OrderRow}
 use Rattle.probe.specs.declared.rows.Execution.{Execution}
 use Rattle.probe.specs.declared.rows.Sale.{Sale}
-use Rattle.answers.specs.DayRows.{AreByPlace, rows_of}
-use Rattle.answers.specs.Messages.{Placed, order_row_at, execution_at, own_priced_at, executions, own_priced_sales}
-use Rattle.answers.proofs.TradesOfRows.{own_keeps_place}
-use Rattle.answers.proofs.CountedMessages.{fewer_of_filter}
+use Rattle.day_rows.specs.DayRows.{AreByPlace, rows_of}
+use Rattle.day_rows.specs.Messages.{Placed, order_row_at, execution_at, own_priced_at, executions, own_priced_sales}
+use Rattle.day_rows.proofs.TradesOfRows.{own_keeps_place}
+use Rattle.day_rows.proofs.CountedMessages.{fewer_of_filter}
 use Rattle.morsel_rows.specs.Partitions.{AreRowsByPlace, no_rows_in, partition_of}
 
 -- the number by which a message's rows go to a partition: the order reference, or the place

@@ -5,7 +5,7 @@ use Rattle.lists.specs.declared.limits.TheConstants.{MOST_PARTITIONS}
 use Rattle.order_table.specs.declared.row.OrderRow.{OrderRow}
 use Rattle.probe.specs.declared.rows.Execution.{Execution}
 use Rattle.probe.specs.declared.rows.Sale.{Sale}
-use Rattle.answers.specs.DayRows.{DayRows, joined}
+use Rattle.day_rows.specs.DayRows.{DayRows, joined}
 use Rattle.morsel_rows.specs.Partitions.{MorselRowsView, PartitionView, in_partitions}
 
 -- a partition with one row more at its end, of each kind

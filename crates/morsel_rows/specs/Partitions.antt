@@ -8,8 +8,8 @@ use Rattle.order_table.specs.declared.row.OrderRow.{OrderRow}
 use Rattle.probe.specs.declared.rows.Execution.{Execution}
 use Rattle.probe.specs.declared.rows.Sale.{Sale}
 use Rattle.time_and_sales.specs.declared.directory.DirectoryRow.{DirectoryRow}
-use Rattle.answers.specs.DayRows.{AreByPlace, DayRows}
-use Rattle.answers.specs.Messages.{Placed, executions, order_rows, own_priced_sales}
+use Rattle.day_rows.specs.DayRows.{AreByPlace, DayRows}
+use Rattle.day_rows.specs.Messages.{Placed, executions, order_rows, own_priced_sales}
 
 -- the rows of one partition, each list in the order of places
 pub record PartitionView : Type 0 where

@@ -2,7 +2,7 @@
 ghost use Rattle.std.specs.Prelude.{◌≡◌, ℕ, ◌<◌, ◌≤◌, IfOk, MatchOption, OnErr, OnOk, Some};
 ghost use Rattle.std.specs.Prelude.{length, slice_get};
 ghost use Rattle.lists.specs.declared.limits.TheConstants.{MOST_PARTITIONS};
-ghost use Rattle.answers.specs.DayRows.{
+ghost use Rattle.day_rows.specs.DayRows.{
   DayRows,
   counted_rows_at,
   joined,
@@ -19,7 +19,7 @@ ghost use Rattle.morsel_rows.specs.Partitions.{in_partitions};
 
 use crate::OutOfMemory;
 use crate::partition::Partition;
-use answers::{Row, counts, row_of};
+use day_rows::{Row, counts, row_of};
 use itch_messages::Message;
 use order_table::{OrderRow, partition};
 use probe::{Execution, Sale};

@@ -24,13 +24,13 @@ use Rattle.query.specs.Meaning.{Meaning}
 use Rattle.query.specs.declared.query.What.{What}
 use Rattle.query.specs.declared.query.What.TheVariants.{Sales, Bars}
 use Rattle.answers.specs.Answers.{IsAnswerToMessages, IsTextOfMessages, IsTextOfSales, asks_for, selected_sales}
-use Rattle.answers.specs.DayRows.{AreByPlace}
-use Rattle.answers.specs.Messages.{Placed, break_numbers, directory_rows, executions, order_rows, own_priced_sales}
+use Rattle.day_rows.specs.DayRows.{AreByPlace}
+use Rattle.day_rows.specs.Messages.{Placed, break_numbers, directory_rows, executions, order_rows, own_priced_sales}
 use Rattle.answers.specs.declared.day_fault.DayFault.{DayFault}
 use Rattle.answers.specs.declared.day_fault.DayFault.TheVariants.{RepeatedReference, UnknownReference}
 use Rattle.answers.proofs.AnswerOfSteps.{text_answers, text_asked}
-use Rattle.answers.proofs.RowsByPlace.{kept_distinct}
-use Rattle.answers.proofs.TradesOfRows.{kept_are_sales, listing_is}
+use Rattle.day_rows.proofs.RowsByPlace.{kept_distinct}
+use Rattle.day_rows.proofs.TradesOfRows.{kept_are_sales, listing_is}
 use Rattle.buckets.specs.FoundRows.{TotalView}
 use Rattle.planning.specs.Gathered.{AreGatheredOf, IsTextOfAll, fault_from}
 use Rattle.planning.proofs.BucketsOfMessages.{lists_are, lists_in, repeated_found, unknown_found}

@@ -30,11 +30,11 @@ use Rattle.probe.proofs.PricedSales.{length-priced}
 use Rattle.bars.specs.Bars.{all_sales}
 use Rattle.query.specs.Meaning.{Meaning}
 use Rattle.answers.specs.Answers.{asks_for}
-use Rattle.answers.specs.DayRows.{AreByPlace, AreStamped, DayRows, IsStamped, rows_of}
-use Rattle.answers.specs.Messages.{Placed, break_numbers, directory_rows, executions, order_rows, own_priced_sales}
-use Rattle.answers.proofs.RowsByPlace.{executions_distinct, kept_distinct, orders_distinct}
+use Rattle.day_rows.specs.DayRows.{AreByPlace, AreStamped, DayRows, IsStamped, rows_of}
+use Rattle.day_rows.specs.Messages.{Placed, break_numbers, directory_rows, executions, order_rows, own_priced_sales}
+use Rattle.day_rows.proofs.RowsByPlace.{executions_distinct, kept_distinct, orders_distinct}
 use Rattle.answers.proofs.SelectedSales.{keeps_asked}
-use Rattle.answers.proofs.StampedSales.{fits_all}
+use Rattle.day_rows.proofs.StampedSales.{fits_all}
 use Rattle.morsel_rows.specs.Partitions.{partition_of}
 use Rattle.buckets.specs.FoundRows.{FoundView, found_of, sales_in}
 use Rattle.buckets.specs.Products.{product_of}

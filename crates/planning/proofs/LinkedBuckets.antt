@@ -16,11 +16,11 @@ use Rattle.day_file.proofs.CutFrames.{frames_of_cut}
 use Rattle.day_file.proofs.Laws.{places_rise}
 use Rattle.query.specs.Meaning.{Meaning}
 use Rattle.time_and_sales.specs.declared.directory.DirectoryRow.{DirectoryRow}
-use Rattle.answers.specs.DayRows.{rows_of}
-use Rattle.answers.specs.Messages.{counted, messages_of}
-use Rattle.answers.proofs.CountedMessages.{counted_by_place}
-use Rattle.answers.proofs.FewTrades.{few_trades}
-use Rattle.answers.proofs.RowsByPlace.{messages_by_place}
+use Rattle.day_rows.specs.DayRows.{rows_of}
+use Rattle.day_rows.specs.Messages.{counted, messages_of}
+use Rattle.day_rows.proofs.CountedMessages.{counted_by_place}
+use Rattle.day_rows.proofs.FewTrades.{few_trades}
+use Rattle.day_rows.proofs.RowsByPlace.{messages_by_place}
 use Rattle.morsel_rows.specs.Partitions.{AreRowsByPlace, MorselRowsView, PartitionView, joined_partitions, no_rows_in, partition_at, partition_of}
 use Rattle.morsel_rows.proofs.JoinedPartitions.{partition_past}
 use Rattle.morsel_rows.proofs.MessagesOfPartition.{no_rows_by_place, partition_by_place}

@@ -10,9 +10,9 @@ use Rattle.lists.proofs.Lists.{filter-flat_map, filter_map-flat_map, filter_map-
 use Rattle.day_file.specs.Cuts.{MorselView}
 use Rattle.day_file.specs.Frames.{PlacedBody}
 use Rattle.day_file.specs.Walk.{frames_of}
-use Rattle.answers.specs.DayRows.{DayRows, all_rows, rows_of}
-use Rattle.answers.specs.Messages.{Placed, counted, first_wrong, is_counted, messages_of, placed_at}
-use Rattle.answers.proofs.JoinedRows.{rows_of-parts}
+use Rattle.day_rows.specs.DayRows.{DayRows, all_rows, rows_of}
+use Rattle.day_rows.specs.Messages.{Placed, counted, first_wrong, is_counted, messages_of, placed_at}
+use Rattle.day_rows.proofs.JoinedRows.{rows_of-parts}
 use Rattle.morsel_rows.specs.Partitions.{MorselRowsView, in_partitions, joined_partitions, partition_at, partition_of}
 use Rattle.morsel_rows.proofs.JoinedPartitions.{joined_parts, partition_at_is}
 use Rattle.scanning.specs.Scans.{ScanInputView, scanned, total_of, wrong_at, wrong_in}

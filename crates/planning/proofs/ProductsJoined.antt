@@ -18,8 +18,8 @@ use Rattle.query.specs.Meaning.{Meaning}
 use Rattle.query.specs.declared.query.What.{What}
 use Rattle.query.specs.declared.query.What.TheVariants.{Sales, Bars}
 use Rattle.time_and_sales.specs.declared.directory.DirectoryRow.{DirectoryRow}
-use Rattle.answers.specs.DayRows.{IsStamped}
-use Rattle.answers.specs.Messages.{Placed}
+use Rattle.day_rows.specs.DayRows.{IsStamped}
+use Rattle.day_rows.specs.Messages.{Placed}
 use Rattle.buckets.specs.FoundRows.{TotalView}
 use Rattle.buckets.specs.Products.{bars_of, by_place, product_of}
 use Rattle.buckets.specs.declared.product.Product.{Product}

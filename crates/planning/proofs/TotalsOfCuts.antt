@@ -4,8 +4,8 @@ use Rattle.lists.specs.Least.{numbers_below}
 use Rattle.day_file.specs.Cuts.{MorselView}
 use Rattle.probe.specs.Selection.{admits}
 use Rattle.query.specs.Meaning.{Meaning}
-use Rattle.answers.specs.DayRows.{rows_of}
-use Rattle.answers.specs.Messages.{Placed, break_numbers, directory_rows}
+use Rattle.day_rows.specs.DayRows.{rows_of}
+use Rattle.day_rows.specs.Messages.{Placed, break_numbers, directory_rows}
 use Rattle.morsel_rows.specs.Partitions.{MorselRowsView, partition_of}
 use Rattle.scanning.specs.Scans.{total_of}
 use Rattle.buckets.specs.Buckets.{found, total_found}

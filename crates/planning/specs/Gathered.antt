@@ -18,10 +18,10 @@ use Rattle.bars.specs.declared.bar.Bar.{Bar}
 use Rattle.query.specs.Meaning.{Meaning}
 use Rattle.query.specs.declared.query.What.{What}
 use Rattle.query.specs.declared.query.What.TheVariants.{Sales, Bars}
-use Rattle.answers.specs.DayRows.{AreByPlace, AreStamped, IsStamped, rows_of}
+use Rattle.day_rows.specs.DayRows.{AreByPlace, AreStamped, IsStamped, rows_of}
 use Rattle.answers.specs.declared.day_fault.DayFault.{DayFault}
 use Rattle.answers.specs.declared.day_fault.DayFault.TheVariants.{RepeatedReference, UnknownReference}
-use Rattle.answers.specs.Messages.{Placed, break_numbers, directory_rows, executions, own_priced_sales}
+use Rattle.day_rows.specs.Messages.{Placed, break_numbers, directory_rows, executions, own_priced_sales}
 use Rattle.morsel_rows.specs.Partitions.{partition_of}
 use Rattle.buckets.specs.FoundRows.{TotalView, all_found, found_of}
 use Rattle.buckets.specs.Products.{product_of}

@@ -6,7 +6,7 @@ ghost use Rattle.time_and_sales.specs.Names.{last_row, name_text};
 ghost use Rattle.bars.specs.Bars.{IsTraded, all_bars, all_sales};
 ghost use Rattle.query.specs.declared.query.What.TheVariants.{Bars, Sales};
 ghost use Rattle.answers.specs.Answers.{IsAnswerToMessages, told_by};
-ghost use Rattle.answers.specs.Messages.{Placed};
+ghost use Rattle.day_rows.specs.Messages.{Placed};
 ghost use Rattle.planning.specs.Gathered.{AreGatheredOf, AreProductsOf, IsTextOfAll, fault_from, listing_of, table_of};
 
 use crate::OutOfMemory;

@@ -12,10 +12,10 @@ use Rattle.itch_messages.specs.Body.{has_wrong_length, length_fault_of, message_
 use Rattle.itch_messages.specs.declared.message.Message.{Message}
 use Rattle.itch_messages.specs.declared.message.Message.TheVariants.{Skipped}
 use Rattle.day_file.specs.Frames.{PlacedBody}
-use Rattle.answers.proofs.JoinedRows.{joined_none}
-use Rattle.answers.proofs.RowsOfFrames.{rows_more}
-use Rattle.answers.specs.DayRows.{DayRows, counted_rows_at, joined, no_rows, rows_of}
-use Rattle.answers.specs.Messages.{counted, messages_of}
+use Rattle.day_rows.proofs.JoinedRows.{joined_none}
+use Rattle.day_rows.proofs.RowsOfFrames.{rows_more}
+use Rattle.day_rows.specs.DayRows.{DayRows, counted_rows_at, joined, no_rows, rows_of}
+use Rattle.day_rows.specs.Messages.{counted, messages_of}
 use Rattle.morsel_rows.specs.Partitions.{MorselRowsView, in_partitions}
 use Rattle.scanning.specs.Scans.{ScanView, TakesIn, scan_of, wrong_at, wrong_in}
 use Rattle.scanning.specs.declared.wrong.WrongLength.{WrongLength}

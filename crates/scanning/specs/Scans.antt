@@ -11,8 +11,8 @@ use Rattle.day_file.specs.Cuts.{IsRun, MorselView, is_same_morsel}
 use Rattle.day_file.specs.Frames.{PlacedBody}
 use Rattle.day_file.specs.Kept.{numbered}
 use Rattle.day_file.specs.Walk.{frames_of}
-use Rattle.answers.specs.DayRows.{rows_of}
-use Rattle.answers.specs.Messages.{counted, messages_of}
+use Rattle.day_rows.specs.DayRows.{rows_of}
+use Rattle.day_rows.specs.Messages.{counted, messages_of}
 use Rattle.morsel_rows.specs.Partitions.{MorselRowsView, in_partitions}
 use Rattle.scanning.specs.declared.wrong.WrongLength.{WrongLength}
 

@@ -7,7 +7,7 @@ use Rattle.probe.specs.declared.rows.Execution.{Execution}
 use Rattle.probe.specs.Pricing.{first_unknown}
 use Rattle.query.specs.Meaning.{Meaning}
 use Rattle.answers.specs.Answers.{IsAnswerToMessages, IsTextOfMessages}
-use Rattle.answers.specs.Messages.{Placed, executions, order_rows}
+use Rattle.day_rows.specs.Messages.{Placed, executions, order_rows}
 use Rattle.answers.specs.declared.day_fault.DayFault.{DayFault}
 use Rattle.answers.specs.declared.day_fault.DayFault.TheVariants.{RepeatedReference, UnknownReference}
 use Rattle.sequential.specs.Steps.{IfDay, IsReferenceFault}

@@ -7,8 +7,8 @@ use Rattle.order_table.specs.declared.row.OrderRow.{OrderRow}
 use Rattle.order_table.specs.Orders.{first_repeated}
 use Rattle.probe.specs.declared.rows.Execution.{Execution}
 use Rattle.probe.specs.Pricing.{first_unknown}
-use Rattle.answers.specs.DayRows.{AreByPlace, DayRows, rows_of}
-use Rattle.answers.specs.Messages.{Placed, messages_of, counted, first_wrong}
+use Rattle.day_rows.specs.DayRows.{AreByPlace, DayRows, rows_of}
+use Rattle.day_rows.specs.Messages.{Placed, messages_of, counted, first_wrong}
 use Rattle.answers.specs.declared.day_fault.DayFault.{DayFault}
 use Rattle.answers.specs.declared.day_fault.DayFault.TheVariants.{RepeatedReference, UnknownReference}
 use Rattle.sequential.specs.declared.refused.Refused.{Refused}

@@ -8,8 +8,8 @@ ghost use Rattle.query.specs.Meaning.{Meaning};
 ghost use Rattle.time_and_sales.specs.Listings.{IsByPlace};
 ghost use Rattle.time_and_sales.specs.Names.{last_row, name_text};
 ghost use Rattle.answers.specs.Answers.{IsAnswer, IsAnswerToMessages, IsTextOfSales, told_by};
-ghost use Rattle.answers.specs.DayRows.{AreByPlace, IsStamped, rows_of};
-ghost use Rattle.answers.specs.Messages.{Placed};
+ghost use Rattle.day_rows.specs.DayRows.{AreByPlace, IsStamped, rows_of};
+ghost use Rattle.day_rows.specs.Messages.{Placed};
 ghost use Rattle.sequential.specs.Steps.{AreOfDay, AreOfMessages, HaveNoFault, IfDay, IsReferenceFault};
 
 use crate::OutOfMemory;

@@ -1,5 +1,5 @@
 //! Scans of the morsels of a day, whose pieces are gathered in any order.
-use answers::Row;
+use day_rows::Row;
 use day_file::cut_at;
 use gathering::{Filed, Gathering, Inputs, Piece};
 use morsel_rows::{MorselRows, OrderList, Partition};

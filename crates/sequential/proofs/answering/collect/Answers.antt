@@ -8,13 +8,13 @@ use Rattle.day_file.specs.Frames.{IsTruncatedAt, IsWhole, PlacedBody, spelling}
 use Rattle.day_file.specs.Placed.{placed_body}
 use Rattle.day_file.proofs.Laws.{places_rise}
 use Rattle.answers.specs.Answers.{IsAnswer}
-use Rattle.answers.specs.DayRows.{counted_rows_at, joined, rows_of}
-use Rattle.answers.specs.Messages.{counted, first_wrong, messages_of}
+use Rattle.day_rows.specs.DayRows.{counted_rows_at, joined, rows_of}
+use Rattle.day_rows.specs.Messages.{counted, first_wrong, messages_of}
 use Rattle.answers.specs.declared.day_fault.DayFault.{DayFault}
 use Rattle.answers.specs.declared.day_fault.DayFault.TheVariants.{WrongLength}
 use Rattle.answers.proofs.AnswerOfSteps.{truncation_answers, wrong_length_answers}
-use Rattle.answers.proofs.FewTrades.{few_trades}
-use Rattle.answers.proofs.RowsOfFrames.{collects, right_length, wrong_first}
+use Rattle.day_rows.proofs.FewTrades.{few_trades}
+use Rattle.day_rows.proofs.RowsOfFrames.{collects, right_length, wrong_first}
 use Rattle.sequential.specs.Steps.{AreFew}
 use Rattle.sequential.proofs.Steps.{at_none, at_some}
 use Rattle.sequential.proofs.answering.collect.Goals as goal

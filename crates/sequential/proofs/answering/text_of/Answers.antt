@@ -5,7 +5,7 @@ use Rattle.probe.specs.declared.rows.Sale.{Sale}
 use Rattle.bars.specs.Texts.{IsWritable}
 use Rattle.bars.specs.declared.bar.Bar.{Bar}
 use Rattle.bars.proofs.SumsAreBounded.{table_is_writable}
-use Rattle.answers.specs.DayRows.{IsStamped}
+use Rattle.day_rows.specs.DayRows.{IsStamped}
 use Rattle.answers.proofs.SelectedSales.{listing_places}
 use Rattle.sequential.proofs.answering.text_of.Goals as goal
 

@@ -3,11 +3,11 @@ use Rattle.std.proofs.lemmas.Result.{err_from_is_err_and}
 use Rattle.query.specs.Meaning.{Meaning}
 use Rattle.day_file.proofs.Laws.{places_rise}
 use Rattle.answers.specs.Answers.{IsAnswer}
-use Rattle.answers.specs.DayRows.{rows_of}
-use Rattle.answers.specs.Messages.{counted, messages_of}
+use Rattle.day_rows.specs.DayRows.{rows_of}
+use Rattle.day_rows.specs.Messages.{counted, messages_of}
 use Rattle.answers.proofs.AnswerOfSteps.{messages_answer}
-use Rattle.answers.proofs.CountedMessages.{counted_by_place}
-use Rattle.answers.proofs.RowsByPlace.{messages_by_place}
+use Rattle.day_rows.proofs.CountedMessages.{counted_by_place}
+use Rattle.day_rows.proofs.RowsByPlace.{messages_by_place}
 use Rattle.sequential.proofs.Steps.{on_day, on_ok}
 use Rattle.sequential.proofs.answering.text_of_day.Goals as goal
 

@@ -4,11 +4,11 @@ use Rattle.time_and_sales.specs.Names.{IsNamesOf, last_row, name_text}
 use Rattle.probe.specs.Pricing.{priced}
 use Rattle.probe.specs.Selection.{admits}
 use Rattle.query.proofs.ListedLocates.{AreLocatesOf-selected}
-use Rattle.answers.specs.DayRows.{DayRows}
-use Rattle.answers.specs.Messages.{directory_rows, executions, order_rows}
+use Rattle.day_rows.specs.DayRows.{DayRows}
+use Rattle.day_rows.specs.Messages.{directory_rows, executions, order_rows}
 use Rattle.answers.proofs.AnswerOfSteps.{text_answers, text_asked}
 use Rattle.answers.proofs.SelectedSales.{AreTradesOf, listed_distinct, listing_few, listing_shares, selected}
-use Rattle.answers.proofs.StampedSales.{fits_listing}
+use Rattle.day_rows.proofs.StampedSales.{fits_listing}
 use Rattle.sequential.specs.Steps.{HaveNoFault}
 use Rattle.sequential.proofs.answering.text_of_rows.Goals as goal
 

@@ -3,9 +3,9 @@ use Rattle.std.specs.List.{IsDistinct}
 use Rattle.order_table.specs.declared.row.OrderRow.{OrderRow}
 use Rattle.probe.specs.declared.rows.Execution.{Execution}
 use Rattle.probe.specs.declared.rows.Sale.{Sale}
-use Rattle.answers.specs.DayRows.{DayRows, IsStamped}
-use Rattle.answers.proofs.RowsByPlace.{executions_distinct, orders_distinct}
-use Rattle.answers.proofs.StampedSales.{fits_all}
+use Rattle.day_rows.specs.DayRows.{DayRows, IsStamped}
+use Rattle.day_rows.proofs.RowsByPlace.{executions_distinct, orders_distinct}
+use Rattle.day_rows.proofs.StampedSales.{fits_all}
 use Rattle.sequential.proofs.answering.trades_of.Goals as goal
 
 pub price-requires-clause-orders : goal.price-requires-clause-orders

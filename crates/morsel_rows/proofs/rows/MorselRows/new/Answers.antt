@@ -1,7 +1,7 @@
 use Rattle.std.proofs.Common.{◌≡◌, [], ◌∷◌, ◌++◌, length, map, sym, ap, ap₂, ◌∙◌, arith}
 use Rattle.std.proofs.lemmas.List.FromFn.{length-map-range_with_len, map-range_with_len_more}
 use Rattle.lists.specs.Least.{numbers_below}
-use Rattle.answers.specs.DayRows.{no_rows}
+use Rattle.day_rows.specs.DayRows.{no_rows}
 use Rattle.morsel_rows.specs.Partitions.{partition_of}
 use Rattle.morsel_rows.proofs.rows.MorselRows.new.Goals as goal
 

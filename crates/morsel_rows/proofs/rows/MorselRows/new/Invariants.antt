@@ -1,6 +1,6 @@
 use Rattle.std.proofs.Common.{◌≡◌, map}
 use Rattle.lists.specs.Least.{numbers_below}
-use Rattle.answers.specs.DayRows.{no_rows}
+use Rattle.day_rows.specs.DayRows.{no_rows}
 use Rattle.morsel_rows.specs.Partitions.{partition_of}
 use Rattle.morsel_rows.proofs.rows.MorselRows.new.Given as goal
 

@@ -1,6 +1,6 @@
 use Rattle.std.proofs.Common.{refl, ap, ◌∙◌, subst}
 use Rattle.day_file.specs.Placed.{placed_body}
-use Rattle.answers.proofs.RowsOfFrames.{right_length}
+use Rattle.day_rows.proofs.RowsOfFrames.{right_length}
 use Rattle.scanning.proofs.ScanOfFrames.{AddsCounted, passes, reads}
 use Rattle.scanning.proofs.open_scan.OpenScan.take_in.Goals as goal
 

@@ -1,0 +1,144 @@
+-- Each list of rows stands by place, since the messages do; so no place stands twice in it.
+use Rattle.std.proofs.Common.{◌≡◌, ℕ, Bool, true, List, [], ◌∷◌, ◌++◌, map, nat_eq, All, Less, arith, Option, Some, None, option_map, option_to_list, cond}
+use Rattle.std.proofs.Common.{◌==◌, false, filter_map, flat_map, IsPermutation, refl, sym, ap, ap₂, ◌∙◌, subst}
+use Rattle.std.specs.List.{AllByRecursion, IsDistinct, cons_option}
+use Rattle.std.proofs.lemmas.Bool.Decides.{nat_tests}
+use Rattle.std.proofs.lemmas.List.Elements.{All-append, All-filter, All-from_recursion, recursion_from_All}
+use Rattle.std.proofs.lemmas.Map.Keys.{IsDistinct-IsPermutation}
+use Rattle.std.specs.List.Sorted.{IsStrictlySortedBy}
+use Rattle.std.specs.Ordering.{nat_cmp}
+use Rattle.std.proofs.lemmas.Cmp.{nat_cmp_total, on_total}
+use Rattle.std.proofs.lemmas.List.Kept.{IsStrictlySortedBy-filter}
+use Rattle.std.proofs.lemmas.List.Sorted.{All-permutation, IsPermutation-map, IsPermutation-sym, IsPermutation-trans}
+use Rattle.itch_messages.specs.declared.message.Message.{Message}
+use Rattle.itch_messages.specs.declared.message.Message.TheVariants.{Add, Executed, ExecutedAt, Replace, Trade, Cross, Broken, Directory, Skipped}
+use Rattle.order_table.specs.declared.row.OrderRow.{OrderRow}
+use Rattle.lists.proofs.Lists.{filter_map_as_flat_map, filter_map-flat_map, IsPermutation-filter, IsPermutation-both}
+use Rattle.lists.proofs.Order.{same_from_permutation, sorted-filter_map}
+use Rattle.probe.specs.declared.rows.Execution.{Execution}
+use Rattle.probe.specs.declared.rows.Sale.{Sale}
+use Rattle.probe.specs.Pricing.{price_of, sale_at, sale_of, priced}
+use Rattle.probe.specs.Trades.{is_kept, kept}
+use Rattle.probe.specs.declared.rows.Kind.TheVariants.{C}
+use Rattle.time_and_sales.specs.Listings.{place_cmp}
+use Rattle.itch_messages.specs.Body.{message_of}
+use Rattle.day_file.specs.Frames.{PlacedBody}
+use Rattle.time_and_sales.specs.declared.directory.DirectoryRow.{DirectoryRow}
+use Rattle.day_rows.specs.Messages.{Placed, placed_at, messages_of, order_row_at, execution_at, own_priced_at, directory_row_at, order_rows, executions}
+use Rattle.day_rows.specs.Messages.{own_priced_sales, break_numbers, directory_rows}
+use Rattle.day_rows.specs.Messages.{trade_at, trades}
+use Rattle.day_rows.specs.DayRows.{AreByPlace}
+use Rattle.day_rows.proofs.TradesOfRows.{trades_are_both, trades_by_place}
+
+not_equal : (a b : ℕ) → nat_cmp a b ≡ Less → nat_eq a b ≡ false
+not_equal a b h = grind (arith, nat_tests)
+
+pub distinct_places : {X : Type 0} (number : X → ℕ) (xs : List X) → IsStrictlySortedBy (λ a b. nat_cmp (number a) (number b)) xs
+    → IsDistinct nat_eq (map number xs)
+unfolding IsStrictlySortedBy IsDistinct
+distinct_places number [] up = tt
+distinct_places {X} number (x ∷ xs) up = (apart xs up.0, distinct_places number xs up.1)
+  where
+    apart : (ys : List X) → AllByRecursion (λ y. nat_cmp (number x) (number y) ≡ Less) ys → AllByRecursion (λ n. nat_eq (number x) n ≡ false) (map number ys)
+    apart [] all = tt
+    apart (y ∷ ys) all = (not_equal (number x) (number y) all.0, apart ys all.1)
+
+order_keeps_place : (place : ℕ) (message : Message) (row : OrderRow) → order_row_at place message ≡ Some row → row.place ≡ place
+order_keeps_place place (Add add) row e = let same : record { place = place; order_no = add.order_no; price = add.price } ≡ row = cc in
+    sym (ap (λ (r : OrderRow). r.place) same)
+order_keeps_place place (Replace replace) row e = let same : record { place = place; order_no = replace.new_no; price = replace.price } ≡ row = cc in
+    sym (ap (λ (r : OrderRow). r.place) same)
+order_keeps_place place (Executed executed) row e = absurd (cc)
+order_keeps_place place (ExecutedAt executed) row e = absurd (cc)
+order_keeps_place place (Trade trade) row e = absurd (cc)
+order_keeps_place place (Cross cross) row e = absurd (cc)
+order_keeps_place place (Broken broken) row e = absurd (cc)
+order_keeps_place place (Directory directory) row e = absurd (cc)
+order_keeps_place place Skipped row e = absurd (cc)
+
+execution_keeps_place : (place : ℕ) (message : Message) (row : Execution) → execution_at place message ≡ Some row → row.place ≡ place
+execution_keeps_place place (Executed executed) row e =
+    let made : Execution = record {
+      place = place;
+      time = executed.header.time;
+      locate = executed.header.locate;
+      order_no = executed.order_no;
+      shares = executed.shares;
+      trade_no = executed.trade_no;
+    } in
+    let same : made ≡ row = cc in sym (ap (λ (r : Execution). r.place) same)
+execution_keeps_place place (Add add) row e = absurd (cc)
+execution_keeps_place place (Replace replace) row e = absurd (cc)
+execution_keeps_place place (ExecutedAt executed) row e = absurd (cc)
+execution_keeps_place place (Trade trade) row e = absurd (cc)
+execution_keeps_place place (Cross cross) row e = absurd (cc)
+execution_keeps_place place (Broken broken) row e = absurd (cc)
+execution_keeps_place place (Directory directory) row e = absurd (cc)
+execution_keeps_place place Skipped row e = absurd (cc)
+
+directory_keeps_place : (place : ℕ) (message : Message) (row : DirectoryRow) → directory_row_at place message ≡ Some row → row.place ≡ place
+directory_keeps_place place (Directory directory) row e =
+    let made : DirectoryRow = record { place = place; locate = directory.header.locate; stock = directory.stock } in
+    let same : made ≡ row = cc in sym (ap (λ (r : DirectoryRow). r.place) same)
+directory_keeps_place place (Add add) row e = absurd (cc)
+directory_keeps_place place (Executed executed) row e = absurd (cc)
+directory_keeps_place place (Replace replace) row e = absurd (cc)
+directory_keeps_place place (ExecutedAt executed) row e = absurd (cc)
+directory_keeps_place place (Trade trade) row e = absurd (cc)
+directory_keeps_place place (Cross cross) row e = absurd (cc)
+directory_keeps_place place (Broken broken) row e = absurd (cc)
+directory_keeps_place place Skipped row e = absurd (cc)
+
+pub orders_distinct : (messages : List Placed) → AreByPlace messages → IsDistinct nat_eq (map (λ row. row.place) (order_rows messages))
+orders_distinct messages up = distinct_places (λ (row : OrderRow). row.place) (order_rows messages)
+    (sorted-filter_map (λ (m : Placed). m.place) (λ (row : OrderRow). row.place) (λ m. order_row_at m.place m.message)
+    (λ m row e. order_keeps_place m.place m.message row e) messages up)
+
+pub executions_distinct : (messages : List Placed) → AreByPlace messages → IsDistinct nat_eq (map (λ row. row.place) (executions messages))
+executions_distinct messages up = distinct_places (λ (row : Execution). row.place) (executions messages)
+    (sorted-filter_map (λ (m : Placed). m.place) (λ (row : Execution). row.place) (λ m. execution_at m.place m.message)
+    (λ m row e. execution_keeps_place m.place m.message row e) messages up)
+
+pub directory_distinct : (messages : List Placed) → AreByPlace messages → IsDistinct nat_eq (map (λ row. row.place) (directory_rows messages))
+directory_distinct messages up = distinct_places (λ (row : DirectoryRow). row.place) (directory_rows messages)
+    (sorted-filter_map (λ (m : Placed). m.place) (λ (row : DirectoryRow). row.place) (λ m. directory_row_at m.place m.message)
+    (λ m row e. directory_keeps_place m.place m.message row e) messages up)
+
+flips : (x y : ℕ) → nat_eq x y ≡ nat_eq y x
+flips x y = grind (arith, nat_tests)
+
+-- what is kept of the sales has no place twice, whatever breaks there are
+pub kept_apart : (breaks : List ℕ) (selection : Sale → Bool) (messages : List Placed) → AreByPlace messages
+    → IsDistinct nat_eq (map (λ sale. sale.place)
+    (kept breaks selection (priced (order_rows messages) (executions messages) ++ own_priced_sales messages)))
+kept_apart breaks selection messages up =
+    IsDistinct-IsPermutation nat_eq flips _ _
+    (IsPermutation-map (λ (s : Sale). s.place) _ _ (IsPermutation-filter (is_kept breaks selection) _ _ (trades_are_both (order_rows messages) messages)))
+    (distinct_places (λ (s : Sale). s.place) (kept breaks selection (trades messages))
+    (IsStrictlySortedBy-filter place_cmp (is_kept breaks selection) (trades messages) (trades_by_place messages up)))
+
+pub kept_distinct : (selection : Sale → Bool) (messages : List Placed) → AreByPlace messages
+    → IsDistinct nat_eq (map (λ sale. sale.place)
+    (kept (break_numbers messages) selection (priced (order_rows messages) (executions messages) ++ own_priced_sales messages)))
+kept_distinct selection messages up = kept_apart (break_numbers messages) selection messages up
+
+-- the messages of frames by place
+pub messages_by_place : (frames : List PlacedBody) → IsStrictlySortedBy (λ a b. nat_cmp a.place b.place) frames → AreByPlace (messages_of frames)
+messages_by_place frames up =
+    sorted-filter_map (λ (f : PlacedBody). f.place) (λ (m : Placed). m.place) (λ f. placed_at f.place (message_of f.body))
+    (λ f m e. message_keeps_place f.place (message_of f.body) m e) frames up
+  where
+    kept_place : (place : ℕ) (message : Message) (m : Placed) → Some (record { place = place; message = message }) ≡ Some m → m.place ≡ place
+    kept_place place message m e = let made : Placed = record { place = place; message = message } in let same : made ≡ m = cc in
+        sym (ap (λ (p : Placed). p.place) same)
+
+    message_keeps_place : (place : ℕ) (message : Message) (m : Placed) → placed_at place message ≡ Some m → m.place ≡ place
+    message_keeps_place place Skipped m e = absurd (cc)
+    message_keeps_place place (Add x) m e = kept_place place (Add x) m e
+    message_keeps_place place (Executed x) m e = kept_place place (Executed x) m e
+    message_keeps_place place (ExecutedAt x) m e = kept_place place (ExecutedAt x) m e
+    message_keeps_place place (Replace x) m e = kept_place place (Replace x) m e
+    message_keeps_place place (Trade x) m e = kept_place place (Trade x) m e
+    message_keeps_place place (Cross x) m e = kept_place place (Cross x) m e
+    message_keeps_place place (Broken x) m e = kept_place place (Broken x) m e
+    message_keeps_place place (Directory x) m e = kept_place place (Directory x) m e
