@@ -5,10 +5,10 @@ use Rattle.itch_messages.specs.HeaderFields.{HeaderFields}
 use Rattle.itch_messages.specs.declared.message.Message.{Message}
 use Rattle.itch_messages.specs.declared.message.Message.TheVariants.{Add, Executed, Trade, Broken}
 use Rattle.order_table.specs.Orders.{first_repeated, price_before}
-use Rattle.order_table.specs.declared.row.OrderRow.{OrderRow}
+use Rattle.row_types.specs.declared.order.OrderRow.{OrderRow}
 use Rattle.probe.specs.Pricing.{first_unknown}
-use Rattle.probe.specs.declared.rows.Kind.TheVariants.{E, P}
-use Rattle.probe.specs.declared.rows.Sale.{Sale}
+use Rattle.row_types.specs.declared.trade.Kind.TheVariants.{E, P}
+use Rattle.row_types.specs.declared.trade.Sale.{Sale}
 use Rattle.query.specs.Meaning.{Meaning}
 use Rattle.query.specs.declared.query.What.TheVariants.{Sales}
 use Rattle.answers.specs.Answers.{selected_sales}

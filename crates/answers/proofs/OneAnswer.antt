@@ -3,10 +3,10 @@ use Rattle.std.proofs.Common.{◌≡◌, ℕ, List, Option, Some, None, Result, 
 use Rattle.day_file.specs.Frames.{PlacedBody}
 use Rattle.day_file.proofs.Laws.{frames_are_one, not_both, truncated_once}
 use Rattle.order_table.specs.Orders.{first_repeated}
-use Rattle.order_table.specs.declared.row.OrderRow.{OrderRow}
+use Rattle.row_types.specs.declared.order.OrderRow.{OrderRow}
 use Rattle.probe.specs.Pricing.{first_unknown}
-use Rattle.probe.specs.declared.rows.Execution.{Execution}
-use Rattle.probe.specs.declared.rows.Sale.{Sale}
+use Rattle.row_types.specs.declared.trade.Execution.{Execution}
+use Rattle.row_types.specs.declared.trade.Sale.{Sale}
 use Rattle.bars.specs.Texts.{bars_text}
 use Rattle.bars.proofs.Bars.{AreBarsOf-unique}
 use Rattle.query.specs.Meaning.{Meaning}

@@ -10,19 +10,19 @@ use Rattle.std.proofs.lemmas.List.Sorted.{All-permutation, length_permutation}
 use Rattle.lists.specs.Among.{is_among}
 use Rattle.day_file.specs.Frames.{PlacedBody, StandsFor}
 use Rattle.order_table.specs.Orders.{first_repeated}
-use Rattle.order_table.specs.declared.row.OrderRow.{OrderRow}
+use Rattle.row_types.specs.declared.order.OrderRow.{OrderRow}
 use Rattle.probe.specs.Pricing.{first_unknown, priced}
 use Rattle.probe.specs.Selection.{admits, has_kind, has_time}
 use Rattle.probe.specs.Trades.{kept}
-use Rattle.probe.specs.declared.rows.Execution.{Execution}
-use Rattle.probe.specs.declared.rows.Sale.{Sale}
+use Rattle.row_types.specs.declared.trade.Execution.{Execution}
+use Rattle.row_types.specs.declared.trade.Sale.{Sale}
 use Rattle.probe.specs.declared.selection.Selection.{Selection}
 use Rattle.probe.proofs.KeptSales.{kept_have_shares, length-kept}
 use Rattle.probe.proofs.PricedSales.{length-priced}
-use Rattle.time_and_sales.specs.Listings.{place_cmp}
+use Rattle.row_types.specs.SalesByPlace.{place_cmp}
 use Rattle.time_and_sales.specs.Names.{IsNamesOf, name_of, name_text}
 use Rattle.time_and_sales.specs.Texts.{listing_text, sale_line, sales_header}
-use Rattle.time_and_sales.specs.declared.directory.DirectoryRow.{DirectoryRow}
+use Rattle.row_types.specs.declared.directory.DirectoryRow.{DirectoryRow}
 use Rattle.time_and_sales.specs.declared.directory.Names.{Names}
 use Rattle.bars.specs.Bars.{AreBarsOf}
 use Rattle.bars.specs.Texts.{bar_line, bars_header, bars_text}

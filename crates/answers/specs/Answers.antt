@@ -7,15 +7,15 @@ use Rattle.itch_messages.specs.Body.{length_fault_of}
 use Rattle.itch_messages.specs.declared.message.Message.{Message}
 use Rattle.itch_messages.specs.declared.message.Message.TheVariants.{Executed}
 use Rattle.day_file.specs.Frames.{PlacedBody, StandsFor, IsTruncatedAt}
-use Rattle.order_table.specs.declared.row.OrderRow.{OrderRow}
+use Rattle.row_types.specs.declared.order.OrderRow.{OrderRow}
 use Rattle.order_table.specs.Orders.{first_repeated}
-use Rattle.probe.specs.declared.rows.Sale.{Sale}
+use Rattle.row_types.specs.declared.trade.Sale.{Sale}
 use Rattle.probe.specs.Pricing.{first_unknown, sale_of}
 use Rattle.probe.specs.Selection.{has_kind, has_time}
 use Rattle.probe.specs.Trades.{kept}
 use Rattle.time_and_sales.specs.Names.{name_of}
 use Rattle.time_and_sales.specs.Texts.{listing_text}
-use Rattle.time_and_sales.specs.declared.directory.DirectoryRow.{DirectoryRow}
+use Rattle.row_types.specs.declared.directory.DirectoryRow.{DirectoryRow}
 use Rattle.bars.specs.Bars.{AreBarsOf}
 use Rattle.bars.specs.Texts.{bars_text}
 use Rattle.bars.specs.declared.bar.Bar.{Bar}

@@ -5,8 +5,8 @@ ghost use Rattle.lists.specs.declared.limits.TheConstants.{TIME_LIMIT};
 ghost use Rattle.bars.specs.Bars.{AllSumsFit, IsUnionOf, all_bars};
 ghost use Rattle.bars.specs.Texts.{IsWritable, bars_text};
 ghost use Rattle.bars.specs.declared.bar.Bar.{Bar as TheBar};
-ghost use Rattle.probe.specs.declared.rows.Sale.{Sale as TheSale};
-ghost use Rattle.time_and_sales.specs.Listings.{IsByPlace};
+ghost use Rattle.row_types.specs.declared.trade.Sale.{Sale as TheSale};
+ghost use Rattle.row_types.specs.SalesByPlace.{IsByPlace};
 ghost use Rattle.time_and_sales.specs.Names.{last_row, name_text};
 ghost use Rattle.time_and_sales.specs.Texts.{listing_text};
 

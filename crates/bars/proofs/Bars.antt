@@ -12,7 +12,7 @@ use Rattle.std.proofs.lemmas.List.Elements.{filter-append, All-from_recursion, A
 use Rattle.std.proofs.lemmas.List.Sorted.{length_permutation, sum_by-IsPermutation}
 use Rattle.std.proofs.lemmas.Map.Keys.{sorted_head, sorted_tail}
 use Rattle.lists.specs.Least.{least_of, greatest_of, TellsApart}
-use Rattle.probe.specs.declared.rows.Sale.{Sale}
+use Rattle.row_types.specs.declared.trade.Sale.{Sale}
 use Rattle.bars.specs.Bars.{Key, Bar, has_key, bar_of, key_cmp, found, AreBarsOf, joined, IsMergeOf}
 use Rattle.lists.proofs.Lists.{IsPermutation-filter}
 use Rattle.lists.proofs.Least.{best_of-append, lesser_ranks, greater_ranks, least_of-permutation, greatest_of-permutation, least_of_apart, greatest_of_apart}

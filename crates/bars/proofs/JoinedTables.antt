@@ -15,7 +15,7 @@ use Rattle.std.proofs.lemmas.List.Elements.{filter-append, filter_agree, All-app
 use Rattle.std.proofs.lemmas.List.Sorted.{length_permutation, answers_always, IsPermutation-map, All-permutation}
 use Rattle.std.proofs.lemmas.Map.Keys.{sorted_head, sorted_tail}
 use Rattle.lists.proofs.Lists.{IsPermutation-filter}
-use Rattle.probe.specs.declared.rows.Sale.{Sale}
+use Rattle.row_types.specs.declared.trade.Sale.{Sale}
 use Rattle.bars.specs.Bars.{Key, Bar, has_key, bar_of, key_cmp, found, joined_bar, joined, joined_all, under, all_bars, all_sales, IsByKey, IsUnionOf}
 use Rattle.bars.specs.Bars.{AllSumsFit, IsTraded, AreBarsOf, AreBarsOfEach, CanJoin, SumsFit}
 use Rattle.std.specs.Fn.{Mut, Called, ComputesKey}

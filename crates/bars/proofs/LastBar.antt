@@ -17,7 +17,7 @@ use Rattle.std.proofs.Math.Nat.{div-mul-le_self, mul-le-mul_right}
 use Rattle.std.proofs.Math.Seq.{set-append_seam}
 use Rattle.std.proofs.lemmas.List.{length-take-le}
 use Rattle.lists.proofs.Order.{Contains_cons, Contains_head, Contains_later}
-use Rattle.probe.specs.declared.rows.Sale.{Sale}
+use Rattle.row_types.specs.declared.trade.Sale.{Sale}
 use Rattle.bars.specs.Bars.{Key, Bar, start_of, has_key, bar_of, key_cmp, found, joined_bar, IsByKey, IsTraded, AreBarsOf}
 use Rattle.bars.specs.Steps.{bar_of_one, by_order, put_before, merged_tables, IsUpTo}
 use Rattle.bars.proofs.Bars.{key_total, AreBarsOf-merged, AreBarsOf-none}

@@ -11,7 +11,7 @@ use Rattle.std.proofs.lemmas.Bool.Decides.{nat_tests}
 use Rattle.bars.specs.Steps.{by_order, put_before, merged_tables}
 use Rattle.bars.specs.Bars.{Key, Bar, key_cmp, found, joined_bar, joined, IsByKey, IsMergeOf, AreBarsOf, CanJoin, SumsFit}
 use Rattle.bars.proofs.Bars.{key_total, found_itself, AreBarsOf-merged}
-use Rattle.probe.specs.declared.rows.Sale.{Sale}
+use Rattle.row_types.specs.declared.trade.Sale.{Sale}
 
 abbrev Below : Bar → List Bar → Type 0
 Below bar table = AllByRecursion (λ z. key_cmp bar z ≡ Less) table

@@ -7,7 +7,7 @@ use Rattle.std.proofs.lemmas.Bool.{and_parts, eqb-true}
 use Rattle.std.proofs.lemmas.List.Sums.{sum_by-cons}
 use Rattle.std.proofs.lemmas.List.Elements.{All-filter, All-head, All-tail, All-weaker, All-contains, All-contains_itself, filter_passes}
 use Rattle.std.proofs.Math.Nat.{mul-le-mul_left, div-mul-le_self, div-le_of_le-mul}
-use Rattle.probe.specs.declared.rows.Sale.{Sale}
+use Rattle.row_types.specs.declared.trade.Sale.{Sale}
 use Rattle.bars.specs.Bars.{Key, Bar, start_of, has_key, bar_of, found, AreBarsOf, AreBarsOfEach, CanJoin, SumsFit, AllSumsFit, IsTraded}
 use Rattle.bars.specs.Bars.{under, all_bars, all_sales}
 use Rattle.bars.proofs.JoinedTables.{has, of, of_none, sum_joined, bars_of_all}

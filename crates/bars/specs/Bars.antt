@@ -8,7 +8,7 @@ use Rattle.std.specs.declared.cmp.Ordering.{Ordering}
 use Rattle.std.specs.List.Sorted.{IsStrictlySortedBy}
 use Rattle.lists.specs.Least.{least_of, greatest_of}
 use Rattle.lists.specs.declared.limits.TheConstants.{NANOSECONDS}
-use Rattle.probe.specs.declared.rows.Sale.{Sale}
+use Rattle.row_types.specs.declared.trade.Sale.{Sale}
 pub use Rattle.bars.specs.declared.bar.Bar.{Bar}
 
 -- which bar: a locate, and the start of an interval in nanoseconds

@@ -12,8 +12,8 @@ mod texts;
 
 pub use bar::Bar;
 pub use lists::OutOfMemory;
-pub use probe::Sale;
 pub use ranges::lines_in_ranges;
+pub use row_types::Sale;
 pub use table::BarTable;
 pub use texts::{write_bar, write_header};
 pub use time_and_sales::Name;

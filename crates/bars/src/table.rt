@@ -2,7 +2,7 @@
 ghost use Rattle.std.specs.Prelude.{◌≡◌, ℕ, ◌<◌, ◌≤◌, List, [], ◌∷◌, ◌++◌, length, map};
 ghost use Rattle.std.specs.Prelude.{All, IfOk, OnErr, OnOk, nat_eq, vec_len};
 ghost use Rattle.std.specs.List.{IsDistinct};
-ghost use Rattle.probe.specs.declared.rows.Sale.{Sale};
+ghost use Rattle.row_types.specs.declared.trade.Sale.{Sale};
 ghost use Rattle.std.specs.List.Sorted.{IsSorted};
 ghost use Rattle.bars.specs.Bars.{AllSumsFit, AreBarsOf, AreBarsOfEach, IsByKey, IsMergeOf};
 ghost use Rattle.bars.specs.Bars.{IsTraded, IsUnionOf, SumsFit, all_bars, all_sales, key_cmp};
@@ -11,7 +11,7 @@ ghost use Rattle.bars.specs.Steps.{IsOrderOf, IsUpTo, merged_tables};
 use crate::OutOfMemory;
 use crate::bar::Bar;
 use lists::limits::{SECONDS_OF_DAY, TRADE_LIMIT};
-use probe::Sale;
+use row_types::Sale;
 use std::alloc::{Allocator, Global};
 use std::cmp::Ordering;
 use std::marker::Model;

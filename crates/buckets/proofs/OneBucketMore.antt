@@ -6,7 +6,7 @@ use Rattle.std.proofs.lemmas.List.Elements.{filter_map-append}
 use Rattle.lists.specs.Least.{least_by}
 use Rattle.lists.proofs.Least.{best_by-append, better_option, lesser_ranks}
 use Rattle.order_table.specs.declared.table.Repeated.{Repeated}
-use Rattle.probe.specs.declared.rows.Unknown.{Unknown}
+use Rattle.row_types.specs.declared.trade.Unknown.{Unknown}
 use Rattle.buckets.specs.Buckets.{found, total_found}
 use Rattle.buckets.specs.FoundRows.{FoundView, all_found, with_found}
 use Rattle.buckets.specs.BucketRows.{BucketView}

@@ -5,8 +5,8 @@ use Rattle.std.specs.List.Sorted.{IsStrictlySortedBy}
 use Rattle.std.proofs.lemmas.Bool.Decides.{nat_tests}
 use Rattle.std.proofs.lemmas.List.Sorted.{IsPermutation-refl, IsPermutation-sym, IsPermutation-trans, IsPermutation-append_left}
 use Rattle.std.proofs.lemmas.List.Sorted.{IsPermutation-append_right, IsPermutation-append_comm}
-use Rattle.probe.specs.declared.rows.Sale.{Sale}
-use Rattle.time_and_sales.specs.Listings.{IsByPlace, place_cmp}
+use Rattle.row_types.specs.declared.trade.Sale.{Sale}
+use Rattle.row_types.specs.SalesByPlace.{IsByPlace, place_cmp}
 use Rattle.time_and_sales.proofs.SortedByPlace.{one_listing}
 use Rattle.bars.specs.Bars.{AreBarsOf}
 use Rattle.bars.specs.Steps.{bar_of_one}

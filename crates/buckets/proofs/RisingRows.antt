@@ -10,7 +10,7 @@ use Rattle.std.proofs.lemmas.List.{append-nil, get_or_default}
 use Rattle.std.proofs.lemmas.List.Concat.{flat_map-append}
 use Rattle.std.proofs.lemmas.List.Elements.{All-append}
 use Rattle.std.proofs.lemmas.List.Folds.{find-append}
-use Rattle.order_table.specs.declared.row.OrderRow.{OrderRow}
+use Rattle.row_types.specs.declared.order.OrderRow.{OrderRow}
 use Rattle.order_table.specs.Orders.{first_repeated, first_row}
 use Rattle.order_table.proofs.RowsInOrder.{first_is_least, in_order_from_rising, rising_does_not_fall}
 use Rattle.order_table.proofs.Repeats.{none_repeated}

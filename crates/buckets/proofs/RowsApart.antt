@@ -3,10 +3,10 @@ use Rattle.std.proofs.Common.{ℕ, ◌<◌, Bool, List, length, map, nat_eq, ari
 use Rattle.std.specs.List.{IsDistinct}
 use Rattle.std.proofs.lemmas.List.{length-append}
 use Rattle.lists.specs.declared.limits.TheConstants.{TRADE_LIMIT}
-use Rattle.order_table.specs.declared.row.OrderRow.{OrderRow}
+use Rattle.row_types.specs.declared.order.OrderRow.{OrderRow}
 use Rattle.probe.specs.Pricing.{priced}
-use Rattle.probe.specs.declared.rows.Execution.{Execution}
-use Rattle.probe.specs.declared.rows.Sale.{Sale}
+use Rattle.row_types.specs.declared.trade.Execution.{Execution}
+use Rattle.row_types.specs.declared.trade.Sale.{Sale}
 use Rattle.probe.proofs.KeptSales.{length-kept}
 use Rattle.probe.proofs.PricedSales.{length-priced}
 use Rattle.day_rows.proofs.RowsByPlace.{executions_distinct, kept_apart, orders_distinct}

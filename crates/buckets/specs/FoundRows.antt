@@ -6,8 +6,8 @@ use Rattle.order_table.specs.Orders.{first_repeated, repeated_of}
 use Rattle.order_table.specs.declared.table.Repeated.{Repeated}
 use Rattle.probe.specs.Pricing.{first_unknown, priced, unknown_of}
 use Rattle.probe.specs.Trades.{kept}
-use Rattle.probe.specs.declared.rows.Sale.{Sale}
-use Rattle.probe.specs.declared.rows.Unknown.{Unknown}
+use Rattle.row_types.specs.declared.trade.Sale.{Sale}
+use Rattle.row_types.specs.declared.trade.Unknown.{Unknown}
 use Rattle.query.specs.declared.query.What.{What}
 use Rattle.morsel_rows.specs.Partitions.{PartitionView}
 use Rattle.buckets.specs.Products.{product_of}

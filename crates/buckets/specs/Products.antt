@@ -1,7 +1,7 @@
 -- What is made of sales: a listing by place, or a table of bars.
 -- Derived: a work's value is a function, so one listing and one table are written here; the answer isn't said by them.
 use Rattle.std.specs.Prelude.{ℕ, nat_lt, List, [], ◌∷◌, if◌then◌else◌}
-use Rattle.probe.specs.declared.rows.Sale.{Sale}
+use Rattle.row_types.specs.declared.trade.Sale.{Sale}
 use Rattle.bars.specs.Steps.{bar_of_one, merged_tables}
 use Rattle.bars.specs.declared.bar.Bar.{Bar}
 use Rattle.query.specs.declared.query.What.{What}

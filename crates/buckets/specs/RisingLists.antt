@@ -2,7 +2,7 @@
 -- Derived: it says where the code has its rows, and no answer is said by it.
 use Rattle.std.specs.Prelude.{◌<◌, ◌≤◌, List}
 use Rattle.std.specs.List.{All, AllPairs, flat_map}
-use Rattle.order_table.specs.declared.row.OrderRow.{OrderRow}
+use Rattle.row_types.specs.declared.order.OrderRow.{OrderRow}
 pub use Rattle.buckets.specs.declared.rising.Part.{Part}
 
 -- the rows of the lists, one after the other

@@ -27,7 +27,7 @@ pub(crate) struct RisingOrders<'a> {
 
 impl<'a> Model for RisingOrders<'a> {
     ghost use Rattle.std.specs.Prelude.{List};
-    ghost use Rattle.order_table.specs.declared.row.OrderRow.{OrderRow};
+    ghost use Rattle.row_types.specs.declared.order.OrderRow.{OrderRow};
     ghost use Rattle.buckets.specs.RisingLists.{AreRising, rows_of_lists};
 
     ghost Value = { List OrderRow };

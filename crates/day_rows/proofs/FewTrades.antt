@@ -10,8 +10,8 @@ use Rattle.itch_messages.specs.declared.message.Message.TheVariants.{Add, Execut
 use Rattle.itch_messages.proofs.Sizes.{size_of, size_of-message_of}
 use Rattle.day_file.specs.Frames.{PlacedBody, StandsFor, spelling}
 use Rattle.day_file.proofs.Readings.{length-spelling}
-use Rattle.probe.specs.declared.rows.Kind.TheVariants.{C}
-use Rattle.probe.specs.declared.rows.Sale.{Sale}
+use Rattle.row_types.specs.declared.trade.Kind.TheVariants.{C}
+use Rattle.row_types.specs.declared.trade.Sale.{Sale}
 use Rattle.day_rows.proofs.CountedMessages.{fewer_executions, fewer_own_priced}
 use Rattle.day_rows.proofs.RowsOfFrames.{given_once}
 use Rattle.day_rows.specs.Messages.{Placed, placed_at, messages_of, counted, execution_at, own_priced_at, executions, own_priced_sales}

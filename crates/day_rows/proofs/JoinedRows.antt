@@ -4,10 +4,10 @@ use Rattle.std.proofs.lemmas.List.{append-nil}
 use Rattle.std.proofs.lemmas.List.Elements.{filter_map-append}
 use Rattle.std.proofs.lemmas.List.Folds.{flat_map-map}
 use Rattle.lists.proofs.Lists.{filter_map-flat_map}
-use Rattle.order_table.specs.declared.row.OrderRow.{OrderRow}
-use Rattle.probe.specs.declared.rows.Execution.{Execution}
-use Rattle.probe.specs.declared.rows.Sale.{Sale}
-use Rattle.time_and_sales.specs.declared.directory.DirectoryRow.{DirectoryRow}
+use Rattle.row_types.specs.declared.order.OrderRow.{OrderRow}
+use Rattle.row_types.specs.declared.trade.Execution.{Execution}
+use Rattle.row_types.specs.declared.trade.Sale.{Sale}
+use Rattle.row_types.specs.declared.directory.DirectoryRow.{DirectoryRow}
 use Rattle.day_rows.specs.Messages.{Placed, order_row_at, execution_at, own_priced_at, break_of, directory_row_at}
 use Rattle.day_rows.specs.DayRows.{DayRows, all_rows, joined, no_rows, rows_of}
 

@@ -9,9 +9,9 @@ use Rattle.itch_messages.specs.declared.message.Message.TheVariants.{Add, Execut
 use Rattle.itch_messages.proofs.Laws.{FitsMessage-message_of}
 use Rattle.day_file.specs.Frames.{PlacedBody, StandsFor}
 use Rattle.day_file.proofs.BodyBytes.{bodies_are_bytes}
-use Rattle.probe.specs.declared.rows.Execution.{Execution}
-use Rattle.probe.specs.declared.rows.Kind.TheVariants.{C}
-use Rattle.probe.specs.declared.rows.Sale.{Sale}
+use Rattle.row_types.specs.declared.trade.Execution.{Execution}
+use Rattle.row_types.specs.declared.trade.Kind.TheVariants.{C}
+use Rattle.row_types.specs.declared.trade.Sale.{Sale}
 use Rattle.day_rows.specs.DayRows.{AreStamped, IsStamped, rows_of}
 use Rattle.day_rows.specs.Messages.{Placed, counted, execution_at, executions, is_counted, messages_of, own_priced_at, own_priced_sales, placed_at}
 

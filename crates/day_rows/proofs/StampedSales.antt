@@ -12,18 +12,18 @@ use Rattle.std.proofs.lemmas.List.Kept.{IsStrictlySortedBy-filter}
 use Rattle.std.proofs.lemmas.List.Sorted.{All-permutation, IsPermutation-map, IsPermutation-sym, IsPermutation-trans}
 use Rattle.itch_messages.specs.declared.message.Message.{Message}
 use Rattle.itch_messages.specs.declared.message.Message.TheVariants.{Add, Executed, ExecutedAt, Replace, Trade, Cross, Broken, Directory, Skipped}
-use Rattle.order_table.specs.declared.row.OrderRow.{OrderRow}
+use Rattle.row_types.specs.declared.order.OrderRow.{OrderRow}
 use Rattle.lists.proofs.Lists.{filter_map_as_flat_map, filter_map-flat_map, IsPermutation-filter, IsPermutation-both}
 use Rattle.lists.proofs.Order.{same_from_permutation, sorted-filter_map}
-use Rattle.probe.specs.declared.rows.Execution.{Execution}
-use Rattle.probe.specs.declared.rows.Sale.{Sale}
+use Rattle.row_types.specs.declared.trade.Execution.{Execution}
+use Rattle.row_types.specs.declared.trade.Sale.{Sale}
 use Rattle.probe.specs.Pricing.{price_of, sale_at, sale_of, priced}
 use Rattle.probe.specs.Trades.{is_kept, kept}
-use Rattle.probe.specs.declared.rows.Kind.TheVariants.{C}
-use Rattle.time_and_sales.specs.Listings.{place_cmp}
+use Rattle.row_types.specs.declared.trade.Kind.TheVariants.{C}
+use Rattle.row_types.specs.SalesByPlace.{place_cmp}
 use Rattle.itch_messages.specs.Body.{message_of}
 use Rattle.day_file.specs.Frames.{PlacedBody}
-use Rattle.time_and_sales.specs.declared.directory.DirectoryRow.{DirectoryRow}
+use Rattle.row_types.specs.declared.directory.DirectoryRow.{DirectoryRow}
 use Rattle.day_rows.specs.Messages.{Placed, placed_at, messages_of, order_row_at, execution_at, own_priced_at, directory_row_at, order_rows, executions}
 use Rattle.day_rows.specs.Messages.{own_priced_sales, break_numbers, directory_rows}
 use Rattle.day_rows.specs.Messages.{trade_at, trades}

@@ -5,10 +5,10 @@ use Rattle.std.specs.List.{flat_map}
 use Rattle.std.specs.List.Sorted.{IsStrictlySortedBy}
 use Rattle.std.specs.Ordering.{nat_cmp}
 use Rattle.itch_messages.specs.declared.message.Message.{Message}
-use Rattle.order_table.specs.declared.row.OrderRow.{OrderRow}
-use Rattle.probe.specs.declared.rows.Execution.{Execution}
-use Rattle.probe.specs.declared.rows.Sale.{Sale}
-use Rattle.time_and_sales.specs.declared.directory.DirectoryRow.{DirectoryRow}
+use Rattle.row_types.specs.declared.order.OrderRow.{OrderRow}
+use Rattle.row_types.specs.declared.trade.Execution.{Execution}
+use Rattle.row_types.specs.declared.trade.Sale.{Sale}
+use Rattle.row_types.specs.declared.directory.DirectoryRow.{DirectoryRow}
 use Rattle.lists.specs.declared.limits.TheConstants.{TIME_LIMIT}
 use Rattle.day_rows.specs.declared.row.Row.{Row}
 use Rattle.day_rows.specs.declared.row.Row.TheVariants as one

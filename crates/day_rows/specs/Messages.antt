@@ -8,12 +8,12 @@ use Rattle.itch_messages.specs.declared.message.Message.TheVariants.{Add, Execut
 use Rattle.day_file.specs.Frames.{PlacedBody}
 use Rattle.lists.specs.Least.{least_by}
 use Rattle.lists.specs.declared.limits.TheConstants.{NANOSECONDS}
-use Rattle.order_table.specs.declared.row.OrderRow.{OrderRow}
-use Rattle.probe.specs.declared.rows.Execution.{Execution}
-use Rattle.probe.specs.declared.rows.Sale.{Sale}
+use Rattle.row_types.specs.declared.order.OrderRow.{OrderRow}
+use Rattle.row_types.specs.declared.trade.Execution.{Execution}
+use Rattle.row_types.specs.declared.trade.Sale.{Sale}
 use Rattle.probe.specs.Pricing.{sale_of}
-use Rattle.probe.specs.declared.rows.Kind.TheVariants.{C, P, Q}
-use Rattle.time_and_sales.specs.declared.directory.DirectoryRow.{DirectoryRow}
+use Rattle.row_types.specs.declared.trade.Kind.TheVariants.{C, P, Q}
+use Rattle.row_types.specs.declared.directory.DirectoryRow.{DirectoryRow}
 
 -- a message, and where in the file its frame begins
 pub record Placed : Type 0 where

@@ -3,9 +3,7 @@ ghost use Rattle.std.specs.Prelude.{◌≡◌, Some};
 ghost use Rattle.day_rows.specs.DayRows.{AreStamped, IsStamped, rows_at, told};
 
 use itch_messages::{Add, Cross, Directory, Executed, ExecutedAt, Header, Message, Replace, Trade};
-use order_table::OrderRow;
-use probe::{Execution, Kind, Sale};
-use time_and_sales::DirectoryRow;
+use row_types::{DirectoryRow, Execution, Kind, OrderRow, Sale};
 
 /// The byte of an execution that is printable.
 const PRINTABLE: u8 = b'Y';

@@ -18,11 +18,9 @@ use crate::OutOfMemory;
 use crate::moment::counts;
 use crate::row::{Row, row_of};
 use itch_messages::Message;
-use order_table::OrderRow;
-use probe::{Execution, Sale};
+use row_types::{DirectoryRow, Execution, OrderRow, Sale};
 use std::alloc::{Allocator, Global};
 use std::marker::Model;
-use time_and_sales::DirectoryRow;
 
 /// What the messages of a day, or of a part of it, give: each list in the order of the messages.
 #[derive(Drop)]

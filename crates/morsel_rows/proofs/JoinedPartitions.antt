@@ -5,9 +5,9 @@ use Rattle.std.proofs.lemmas.List.FromFn.{get_or-map-range_with_len, length-map-
 use Rattle.std.proofs.lemmas.List.Folds.{flat_map-map}
 use Rattle.lists.specs.Least.{part, numbers_below}
 use Rattle.lists.proofs.Lists.{filter-flat_map}
-use Rattle.order_table.specs.declared.row.OrderRow.{OrderRow}
-use Rattle.probe.specs.declared.rows.Execution.{Execution}
-use Rattle.probe.specs.declared.rows.Sale.{Sale}
+use Rattle.row_types.specs.declared.order.OrderRow.{OrderRow}
+use Rattle.row_types.specs.declared.trade.Execution.{Execution}
+use Rattle.row_types.specs.declared.trade.Sale.{Sale}
 use Rattle.day_rows.specs.DayRows.{DayRows, all_rows}
 use Rattle.morsel_rows.specs.Partitions.{PartitionView, in_partitions, joined_partitions, no_rows_in, partition_at, partition_of}
 

@@ -9,9 +9,9 @@ use Rattle.itch_messages.specs.declared.message.Message.{Message}
 use Rattle.itch_messages.specs.declared.message.Message.TheVariants.{Add, Executed, ExecutedAt, Replace, Trade, Cross, Broken, Directory, Skipped}
 use Rattle.lists.specs.Least.{part}
 use Rattle.lists.specs.declared.limits.TheConstants.{TRADE_LIMIT}
-use Rattle.order_table.specs.declared.row.OrderRow.{OrderRow}
-use Rattle.probe.specs.declared.rows.Execution.{Execution}
-use Rattle.probe.specs.declared.rows.Sale.{Sale}
+use Rattle.row_types.specs.declared.order.OrderRow.{OrderRow}
+use Rattle.row_types.specs.declared.trade.Execution.{Execution}
+use Rattle.row_types.specs.declared.trade.Sale.{Sale}
 use Rattle.day_rows.specs.DayRows.{AreByPlace, rows_of}
 use Rattle.day_rows.specs.Messages.{Placed, order_row_at, execution_at, own_priced_at, executions, own_priced_sales}
 use Rattle.day_rows.proofs.TradesOfRows.{own_keeps_place}

@@ -1,7 +1,7 @@
 -- An order row in narrow memory.
 -- Derived: callers see a list of order rows.
 use Rattle.std.specs.Prelude.{ℕ, ◌+◌}
-use Rattle.order_table.specs.declared.row.OrderRow.{OrderRow}
+use Rattle.row_types.specs.declared.order.OrderRow.{OrderRow}
 use Rattle.morsel_rows.specs.declared.orders.Narrow.{Narrow}
 
 -- the row with its place

@@ -6,11 +6,11 @@ use Rattle.std.specs.Cmp.Lexicographic.{pointwise}
 use Rattle.std.proofs.Common.{ap, ap₂, refl}
 use Rattle.std.proofs.lemmas.Bool.{eqb-true}
 use Rattle.std.proofs.lemmas.Cmp.{and_equiv, nat_eq_equiv, lists_equiv}
-use Rattle.order_table.specs.declared.row.OrderRow.{OrderRow}
-use Rattle.probe.specs.declared.rows.Execution.{Execution}
-use Rattle.probe.specs.declared.rows.Kind.{Kind}
-use Rattle.probe.specs.declared.rows.Kind.TheVariants.{E, C, P, Q}
-use Rattle.probe.specs.declared.rows.Sale.{Sale}
+use Rattle.row_types.specs.declared.order.OrderRow.{OrderRow}
+use Rattle.row_types.specs.declared.trade.Execution.{Execution}
+use Rattle.row_types.specs.declared.trade.Kind.{Kind}
+use Rattle.row_types.specs.declared.trade.Kind.TheVariants.{E, C, P, Q}
+use Rattle.row_types.specs.declared.trade.Sale.{Sale}
 use Rattle.morsel_rows.specs.Partitions.{PartitionView}
 
 -- rows of which each field is the same

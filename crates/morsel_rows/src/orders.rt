@@ -10,7 +10,7 @@ ghost use Rattle.morsel_rows.specs.SameRows.{is_same_order, orders_equiv};
 
 use crate::OutOfMemory;
 use crate::rising::RisingRows;
-use order_table::OrderRow;
+use row_types::OrderRow;
 use std::alloc::{Allocator, Global};
 use std::marker::Model;
 
@@ -44,7 +44,7 @@ pub struct OrderList<A: Allocator = Global> {
 
 impl<A: Allocator> Model for OrderList<A> {
     ghost use Rattle.std.specs.Prelude.{List, ◌++◌, ◌+◌, ◌^◌, ◌≤◌, map};
-    ghost use Rattle.order_table.specs.declared.row.OrderRow.{OrderRow};
+    ghost use Rattle.row_types.specs.declared.order.OrderRow.{OrderRow};
     ghost use Rattle.morsel_rows.specs.NarrowRows.{widened};
 
     ghost Value = { List OrderRow };

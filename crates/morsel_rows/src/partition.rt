@@ -7,8 +7,7 @@ ghost use Rattle.morsel_rows.specs.SameRows.{is_same_partition, partition_equiv}
 
 use crate::OutOfMemory;
 use crate::orders::OrderList;
-use order_table::OrderRow;
-use probe::{Execution, Sale};
+use row_types::{Execution, OrderRow, Sale};
 use std::alloc::{Allocator, Global};
 use std::marker::Model;
 

@@ -5,7 +5,7 @@ ghost use Rattle.std.specs.Option.{IfSome};
 ghost use Rattle.morsel_rows.specs.NarrowRows.{widened};
 
 use crate::orders::{Narrow, widen};
-use order_table::OrderRow;
+use row_types::OrderRow;
 use std::marker::Model;
 
 /// The rows of a list, one or more, each of a greater reference than the row before it. They stay
@@ -20,7 +20,7 @@ pub struct RisingRows<'a> {
 impl<'a> Model for RisingRows<'a> {
     ghost use Rattle.std.specs.Prelude.{List, ◌+◌, ◌^◌, ◌<◌, ◌≤◌, length, map};
     ghost use Rattle.std.specs.List.{AllPairs};
-    ghost use Rattle.order_table.specs.declared.row.OrderRow.{OrderRow};
+    ghost use Rattle.row_types.specs.declared.order.OrderRow.{OrderRow};
     ghost use Rattle.morsel_rows.specs.NarrowRows.{widened};
 
     ghost Value = { List OrderRow };

@@ -21,11 +21,10 @@ use crate::OutOfMemory;
 use crate::partition::Partition;
 use day_rows::{Row, counts, row_of};
 use itch_messages::Message;
-use order_table::{OrderRow, partition};
-use probe::{Execution, Sale};
+use order_table::partition;
+use row_types::{DirectoryRow, Execution, OrderRow, Sale};
 use std::alloc::{Allocator, Global};
 use std::marker::Model;
-use time_and_sales::DirectoryRow;
 
 /// What the messages of one morsel give: the rows of orders and trades in partitions, the others
 /// together, each list in the order of the messages.

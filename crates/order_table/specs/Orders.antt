@@ -3,7 +3,7 @@
 use Rattle.std.specs.Prelude.{◌≡◌, ℕ, ◌==◌, nat_lt, Bool, ◌&&◌, if◌then◌else◌}
 use Rattle.std.specs.Prelude.{List, Option, Some, None, filter}
 use Rattle.std.specs.List.{find, list_any}
-pub use Rattle.order_table.specs.declared.row.OrderRow.{OrderRow}
+pub use Rattle.row_types.specs.declared.order.OrderRow.{OrderRow}
 pub use Rattle.order_table.specs.declared.table.OrderTable.{OrderTable}
 pub use Rattle.order_table.specs.declared.table.Repeated.{Repeated}
 use Rattle.lists.specs.Least.{least_by}

@@ -15,5 +15,6 @@ pub mod table;
 
 pub use lists::OutOfMemory;
 pub use prices::PricesExecutions;
-pub use row::{OrderRow, partition};
+pub use row::partition;
+pub use row_types::OrderRow;
 pub use table::{Built, OrderTable, Repeated};

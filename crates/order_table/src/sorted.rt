@@ -2,9 +2,9 @@
 ghost use Rattle.std.specs.Prelude.{◌≡◌, ◌==◌, List};
 ghost use Rattle.std.specs.List.{find};
 ghost use Rattle.std.specs.List.Sorted.{IsNonDecreasingBy};
-ghost use Rattle.order_table.specs.declared.row.OrderRow.{OrderRow as TheRow};
+ghost use Rattle.row_types.specs.declared.order.OrderRow.{OrderRow as TheRow};
 
-use crate::row::OrderRow;
+use row_types::OrderRow;
 use std::alloc::Allocator;
 use std::marker::Model;
 

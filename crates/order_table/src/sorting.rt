@@ -6,7 +6,7 @@ ghost use Rattle.order_table.specs.OneMoreRow.{earlier_row};
 ghost use Rattle.order_table.specs.Orders.{first_repeated};
 ghost use Rattle.order_table.specs.RowsInOrder.{IsInOrder};
 
-use crate::row::OrderRow;
+use row_types::OrderRow;
 
 /// Whether each reference is above those before it.
 pub(crate) fn rises(rows: &[OrderRow]) -> bool

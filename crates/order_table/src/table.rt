@@ -6,9 +6,9 @@ ghost use Rattle.order_table.specs.Orders.{kept_row, price_before, price_if_befo
 
 use crate::OutOfMemory;
 use crate::prices::PricesExecutions;
-use crate::row::OrderRow;
 use crate::sorted::SortedRows;
 use crate::sorting::{first_repeated, put_in_order, rises};
+use row_types::OrderRow;
 use std::alloc::{Allocator, Global};
 
 /// For each order reference the row of least place that gives it.

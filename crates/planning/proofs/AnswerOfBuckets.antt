@@ -7,16 +7,16 @@ use Rattle.lists.specs.Least.{numbers_below}
 use Rattle.lists.proofs.Least.{TellsApart-permutation}
 use Rattle.lists.proofs.Order.{TellsApart-from_distinct}
 use Rattle.order_table.specs.Orders.{first_repeated, repeated_of}
-use Rattle.order_table.specs.declared.row.OrderRow.{OrderRow}
+use Rattle.row_types.specs.declared.order.OrderRow.{OrderRow}
 use Rattle.order_table.specs.declared.table.Repeated.{Repeated}
 use Rattle.probe.specs.Pricing.{first_unknown, priced, unknown_of}
 use Rattle.probe.specs.Trades.{kept}
-use Rattle.probe.specs.declared.rows.Execution.{Execution}
-use Rattle.probe.specs.declared.rows.Sale.{Sale}
-use Rattle.probe.specs.declared.rows.Unknown.{Unknown}
+use Rattle.row_types.specs.declared.trade.Execution.{Execution}
+use Rattle.row_types.specs.declared.trade.Sale.{Sale}
+use Rattle.row_types.specs.declared.trade.Unknown.{Unknown}
 use Rattle.time_and_sales.specs.Names.{IsNamesOf, last_row, name_of, name_text}
 use Rattle.time_and_sales.specs.Texts.{listing_text}
-use Rattle.time_and_sales.specs.declared.directory.DirectoryRow.{DirectoryRow}
+use Rattle.row_types.specs.declared.directory.DirectoryRow.{DirectoryRow}
 use Rattle.time_and_sales.specs.declared.directory.Names.{Names}
 use Rattle.bars.specs.Bars.{all_sales}
 use Rattle.bars.proofs.Bars.{AreBarsOf-permutation}

@@ -15,15 +15,15 @@ use Rattle.lists.proofs.Lists.{IsPermutation-filter_map}
 use Rattle.lists.proofs.Order.{TellsApart-from_distinct}
 use Rattle.lists.proofs.Parts.{parts_are_all}
 use Rattle.order_table.specs.Orders.{first_repeated, repeated_of}
-use Rattle.order_table.specs.declared.row.OrderRow.{OrderRow}
+use Rattle.row_types.specs.declared.order.OrderRow.{OrderRow}
 use Rattle.order_table.specs.declared.table.Repeated.{Repeated}
 use Rattle.order_table.proofs.PartRows.{repeated_of_parts}
 use Rattle.probe.specs.Pricing.{first_unknown, priced, sale_of, unknown_of}
 use Rattle.probe.specs.Selection.{admits}
 use Rattle.probe.specs.Trades.{is_kept, kept}
-use Rattle.probe.specs.declared.rows.Execution.{Execution}
-use Rattle.probe.specs.declared.rows.Sale.{Sale}
-use Rattle.probe.specs.declared.rows.Unknown.{Unknown}
+use Rattle.row_types.specs.declared.trade.Execution.{Execution}
+use Rattle.row_types.specs.declared.trade.Sale.{Sale}
+use Rattle.row_types.specs.declared.trade.Unknown.{Unknown}
 use Rattle.probe.proofs.KeptSales.{length-kept}
 use Rattle.probe.proofs.PartSales.{first_unknown_of_parts, priced_in_part}
 use Rattle.probe.proofs.PricedSales.{length-priced}

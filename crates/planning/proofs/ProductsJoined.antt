@@ -7,17 +7,17 @@ use Rattle.std.proofs.lemmas.List.Elements.{All-append, All-cons, All-head, All-
 use Rattle.std.proofs.lemmas.List.Sorted.{All-permutation, IsPermutation-append, IsPermutation-map, IsPermutation-refl, IsPermutation-sym, IsPermutation-trans}
 use Rattle.std.proofs.lemmas.Map.Keys.{IsDistinct-IsPermutation}
 use Rattle.lists.specs.declared.limits.TheConstants.{TIME_LIMIT}
-use Rattle.probe.specs.declared.rows.Sale.{Sale}
+use Rattle.row_types.specs.declared.trade.Sale.{Sale}
 use Rattle.bars.specs.Bars.{AllSumsFit, AreBarsOfEach, IsTraded, IsUnionOf, all_bars, all_sales}
 use Rattle.bars.specs.Texts.{IsWritable}
 use Rattle.bars.specs.declared.bar.Bar.{Bar}
 use Rattle.bars.proofs.JoinedTables.{union_of_bars}
 use Rattle.bars.proofs.SumsAreBounded.{all_sums_fit, table_is_writable}
-use Rattle.time_and_sales.specs.Listings.{IsByPlace}
+use Rattle.row_types.specs.SalesByPlace.{IsByPlace}
 use Rattle.query.specs.Meaning.{Meaning}
 use Rattle.query.specs.declared.query.What.{What}
 use Rattle.query.specs.declared.query.What.TheVariants.{Sales, Bars}
-use Rattle.time_and_sales.specs.declared.directory.DirectoryRow.{DirectoryRow}
+use Rattle.row_types.specs.declared.directory.DirectoryRow.{DirectoryRow}
 use Rattle.day_rows.specs.DayRows.{IsStamped}
 use Rattle.day_rows.specs.Messages.{Placed}
 use Rattle.buckets.specs.FoundRows.{TotalView}

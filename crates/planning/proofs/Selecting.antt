@@ -2,9 +2,9 @@
 use Rattle.std.proofs.Common.{◌≡◌, ℕ, ◌<◌, ◌^◌, ◌&&◌, List, Option, Some, None, refl, ap}
 use Rattle.std.specs.declared.alloc.Global.{Global}
 use Rattle.probe.specs.Selection.{admits, has_kind, has_locate, has_time}
-use Rattle.probe.specs.declared.rows.Sale.{Sale}
+use Rattle.row_types.specs.declared.trade.Sale.{Sale}
 use Rattle.time_and_sales.specs.Names.{name_of}
-use Rattle.time_and_sales.specs.declared.directory.DirectoryRow.{DirectoryRow}
+use Rattle.row_types.specs.declared.directory.DirectoryRow.{DirectoryRow}
 use Rattle.query.specs.Meaning.{Meaning}
 use Rattle.query.specs.Selected.{has_name, locates_of}
 use Rattle.query.proofs.ListedLocates.{among_selected}

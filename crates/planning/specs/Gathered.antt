@@ -7,11 +7,11 @@ use Rattle.lists.specs.Least.{numbers_below}
 use Rattle.lists.specs.declared.limits.TheConstants.{TRADE_LIMIT}
 use Rattle.order_table.specs.declared.table.Repeated.{Repeated}
 use Rattle.probe.specs.Selection.{admits}
-use Rattle.probe.specs.declared.rows.Unknown.{Unknown}
-use Rattle.probe.specs.declared.rows.Sale.{Sale}
-use Rattle.time_and_sales.specs.Listings.{IsByPlace}
+use Rattle.row_types.specs.declared.trade.Unknown.{Unknown}
+use Rattle.row_types.specs.declared.trade.Sale.{Sale}
+use Rattle.row_types.specs.SalesByPlace.{IsByPlace}
 use Rattle.time_and_sales.specs.Texts.{listing_text}
-use Rattle.time_and_sales.specs.declared.directory.DirectoryRow.{DirectoryRow}
+use Rattle.row_types.specs.declared.directory.DirectoryRow.{DirectoryRow}
 use Rattle.bars.specs.Bars.{AreBarsOf, all_sales}
 use Rattle.bars.specs.Texts.{bars_text}
 use Rattle.bars.specs.declared.bar.Bar.{Bar}

@@ -6,7 +6,7 @@ use Rattle.std.specs.declared.alloc.Global.{Global}
 use Rattle.lists.specs.Least.{numbers_below}
 use Rattle.probe.specs.declared.selection.Selection.{Selection}
 use Rattle.time_and_sales.specs.Names.{name_of}
-use Rattle.time_and_sales.specs.declared.directory.DirectoryRow.{DirectoryRow}
+use Rattle.row_types.specs.declared.directory.DirectoryRow.{DirectoryRow}
 use Rattle.query.specs.Meaning.{Meaning}
 use Rattle.query.specs.Selected.{locates_of}
 use Rattle.pipelines.specs.declared.outcome.Linked.{Linked}

@@ -16,7 +16,7 @@ pub struct DayNames {
 
 impl Model for DayNames {
     ghost use Rattle.std.specs.Prelude.{List};
-    ghost use Rattle.time_and_sales.specs.declared.directory.DirectoryRow.{DirectoryRow as TheRow};
+    ghost use Rattle.row_types.specs.declared.directory.DirectoryRow.{DirectoryRow as TheRow};
     ghost use Rattle.time_and_sales.specs.Names.{IsNamesOf};
 
     ghost Value = { List TheRow };

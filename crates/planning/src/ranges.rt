@@ -1,7 +1,7 @@
 //! What all buckets list, joined by threads in ranges.
 ghost use Rattle.std.specs.Prelude.{◌≡◌, List, IfOk, filter_map, map};
 ghost use Rattle.std.specs.Arc.{arc_value};
-ghost use Rattle.probe.specs.declared.rows.Sale.{Sale};
+ghost use Rattle.row_types.specs.declared.trade.Sale.{Sale};
 ghost use Rattle.time_and_sales.specs.Names.{last_row, name_text};
 ghost use Rattle.bars.specs.Bars.{all_sales};
 ghost use Rattle.query.specs.declared.query.What.TheVariants.{Bars, Sales};

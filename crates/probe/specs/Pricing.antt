@@ -4,11 +4,11 @@ use Rattle.std.specs.Prelude.{ℕ, Bool, is_none, List, Option, filter, filter_m
 use Rattle.lists.specs.Least.{least_by}
 use Rattle.order_table.specs.declared.OrderRow.{OrderRow}
 use Rattle.order_table.specs.Orders.{price_before}
-pub use Rattle.probe.specs.declared.rows.Execution.{Execution}
-pub use Rattle.probe.specs.declared.rows.Kind.{Kind}
-pub use Rattle.probe.specs.declared.rows.Sale.{Sale}
-pub use Rattle.probe.specs.declared.rows.Unknown.{Unknown}
-use Rattle.probe.specs.declared.rows.Kind.TheVariants.{E}
+pub use Rattle.row_types.specs.declared.trade.Execution.{Execution}
+pub use Rattle.row_types.specs.declared.trade.Kind.{Kind}
+pub use Rattle.row_types.specs.declared.trade.Sale.{Sale}
+pub use Rattle.row_types.specs.declared.trade.Unknown.{Unknown}
+use Rattle.row_types.specs.declared.trade.Kind.TheVariants.{E}
 
 -- the price of the first row that gives the execution's reference, where that row stands before the execution
 abbrev pub price_of : List OrderRow → Execution → Option ℕ

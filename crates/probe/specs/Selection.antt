@@ -3,9 +3,9 @@
 use Rattle.std.specs.Prelude.{ℕ, ◌*◌, nat_lt, nat_le, Bool, true, ◌&&◌, Option, Some, None}
 use Rattle.lists.specs.Among.{is_among}
 use Rattle.lists.specs.declared.limits.TheConstants.{NANOSECONDS}
-use Rattle.probe.specs.declared.rows.Kind.{Kind}
-use Rattle.probe.specs.declared.rows.Kind.TheVariants.{E, C, P, Q}
-use Rattle.probe.specs.declared.rows.Sale.{Sale}
+use Rattle.row_types.specs.declared.trade.Kind.{Kind}
+use Rattle.row_types.specs.declared.trade.Kind.TheVariants.{E, C, P, Q}
+use Rattle.row_types.specs.declared.trade.Sale.{Sale}
 use Rattle.probe.specs.declared.selection.Kinds.{Kinds}
 use Rattle.probe.specs.declared.selection.Locates.{Locates}
 use Rattle.probe.specs.declared.selection.Locates.TheVariants.{All, Listed}

@@ -2,7 +2,7 @@
 -- To be believed.
 use Rattle.std.specs.Prelude.{ℕ, nat_lt, Bool, ◌&&◌, not, List, filter}
 use Rattle.lists.specs.Among.{is_among}
-use Rattle.probe.specs.declared.rows.Sale.{Sale}
+use Rattle.row_types.specs.declared.trade.Sale.{Sale}
 
 -- no break has the sale's match number, the selection has the sale, and it has more than zero shares
 abbrev pub is_kept : List ℕ → (Sale → Bool) → Sale → Bool

@@ -3,9 +3,9 @@ ghost use Rattle.std.specs.Prelude.{◌≡◌};
 ghost use Rattle.probe.specs.Selection.{admits};
 ghost use Rattle.probe.specs.Trades.{kept};
 
-use crate::rows::Sale;
 use crate::selection::Selection;
 use broken_trades::Breaks;
+use row_types::Sale;
 use std::alloc::Allocator;
 
 /// Retains, in their order, the sales of more than zero shares that the selection admits and no

@@ -8,7 +8,6 @@
 mod keeping;
 mod locates;
 mod pricing;
-mod rows;
 mod selection;
 
 pub use broken_trades::Breaks;
@@ -16,5 +15,5 @@ pub use keeping::keep;
 pub use locates::LocateList;
 pub use order_table::{OrderTable, OutOfMemory, PricesExecutions};
 pub use pricing::{Priced, price_all, price_into};
-pub use rows::{Execution, Kind, Sale, Unknown};
+pub use row_types::{Execution, Kind, Sale, Unknown};
 pub use selection::{Kinds, Locates, Selection, Span};

@@ -8,8 +8,8 @@ ghost use Rattle.order_table.specs.Orders.{IsTableOf};
 ghost use Rattle.probe.specs.PricedBefore.{IsPricingOf};
 ghost use Rattle.probe.specs.Pricing.{Execution as TheExecution, first_unknown, priced, sale_at, unknown_of};
 
-use crate::rows::{Execution, Kind, Sale, Unknown};
 use order_table::{OrderTable, OutOfMemory, PricesExecutions};
+use row_types::{Execution, Kind, Sale, Unknown};
 use std::alloc::{Allocator, Global};
 
 /// The sales of a list of executions, and the first of them that has no price.

@@ -1,11 +1,11 @@
 //! Which sales a query asks for.
 ghost use Rattle.std.specs.Prelude.{◌≡◌, true};
 ghost use Rattle.probe.specs.Selection.{admits, has_kind, has_locate, is_within};
-ghost use Rattle.probe.specs.declared.rows.Sale.{Sale};
+ghost use Rattle.row_types.specs.declared.trade.Sale.{Sale};
 
 use crate::locates::LocateList;
-use crate::rows::{Kind, Sale};
 use lists::limits::NANOSECONDS;
+use row_types::{Kind, Sale};
 use std::alloc::{Allocator, Global};
 
 /// The locates whose sales are asked for.

@@ -1,9 +1,9 @@
 -- What the steps of `plain` give each other makes the answer.
 use Rattle.std.proofs.Common.{◌≡◌, ℕ, List, Option, Some, None, Result, Ok, Err, IfOk, IfErr, MatchOption, ap, subst}
 use Rattle.std.specs.Prelude.{IsSomeAnd}
-use Rattle.order_table.specs.declared.row.OrderRow.{OrderRow}
+use Rattle.row_types.specs.declared.order.OrderRow.{OrderRow}
 use Rattle.order_table.specs.Orders.{first_repeated}
-use Rattle.probe.specs.declared.rows.Execution.{Execution}
+use Rattle.row_types.specs.declared.trade.Execution.{Execution}
 use Rattle.probe.specs.Pricing.{first_unknown}
 use Rattle.query.specs.Meaning.{Meaning}
 use Rattle.answers.specs.Answers.{IsAnswerToMessages, IsTextOfMessages}

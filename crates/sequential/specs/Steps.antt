@@ -3,9 +3,9 @@
 use Rattle.std.specs.Prelude.{◌≡◌, ℕ, ◌<◌, ◌+◌, List, Option, None, MatchOption, IsSomeAnd, length}
 use Rattle.lists.specs.declared.limits.TheConstants.{TRADE_LIMIT}
 use Rattle.day_file.specs.Frames.{PlacedBody, StandsFor}
-use Rattle.order_table.specs.declared.row.OrderRow.{OrderRow}
+use Rattle.row_types.specs.declared.order.OrderRow.{OrderRow}
 use Rattle.order_table.specs.Orders.{first_repeated}
-use Rattle.probe.specs.declared.rows.Execution.{Execution}
+use Rattle.row_types.specs.declared.trade.Execution.{Execution}
 use Rattle.probe.specs.Pricing.{first_unknown}
 use Rattle.day_rows.specs.DayRows.{AreByPlace, DayRows, rows_of}
 use Rattle.day_rows.specs.Messages.{Placed, messages_of, counted, first_wrong}

@@ -5,7 +5,7 @@ ghost use Rattle.probe.specs.Pricing.{priced};
 ghost use Rattle.probe.specs.Selection.{admits};
 ghost use Rattle.probe.specs.Trades.{kept};
 ghost use Rattle.query.specs.Meaning.{Meaning};
-ghost use Rattle.time_and_sales.specs.Listings.{IsByPlace};
+ghost use Rattle.row_types.specs.SalesByPlace.{IsByPlace};
 ghost use Rattle.time_and_sales.specs.Names.{last_row, name_text};
 ghost use Rattle.answers.specs.Answers.{IsAnswer, IsAnswerToMessages, IsTextOfSales, told_by};
 ghost use Rattle.day_rows.specs.DayRows.{AreByPlace, IsStamped, rows_of};

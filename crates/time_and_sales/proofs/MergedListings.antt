@@ -14,8 +14,8 @@ use Rattle.std.proofs.lemmas.List.Sorted.{IsNonDecreasingBy-from_all_adjacent}
 use Rattle.std.proofs.lemmas.Iterator.Adapters.{YieldsList-from_vec}
 use Rattle.std.proofs.lemmas.Map.Keys.{sorted_head, sorted_tail}
 use Rattle.itertools.specs.KMerge.{SourcesGive, joined_lists}
-use Rattle.probe.specs.declared.rows.Sale.{Sale}
-use Rattle.time_and_sales.specs.Listings.{place_cmp, IsByPlace}
+use Rattle.row_types.specs.declared.trade.Sale.{Sale}
+use Rattle.row_types.specs.SalesByPlace.{place_cmp, IsByPlace}
 use Rattle.time_and_sales.proofs.SortedByPlace.{sorted_by_place}
 
 -- ---- what the parts give

@@ -11,8 +11,8 @@ use Rattle.std.proofs.lemmas.List.Elements.{filter-append, All-filter, All-get_o
 use Rattle.std.proofs.lemmas.List.Kept.{IsStrictlySortedBy-filter}
 use Rattle.std.proofs.lemmas.List.Sorted.{All-permutation, IsNonDecreasingBy-from_all_adjacent, IsPermutation-sym, IsPermutation-trans}
 use Rattle.lists.proofs.Lists.{IsPermutation-filter}
-use Rattle.probe.specs.declared.rows.Sale.{Sale}
-use Rattle.time_and_sales.specs.Listings.{place_cmp, IsByPlace}
+use Rattle.row_types.specs.declared.trade.Sale.{Sale}
+use Rattle.row_types.specs.SalesByPlace.{place_cmp, IsByPlace}
 use Rattle.time_and_sales.specs.Texts.{lines_text, sale_line}
 use Rattle.time_and_sales.proofs.MergedListings.{in_order_by}
 use Rattle.time_and_sales.proofs.SortedByPlace.{one_listing}

@@ -2,11 +2,11 @@
 ghost use Rattle.std.specs.Prelude.{◌≡◌, List, [], ◌++◌, map, nat_eq, nat_lt, IsOk, IfOk, OnOk, OnErr, All, ⊤};
 ghost use Rattle.std.specs.List.{IsDistinct, flat_map};
 ghost use Rattle.std.specs.List.Sorted.{IsPermutation};
-ghost use Rattle.time_and_sales.specs.Listings.{IsByPlace};
+ghost use Rattle.row_types.specs.SalesByPlace.{IsByPlace};
 
 use crate::OutOfMemory;
 use itertools::{Itertools, MergePredicate};
-use probe::Sale;
+use row_types::Sale;
 use std::alloc::{Allocator, Global};
 use std::marker::Model;
 
@@ -18,8 +18,8 @@ pub struct Listing<A: Allocator = Global> {
 
 impl<A: Allocator> Model for Listing<A> {
     ghost use Rattle.std.specs.Prelude.{List};
-    ghost use Rattle.probe.specs.declared.rows.Sale.{Sale as TheSale};
-    ghost use Rattle.time_and_sales.specs.Listings.{IsByPlace};
+    ghost use Rattle.row_types.specs.declared.trade.Sale.{Sale as TheSale};
+    ghost use Rattle.row_types.specs.SalesByPlace.{IsByPlace};
 
     ghost Value = { List TheSale };
 

@@ -3,8 +3,8 @@ ghost use Rattle.std.specs.Prelude.{◌≡◌, ◌<◌, ◌≤◌, ◌++◌, All
 ghost use Rattle.std.specs.List.{IsDistinct, flat_map};
 ghost use Rattle.std.specs.List.Sorted.{IsNonDecreasing, IsPermutation};
 ghost use Rattle.lists.specs.declared.limits.TheConstants.{TIME_LIMIT};
-ghost use Rattle.probe.specs.declared.rows.Sale.{Sale};
-ghost use Rattle.time_and_sales.specs.Listings.{IsByPlace};
+ghost use Rattle.row_types.specs.declared.trade.Sale.{Sale};
+ghost use Rattle.row_types.specs.SalesByPlace.{IsByPlace};
 ghost use Rattle.time_and_sales.specs.Names.{last_row, name_text};
 ghost use Rattle.time_and_sales.specs.Parted.{is_in_first};
 ghost use Rattle.time_and_sales.specs.Texts.{lines_text};
@@ -14,7 +14,7 @@ use crate::directory::Names;
 use crate::listings::Listing;
 use crate::pieces::{bounds_of, texts_of};
 use crate::texts::write_sale;
-use probe::Sale;
+use row_types::Sale;
 use std::alloc::Global;
 use std::thread::Threads;
 

@@ -1,6 +1,6 @@
 use Rattle.std.proofs.Common.{◌++◌, ap₂, ◌∙◌}
-use Rattle.probe.specs.declared.rows.Kind.TheVariants.{E}
-use Rattle.probe.specs.declared.rows.Sale.{Sale}
+use Rattle.row_types.specs.declared.trade.Kind.TheVariants.{E}
+use Rattle.row_types.specs.declared.trade.Sale.{Sale}
 use Rattle.std.proofs.Common.{get_or}
 use Rattle.time_and_sales.specs.Names.{last_row, name_text}
 use Rattle.time_and_sales.specs.Texts.{sale_line}

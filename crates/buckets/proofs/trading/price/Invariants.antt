@@ -1,5 +1,5 @@
 use Rattle.std.proofs.Common.{List, take}
-use Rattle.order_table.specs.declared.row.OrderRow.{OrderRow}
+use Rattle.row_types.specs.declared.order.OrderRow.{OrderRow}
 use Rattle.probe.specs.PricedBefore.{IsPricingOf}
 use Rattle.buckets.specs.BucketRows.{rows_of_parts}
 use Rattle.buckets.proofs.trading.price.Given as goal

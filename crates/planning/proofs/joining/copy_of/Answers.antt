@@ -1,8 +1,8 @@
 use Rattle.std.proofs.Common.{IsPermutation, map, nat_eq, ◌∙◌, subst, sym}
 use Rattle.std.specs.List.{IsDistinct}
 use Rattle.std.proofs.lemmas.List.Sorted.{IsPermutation-sym}
-use Rattle.probe.specs.declared.rows.Sale.{Sale}
-use Rattle.time_and_sales.specs.Listings.{IsByPlace}
+use Rattle.row_types.specs.declared.trade.Sale.{Sale}
+use Rattle.row_types.specs.SalesByPlace.{IsByPlace}
 use Rattle.time_and_sales.proofs.SortedByPlace.{one_listing}
 use Rattle.answers.proofs.SelectedSales.{listing_places}
 use Rattle.planning.proofs.joining.copy_of.Goals as goal

@@ -2,7 +2,7 @@ use Rattle.std.proofs.Common.{◌<◌, ◌∙◌, All, List, map, sym, ap, subst
 use Rattle.std.specs.Arc.{arc_value}
 use Rattle.std.proofs.lemmas.List.Sorted.{IsPermutation-trans}
 use Rattle.lists.specs.declared.limits.TheConstants.{TIME_LIMIT}
-use Rattle.probe.specs.declared.rows.Sale.{Sale}
+use Rattle.row_types.specs.declared.trade.Sale.{Sale}
 use Rattle.time_and_sales.specs.Names.{last_row, name_text}
 use Rattle.time_and_sales.specs.Texts.{listing_text}
 use Rattle.planning.proofs.ProductsJoined.{listing_fits, listings_apart, listings_are, on_ok}

@@ -2,7 +2,7 @@ use Rattle.std.proofs.Common.{Bor, List, Some, None, append-nil, ap, filter_map,
 use Rattle.std.specs.Arc.{arc_value}
 use Rattle.std.proofs.lemmas.List.{take_all}
 use Rattle.lists.proofs.Lists.{map_more}
-use Rattle.probe.specs.declared.rows.Sale.{Sale}
+use Rattle.row_types.specs.declared.trade.Sale.{Sale}
 use Rattle.planning.specs.Gathered.{listing_of}
 use Rattle.planning.proofs.GatheredRows.{given_more}
 use Rattle.planning.proofs.ranges.listings.Goals as goal

@@ -1,6 +1,6 @@
 use Rattle.std.proofs.Common.{◌≡◌, Bor, List, filter_map, map, take}
 use Rattle.std.specs.Arc.{arc_value}
-use Rattle.probe.specs.declared.rows.Sale.{Sale}
+use Rattle.row_types.specs.declared.trade.Sale.{Sale}
 use Rattle.planning.specs.Gathered.{listing_of}
 use Rattle.planning.proofs.ranges.listings.Given as goal
 

@@ -1,7 +1,7 @@
 use Rattle.std.proofs.Common.{◌<◌, ◌^◌, List, All, nat_le, sym, subst}
 use Rattle.std.proofs.lemmas.Bool.{and_parts, leb-true}
 use Rattle.std.proofs.lemmas.List.Elements.{All-weaker}
-use Rattle.probe.specs.declared.rows.Sale.{Sale}
+use Rattle.row_types.specs.declared.trade.Sale.{Sale}
 use Rattle.bars.specs.Texts.{IsWritable}
 use Rattle.bars.specs.declared.bar.Bar.{Bar}
 use Rattle.bars.proofs.SumsAreBounded.{table_is_writable}

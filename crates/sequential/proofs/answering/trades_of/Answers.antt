@@ -1,8 +1,8 @@
 use Rattle.std.proofs.Common.{◌∙◌, ◌++◌, List, All, map, nat_eq, sym, ap, subst}
 use Rattle.std.specs.List.{IsDistinct}
-use Rattle.order_table.specs.declared.row.OrderRow.{OrderRow}
-use Rattle.probe.specs.declared.rows.Execution.{Execution}
-use Rattle.probe.specs.declared.rows.Sale.{Sale}
+use Rattle.row_types.specs.declared.order.OrderRow.{OrderRow}
+use Rattle.row_types.specs.declared.trade.Execution.{Execution}
+use Rattle.row_types.specs.declared.trade.Sale.{Sale}
 use Rattle.day_rows.specs.DayRows.{DayRows, IsStamped}
 use Rattle.day_rows.proofs.RowsByPlace.{executions_distinct, orders_distinct}
 use Rattle.day_rows.proofs.StampedSales.{fits_all}

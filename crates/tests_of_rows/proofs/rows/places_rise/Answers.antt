@@ -3,7 +3,7 @@ use Rattle.std.specs.List.{AllPairs, IsDistinct}
 use Rattle.std.proofs.lemmas.List.{length-map, get_or-map}
 use Rattle.std.proofs.lemmas.List.Sorted.{answers_always}
 use Rattle.std.proofs.lemmas.Map.Keys.{IsDistinct-from_apart}
-use Rattle.order_table.specs.declared.row.OrderRow.{OrderRow}
+use Rattle.row_types.specs.declared.order.OrderRow.{OrderRow}
 use Rattle.order_table.proofs.RowsInOrder.{rising_from_answer}
 use Rattle.tests_of_rows.proofs.rows.places_rise.Goals as goal
 

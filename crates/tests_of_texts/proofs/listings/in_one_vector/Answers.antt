@@ -1,7 +1,7 @@
 use Rattle.std.proofs.Common.{◌≡◌, ◌++◌, [], ◌∷◌, eqb, map, sym, ap, ◌∙◌, subst, List}
 use Rattle.std.specs.List.{IsDistinct, flat_map}
 use Rattle.std.proofs.lemmas.List.{append-nil}
-use Rattle.probe.specs.declared.rows.Sale.{Sale}
+use Rattle.row_types.specs.declared.trade.Sale.{Sale}
 use Rattle.tests_of_texts.proofs.listings.in_one_vector.Goals as goal
 
 abbrev AreApart : List Sale → Type 0

@@ -2,7 +2,7 @@ use Rattle.std.proofs.Common.{◌≡◌, ◌<◌, ◌^◌, eqb, map, sym, subst,
 use Rattle.std.specs.List.{IsDistinct}
 use Rattle.std.specs.List.Sorted.{IsPermutation}
 use Rattle.std.proofs.lemmas.List.Sorted.{All-permutation}
-use Rattle.probe.specs.declared.rows.Sale.{Sale}
+use Rattle.row_types.specs.declared.trade.Sale.{Sale}
 use Rattle.tests_of_texts.proofs.sale_ranges.listed.Goals as goal
 
 pub of_sales-requires : goal.of_sales-requires

@@ -1,6 +1,6 @@
 use Rattle.std.proofs.Common.{◌≡◌, ◌++◌, [], ◌∷◌, eqb, map, sym, ap, ◌∙◌, subst, List}
 use Rattle.std.specs.List.{IsDistinct, flat_map}
-use Rattle.probe.specs.declared.rows.Sale.{Sale}
+use Rattle.row_types.specs.declared.trade.Sale.{Sale}
 use Rattle.tests_of_texts.proofs.sale_ranges.merged.Goals as goal
 
 abbrev AreApart : List (List Sale) → Type 0

@@ -8,8 +8,8 @@ use Rattle.std.proofs.lemmas.List.Elements.{All-same}
 use Rattle.std.proofs.lemmas.Iterator.Adapters.{YieldsList-from_vec}
 use Rattle.itertools.specs.KMerge.{kmerge_steps, joined_lists}
 use Rattle.itertools.proofs.AdaptorLemmas.{items_from_whole_run}
-use Rattle.probe.specs.declared.rows.Sale.{Sale}
-use Rattle.time_and_sales.specs.Listings.{IsByPlace}
+use Rattle.row_types.specs.declared.trade.Sale.{Sale}
+use Rattle.row_types.specs.SalesByPlace.{IsByPlace}
 use Rattle.time_and_sales.proofs.MergedListings.{parts_give, parts_in_order, items_of, joined_items, collected, before, by_place_from_order}
 use Rattle.time_and_sales.proofs.listings.merged.Goals as goal
 

@@ -1,6 +1,6 @@
 use Rattle.std.proofs.Common.{rules, sym, ◌∙◌}
 use Rattle.std.proofs.lemmas.List.Sorted.{IsNonDecreasingBy-from_sort_by_key, IsPermutation-trans}
-use Rattle.probe.specs.declared.rows.Sale.{Sale}
+use Rattle.row_types.specs.declared.trade.Sale.{Sale}
 use Rattle.time_and_sales.proofs.SortedByPlace.{sorted_by_place, on_ok}
 use Rattle.time_and_sales.proofs.listings.put_by_place.Goals as goal
 

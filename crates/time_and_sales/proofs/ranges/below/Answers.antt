@@ -1,7 +1,7 @@
 use Rattle.std.proofs.Common.{rules, ltb, sym, subst}
 use Rattle.std.proofs.lemmas.List.Sorted.{IsPartitionPoint-from_clause, IsPartitionedBy-ltb}
-use Rattle.probe.specs.declared.rows.Sale.{Sale}
-use Rattle.time_and_sales.specs.Listings.{IsByPlace}
+use Rattle.row_types.specs.declared.trade.Sale.{Sale}
+use Rattle.row_types.specs.SalesByPlace.{IsByPlace}
 use Rattle.time_and_sales.proofs.RangesJoined.{passing_front}
 use Rattle.time_and_sales.proofs.SalesInRanges.{places_rise, some_by_place}
 use Rattle.time_and_sales.proofs.ranges.below.Goals as goal

@@ -1,7 +1,7 @@
 use Rattle.std.proofs.Common.{rules, ◌-◌, drop, length, ltb, ◌∙◌, arith, length-drop}
 use Rattle.std.proofs.lemmas.List.{take_all}
 use Rattle.std.proofs.lemmas.List.Sorted.{IsPartitionPoint-from_clause, IsPartitionedBy-ltb}
-use Rattle.probe.specs.declared.rows.Sale.{Sale}
+use Rattle.row_types.specs.declared.trade.Sale.{Sale}
 use Rattle.time_and_sales.proofs.RangesJoined.{failing_back}
 use Rattle.time_and_sales.proofs.SalesInRanges.{places_rise}
 use Rattle.time_and_sales.proofs.ranges.from.Goals as goal

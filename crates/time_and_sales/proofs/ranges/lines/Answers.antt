@@ -1,8 +1,8 @@
 use Rattle.std.proofs.Common.{ℕ, List, Bor, ◌++◌, ◌<◌, ap, ap₂, arith, get_or, sym, take, ◌∙◌}
 use Rattle.std.proofs.lemmas.List.{length-map}
 use Rattle.lists.specs.declared.limits.TheConstants.{TIME_LIMIT}
-use Rattle.probe.specs.declared.rows.Kind.TheVariants.{E}
-use Rattle.probe.specs.declared.rows.Sale.{Sale}
+use Rattle.row_types.specs.declared.trade.Kind.TheVariants.{E}
+use Rattle.row_types.specs.declared.trade.Sale.{Sale}
 use Rattle.time_and_sales.specs.Names.{last_row, name_text}
 use Rattle.time_and_sales.specs.Texts.{lines_text, sale_line}
 use Rattle.time_and_sales.proofs.SalesInRanges.{lines_more, seen, seen_at, seen_has}

@@ -1,5 +1,5 @@
 use Rattle.std.proofs.Common.{◌≡◌, Bor, map, take}
-use Rattle.probe.specs.declared.rows.Sale.{Sale}
+use Rattle.row_types.specs.declared.trade.Sale.{Sale}
 use Rattle.time_and_sales.specs.Names.{last_row, name_text}
 use Rattle.time_and_sales.specs.Texts.{lines_text}
 use Rattle.time_and_sales.proofs.ranges.lines.Given as goal

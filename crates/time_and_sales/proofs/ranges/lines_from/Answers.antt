@@ -1,6 +1,6 @@
 use Rattle.std.proofs.Common.{ℕ, List, get_or, map, arith}
 use Rattle.std.proofs.lemmas.Result.{IfOk-weaker}
-use Rattle.probe.specs.declared.rows.Sale.{Sale}
+use Rattle.row_types.specs.declared.trade.Sale.{Sale}
 use Rattle.time_and_sales.specs.Names.{last_row, name_text}
 use Rattle.time_and_sales.specs.Texts.{lines_text}
 use Rattle.time_and_sales.proofs.MadeTexts.{both_ok}

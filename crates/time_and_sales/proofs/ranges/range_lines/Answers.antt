@@ -1,7 +1,7 @@
 use Rattle.std.proofs.Common.{ℕ, List, Bor, ◌<◌, ◌∙◌, All, ap, map, subst, sym}
 use Rattle.std.proofs.lemmas.Result.{IfOk-weaker}
 use Rattle.lists.specs.declared.limits.TheConstants.{TIME_LIMIT}
-use Rattle.probe.specs.declared.rows.Sale.{Sale}
+use Rattle.row_types.specs.declared.trade.Sale.{Sale}
 use Rattle.time_and_sales.specs.Names.{last_row, name_text}
 use Rattle.time_and_sales.specs.Parted.{is_in_first}
 use Rattle.time_and_sales.specs.Texts.{lines_text}

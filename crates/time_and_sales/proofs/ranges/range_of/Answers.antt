@@ -1,7 +1,7 @@
 use Rattle.std.proofs.Common.{rules, ◌∙◌, filter, List, IsPermutation, ap, eqb, map, subst, sym, ◌++◌, Bor}
 use Rattle.std.specs.List.{IsDistinct}
 use Rattle.std.proofs.lemmas.List.Sorted.{IsNonDecreasingBy-from_sort_by_key, IsPermutation-map}
-use Rattle.probe.specs.declared.rows.Sale.{Sale}
+use Rattle.row_types.specs.declared.trade.Sale.{Sale}
 use Rattle.time_and_sales.specs.Parted.{is_in_first}
 use Rattle.time_and_sales.proofs.SalesInRanges.{listed, range_more, range_whole, seen, seen_rise, some_apart}
 use Rattle.time_and_sales.proofs.SortedByPlace.{sorted_by_place}

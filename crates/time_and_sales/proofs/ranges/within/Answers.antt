@@ -1,5 +1,5 @@
 use Rattle.std.proofs.Common.{not, filter, get_or, ltb, sym, ap, ◌∙◌, arith}
-use Rattle.probe.specs.declared.rows.Sale.{Sale}
+use Rattle.row_types.specs.declared.trade.Sale.{Sale}
 use Rattle.time_and_sales.proofs.RangesJoined.{no_bound, two_bounds}
 use Rattle.time_and_sales.proofs.ranges.within.Goals as goal
 

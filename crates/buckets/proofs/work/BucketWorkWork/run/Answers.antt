@@ -2,7 +2,7 @@ use Rattle.std.proofs.Common.{◌≡◌, ◌<◌, ◌∙◌, All, Bool, Bor, Lis
 use Rattle.std.specs.List.{IsDistinct}
 use Rattle.lists.specs.declared.limits.TheConstants.{TRADE_LIMIT}
 use Rattle.probe.specs.Trades.{kept}
-use Rattle.probe.specs.declared.rows.Sale.{Sale}
+use Rattle.row_types.specs.declared.trade.Sale.{Sale}
 use Rattle.probe.proofs.KeptSales.{kept_have_shares}
 use Rattle.morsel_rows.specs.Partitions.{PartitionView}
 use Rattle.buckets.specs.BucketRows.{rows_of_parts}

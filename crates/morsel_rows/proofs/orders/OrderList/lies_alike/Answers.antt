@@ -1,6 +1,6 @@
 use Rattle.std.proofs.Common.{◌≡◌, ℕ, true, List, ◌++◌, ◌∙◌, map, sym}
-use Rattle.order_table.specs.declared.row.OrderRow.{OrderRow}
-use Rattle.order_table.specs.contracts.row.OrderRowPartialEq.TheImpl as order_rows
+use Rattle.row_types.specs.declared.order.OrderRow.{OrderRow}
+use Rattle.row_types.specs.contracts.order.OrderRowPartialEq.TheImpl as order_rows
 use Rattle.morsel_rows.specs.NarrowRows.{widened}
 use Rattle.morsel_rows.specs.SameRows.{and_left, and_right, number, same_lists, same_order}
 use Rattle.morsel_rows.specs.contracts.orders.NarrowPartialEq.TheImpl as narrow_rows

@@ -2,7 +2,7 @@ use Rattle.std.proofs.Common.{◌∙◌, Some, ap, eqb, ltb, map, refl, rules, s
 use Rattle.std.specs.List.{find}
 use Rattle.std.specs.Slice.{IsItemAt}
 use Rattle.std.proofs.lemmas.List.Sorted.{IsPartitionPoint-from_clause, IsPartitionedBy-ltb}
-use Rattle.order_table.specs.declared.row.OrderRow.{OrderRow}
+use Rattle.row_types.specs.declared.order.OrderRow.{OrderRow}
 use Rattle.order_table.proofs.RowsInOrder.{found_itself, found_another, found_none, rising_does_not_fall}
 use Rattle.morsel_rows.specs.NarrowRows.{widened}
 use Rattle.morsel_rows.specs.declared.orders.Narrow.{Narrow}

@@ -1,6 +1,6 @@
 use Rattle.std.proofs.Common.{◌-◌, ◌≤◌, get_or, length, subst}
 use Rattle.std.specs.List.{All}
-use Rattle.order_table.specs.declared.row.OrderRow.{OrderRow}
+use Rattle.row_types.specs.declared.order.OrderRow.{OrderRow}
 use Rattle.morsel_rows.specs.declared.orders.Narrow.{Narrow}
 use Rattle.morsel_rows.proofs.SearchedRows.{greatest_wide}
 use Rattle.morsel_rows.proofs.rising.RisingRows.greatest.Goals as goal

@@ -1,7 +1,7 @@
 use Rattle.std.proofs.Common.{rules, ◌∷◌, ◌++◌, map, sym, ap, ◌∙◌, subst, IsPermutation, eqb}
 use Rattle.std.specs.List.{IsDistinct}
 use Rattle.std.specs.Vec.Iter.{into_iter_items}
-use Rattle.probe.specs.declared.rows.Sale.{Sale}
+use Rattle.row_types.specs.declared.trade.Sale.{Sale}
 use Rattle.time_and_sales.proofs.MergedListings.{items_of, apart_more, joined_lists_of, no_parts_yet, parts_by_place, none_left}
 use Rattle.time_and_sales.proofs.listings.Listing.merge_all.Goals as goal
 

@@ -1,6 +1,6 @@
 use Rattle.std.proofs.Common.{◌≡◌, ◌++◌, All}
 use Rattle.std.specs.Vec.Iter.{into_iter_items}
-use Rattle.time_and_sales.specs.Listings.{IsByPlace}
+use Rattle.row_types.specs.SalesByPlace.{IsByPlace}
 use Rattle.time_and_sales.proofs.MergedListings.{items_of}
 use Rattle.time_and_sales.proofs.listings.Listing.merge_all.Given as goal
 

@@ -1,4 +1,4 @@
-//! The rows that go into pricing and come out of it.
+//! Executions, and trades with their prices.
 
 /// What an Order Executed message tells (TotalView-ITCH 5.0, section 1.4.1).
 ///
