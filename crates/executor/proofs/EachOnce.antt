@@ -10,9 +10,9 @@ use Rattle.lists.proofs.Among.{among_from}
 use Rattle.day_file.specs.Frames.{PlacedBody}
 use Rattle.query.specs.Meaning.{Meaning}
 use Rattle.day_rows.specs.Messages.{first_wrong}
-use Rattle.pipelines.specs.Schedules.{brings, first_left, has_arrived}
-use Rattle.pipelines.specs.declared.event.Event.{Event}
-use Rattle.pipelines.specs.declared.event.Event.TheVariants.{Arrive}
+use Rattle.schedules.specs.Schedules.{brings, first_left, has_arrived}
+use Rattle.schedules.specs.declared.event.Event.{Event}
+use Rattle.schedules.specs.declared.event.Event.TheVariants.{Arrive}
 use Rattle.executor.specs.Rehearsals.{HaveArrived, IsFinished, IsRehearsed, each_once}
 use Rattle.executor.specs.declared.calls.rehearse.Rehearsal.{Rehearsal}
 use Rattle.executor.specs.declared.calls.rehearse.Rehearsal.TheVariants.{Missing}

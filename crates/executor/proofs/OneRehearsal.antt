@@ -7,8 +7,8 @@ use Rattle.query.specs.Meaning.{Meaning}
 use Rattle.answers.specs.Answers.{told_by}
 use Rattle.day_rows.specs.Messages.{first_wrong}
 use Rattle.answers.proofs.OneAnswer.{answers_are_one}
-use Rattle.pipelines.specs.Schedules.{first_left}
-use Rattle.pipelines.specs.declared.event.Event.{Event}
+use Rattle.schedules.specs.Schedules.{first_left}
+use Rattle.schedules.specs.declared.event.Event.{Event}
 use Rattle.executor.specs.Rehearsals.{IsFinished, IsRehearsed, TellTheSame}
 use Rattle.executor.specs.declared.calls.rehearse.Rehearsal.{Rehearsal}
 use Rattle.executor.specs.declared.calls.rehearse.Rehearsal.TheVariants.{Finished, Missing}

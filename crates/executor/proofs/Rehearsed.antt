@@ -9,11 +9,11 @@ use Rattle.day_file.specs.Kept.{numbered}
 use Rattle.query.specs.Meaning.{Meaning}
 use Rattle.answers.specs.Answers.{IsAnswerToMessages, told_by}
 use Rattle.answers.specs.declared.answer.Answer.{Answer}
-use Rattle.pipelines.specs.Rehearsals.{after_link, unless_missing}
-use Rattle.pipelines.specs.Schedules.{first_left}
-use Rattle.pipelines.specs.declared.event.Event.{Event}
-use Rattle.pipelines.specs.declared.outcome.Rehearsed.{Rehearsed}
-use Rattle.pipelines.specs.declared.outcome.Rehearsed.TheVariants as pair
+use Rattle.schedules.specs.Rehearsals.{after_link, unless_missing}
+use Rattle.schedules.specs.Schedules.{first_left}
+use Rattle.schedules.specs.declared.event.Event.{Event}
+use Rattle.schedules.specs.declared.rehearsed.Rehearsed.{Rehearsed}
+use Rattle.schedules.specs.declared.rehearsed.Rehearsed.TheVariants as pair
 use Rattle.scanning.specs.Scans.{ScanInputView, ScanTotalView, inputs_of, total_of}
 use Rattle.scanning.specs.declared.wrong.WrongLength.{WrongLength}
 use Rattle.scanning.proofs.MorselInputs.{length-numbered}

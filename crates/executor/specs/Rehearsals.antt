@@ -5,9 +5,9 @@ use Rattle.std.specs.List.{concat}
 use Rattle.lists.specs.Least.{numbers_below}
 use Rattle.day_file.specs.Frames.{PlacedBody, StandsFor}
 use Rattle.query.specs.Meaning.{Meaning}
-use Rattle.pipelines.specs.Schedules.{first_left, has_arrived}
-use Rattle.pipelines.specs.declared.event.Event.{Event}
-use Rattle.pipelines.specs.declared.event.Event.TheVariants.{Arrive}
+use Rattle.schedules.specs.Schedules.{first_left, has_arrived}
+use Rattle.schedules.specs.declared.event.Event.{Event}
+use Rattle.schedules.specs.declared.event.Event.TheVariants.{Arrive}
 use Rattle.answers.specs.Answers.{IsAnswer, told_by}
 use Rattle.day_rows.specs.Messages.{first_wrong}
 use Rattle.executor.specs.declared.calls.rehearse.Rehearsal.{Rehearsal}

@@ -5,21 +5,14 @@
 //! its threads changes the answer.
 #![tactic(auto)]
 
-mod event;
-pub mod laws;
-mod link;
 mod outcome;
-mod owner;
 mod pair;
-mod rehearse;
 
 pub use crew_threads::{
     Crew, FreeGate, Gate, KeepingPort, Port, Task, run_ahead, total_of_pieces, work,
 };
 pub use dispatcher::{Dispatcher, Seat};
-pub use event::{Event, apply};
 pub use gathering::{Gathering, Inputs, OutOfMemory, Piece, Work};
-pub use link::Link;
-pub use outcome::{Linked, Outcome, Rehearsed};
+pub use links::{Link, Linked};
+pub use outcome::Outcome;
 pub use pair::{run_pair, run_second};
-pub use rehearse::{rehearse_pair, rehearse_pipeline};

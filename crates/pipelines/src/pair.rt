@@ -1,12 +1,13 @@
 //! Two pipelines on threads.
 ghost use Rattle.std.specs.Prelude.{◌≡◌, IfOk};
 ghost use Rattle.std.specs.Arc.{arc_value};
-ghost use Rattle.pipelines.specs.Outcomes.{IsTotal, outcome_of};
+ghost use Rattle.links.specs.Totals.{IsTotal};
+ghost use Rattle.pipelines.specs.Outcomes.{outcome_of};
 
-use crate::link::Link;
-use crate::outcome::{Linked, Outcome};
+use crate::outcome::Outcome;
 use crew_threads::{Crew, Gate, run_pipeline};
 use gathering::{Inputs, OutOfMemory, Work};
+use links::{Link, Linked};
 use std::alloc::Global;
 use std::sync::{Arc, Wait};
 use std::thread;

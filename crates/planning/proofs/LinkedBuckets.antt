@@ -25,7 +25,7 @@ use Rattle.morsel_rows.specs.Partitions.{AreRowsByPlace, MorselRowsView, Partiti
 use Rattle.morsel_rows.proofs.JoinedPartitions.{partition_past}
 use Rattle.morsel_rows.proofs.MessagesOfPartition.{no_rows_by_place, partition_by_place}
 use Rattle.scanning.specs.Scans.{AreOfOneCut, ScanInputView, ScanTotalView, scanned, total_of}
-use Rattle.pipelines.specs.Outcomes.{IsTotal}
+use Rattle.links.specs.Totals.{IsTotal}
 use Rattle.buckets.specs.BucketRows.{BucketView, bucket_of, planned_rows, rows_at}
 use Rattle.buckets.specs.Buckets.{AreNumbered}
 use Rattle.buckets.specs.declared.plan.Plan.{Plan}

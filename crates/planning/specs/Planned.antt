@@ -9,8 +9,8 @@ use Rattle.time_and_sales.specs.Names.{name_of}
 use Rattle.row_types.specs.declared.directory.DirectoryRow.{DirectoryRow}
 use Rattle.query.specs.Meaning.{Meaning}
 use Rattle.query.specs.Selected.{locates_of}
-use Rattle.pipelines.specs.declared.outcome.Linked.{Linked}
-use Rattle.pipelines.specs.declared.outcome.Linked.TheVariants.{Next, Halt}
+use Rattle.links.specs.declared.linked.Linked.{Linked}
+use Rattle.links.specs.declared.linked.Linked.TheVariants.{Next, Halt}
 use Rattle.morsel_rows.specs.Partitions.{MorselRowsView, partition_at}
 use Rattle.scanning.specs.Scans.{ScanTotalView}
 use Rattle.scanning.specs.declared.wrong.WrongLength.{WrongLength}

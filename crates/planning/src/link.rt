@@ -4,15 +4,16 @@ ghost use Rattle.std.specs.Arc.{arc_value};
 ghost use Rattle.lists.specs.Least.{numbers_below};
 ghost use Rattle.lists.specs.declared.limits.TheConstants.{MOST_PARTITIONS};
 ghost use Rattle.morsel_rows.specs.Partitions.{AreRowsByPlace, joined_partitions, partition_at};
-ghost use Rattle.pipelines.specs.declared.outcome.Linked.TheVariants.{Next};
+ghost use Rattle.links.specs.declared.linked.Linked.TheVariants.{Next};
 ghost use Rattle.planning.specs.Planned.{all_directory, linked_to, planned_bucket};
 
 use crate::OutOfMemory;
 use crate::names::DayNames;
 use crate::plan::{buckets_of, directory_of, plan};
 use buckets::BucketWork;
+use gathering::Inputs;
+use links::{Link, Linked};
 use morsel_rows::MorselRows;
-use pipelines::{Inputs, Link, Linked};
 use query::Query;
 use scanning::{ScanTotal, ScanWork, WrongLength};
 use std::alloc::Global;

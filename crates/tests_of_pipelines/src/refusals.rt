@@ -3,10 +3,8 @@ ghost use Rattle.std.specs.Prelude.{◌≡◌};
 
 use crate::link::OneAndTwo;
 use linked_list_allocator::LocalHeap;
-use pipelines::{
-    Crew, Event, FreeGate, OutOfMemory, Outcome, Rehearsed, rehearse_pair, rehearse_pipeline,
-    run_pair,
-};
+use pipelines::{Crew, FreeGate, OutOfMemory, Outcome, run_pair};
+use schedules::{Event, Rehearsed, rehearse_pair, rehearse_pipeline};
 use std::alloc::Global;
 use std::sync::{Arc, Wait};
 use std::test::Fail;

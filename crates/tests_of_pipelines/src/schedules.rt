@@ -2,7 +2,8 @@
 ghost use Rattle.std.specs.Prelude.{◌≡◌};
 
 use crate::link::OneAndTwo;
-use pipelines::{Event, Gathering, OutOfMemory, Rehearsed, apply, rehearse_pair};
+use pipelines::{Gathering, OutOfMemory};
+use schedules::{Event, Rehearsed, apply, rehearse_pair};
 use std::alloc::Global;
 use std::sync::Arc;
 use std::test::Fail;

@@ -6,10 +6,10 @@ use crate::OutOfMemory;
 use crate::calls::first_pipeline::told_of;
 use answers::Answer;
 use day_file::Cut;
-use pipelines::{Event, Rehearsed, rehearse_pair};
 use planning::{PlanLink, answer_of};
 use query::Query;
 use scanning::scan_inputs;
+use schedules::{Event, Rehearsed, rehearse_pair};
 use std::alloc::Global;
 use std::sync::Arc;
 

@@ -1,5 +1,5 @@
 use Rattle.std.specs.Arc.{arc_value}
-use Rattle.pipelines.specs.Schedules.{AreOver}
+use Rattle.schedules.specs.Schedules.{AreOver}
 use Rattle.tests_of_pipelines.proofs.schedules.events_one_by_one.Given as goal
 
 abbrev pub invariant-loop-event : goal.invariant-loop-event

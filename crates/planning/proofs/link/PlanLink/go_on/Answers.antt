@@ -8,7 +8,7 @@ use Rattle.morsel_rows.specs.Partitions.{AreRowsByPlace, joined_partitions}
 use Rattle.buckets.specs.BucketRows.{bucket_of}
 use Rattle.buckets.specs.Buckets.{AreNumbered}
 use Rattle.buckets.specs.declared.plan.Plan.{Plan}
-use Rattle.pipelines.specs.declared.outcome.Linked.TheVariants.{Next}
+use Rattle.links.specs.declared.linked.Linked.TheVariants.{Next}
 use Rattle.planning.specs.Planned.{LinkView, all_directory, planned_bucket}
 use Rattle.planning.proofs.LinkedBuckets.{buckets_are, buckets_numbered, planned_rows_are, shared_plan}
 use Rattle.planning.proofs.link.PlanLink.go_on.Goals as goal

@@ -1,0 +1,2 @@
+-- What the contracts speak of: which totals a link may be given.
+pub mod Totals
