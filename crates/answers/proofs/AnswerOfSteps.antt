@@ -4,7 +4,7 @@ use Rattle.day_file.specs.Frames.{IsTruncatedAt, PlacedBody, StandsFor}
 use Rattle.order_table.specs.Orders.{first_repeated}
 use Rattle.probe.specs.Pricing.{first_unknown}
 use Rattle.row_types.specs.declared.trade.Sale.{Sale}
-use Rattle.query.specs.Meaning.{Meaning}
+use Rattle.meaning.specs.Meaning.{Meaning}
 use Rattle.time_and_sales.specs.Names.{name_of}
 use Rattle.day_rows.specs.Messages.{Placed, counted, directory_rows, executions, first_wrong, messages_of, order_rows}
 use Rattle.answers.specs.Answers.{IsAnswer, IsAnswerToMessages, IsTextOfMessages, IsTextOfSales, selected_sales, wrong_length_at}

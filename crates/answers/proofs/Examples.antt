@@ -9,8 +9,8 @@ use Rattle.row_types.specs.declared.order.OrderRow.{OrderRow}
 use Rattle.probe.specs.Pricing.{first_unknown}
 use Rattle.row_types.specs.declared.trade.Kind.TheVariants.{E, P}
 use Rattle.row_types.specs.declared.trade.Sale.{Sale}
-use Rattle.query.specs.Meaning.{Meaning}
-use Rattle.query.specs.declared.query.What.TheVariants.{Sales}
+use Rattle.meaning.specs.Meaning.{Meaning}
+use Rattle.meaning.specs.declared.query.What.TheVariants.{Sales}
 use Rattle.answers.specs.Answers.{selected_sales}
 use Rattle.day_rows.specs.Messages.{trades}
 use Rattle.day_rows.specs.Messages.{Placed, counted, executions, order_rows}

@@ -2,7 +2,7 @@
 use Rattle.std.proofs.Common.{◌≡◌, ◌↔◌, ℕ, List, Option, None, Result, Err, MatchOption, inl, inr, sym, ◌∙◌, subst}
 use Rattle.day_file.specs.Frames.{PlacedBody, StandsFor}
 use Rattle.day_file.proofs.Laws.{frames_are_one, not_both}
-use Rattle.query.specs.Meaning.{Meaning}
+use Rattle.meaning.specs.Meaning.{Meaning}
 use Rattle.answers.specs.Answers.{IsAnswer, IsAnswerToFrames, IsAnswerToMessages, wrong_length_at}
 use Rattle.day_rows.specs.Messages.{Placed, counted, first_wrong, messages_of}
 use Rattle.answers.specs.Moments.{HasCounted, NoneIsPast, without_moment}

@@ -9,9 +9,9 @@ use Rattle.row_types.specs.declared.trade.Execution.{Execution}
 use Rattle.row_types.specs.declared.trade.Sale.{Sale}
 use Rattle.bars.specs.Texts.{bars_text}
 use Rattle.bars.proofs.Bars.{AreBarsOf-unique}
-use Rattle.query.specs.Meaning.{Meaning}
-use Rattle.query.specs.declared.query.What.{What}
-use Rattle.query.specs.declared.query.What.TheVariants.{Sales, Bars}
+use Rattle.meaning.specs.Meaning.{Meaning}
+use Rattle.meaning.specs.declared.query.What.{What}
+use Rattle.meaning.specs.declared.query.What.TheVariants.{Sales, Bars}
 use Rattle.day_rows.specs.Messages.{Placed, counted, executions, first_wrong, messages_of, order_rows}
 use Rattle.answers.specs.Answers.{IsAnswer, IsAnswerToFrames, IsAnswerToMessages, IsTextOfMessages, IsTextOfSales, wrong_length_at}
 use Rattle.answers.specs.declared.day_fault.DayFault.{DayFault}

@@ -27,10 +27,10 @@ use Rattle.time_and_sales.specs.declared.directory.Names.{Names}
 use Rattle.bars.specs.Bars.{AreBarsOf}
 use Rattle.bars.specs.Texts.{bar_line, bars_header, bars_text}
 use Rattle.bars.specs.declared.bar.Bar.{Bar}
-use Rattle.query.specs.Meaning.{Meaning}
-use Rattle.query.specs.Selected.{has_name}
-use Rattle.query.specs.declared.query.What.TheVariants.{Sales, Bars}
-use Rattle.query.proofs.ListedLocates.{AreLocatesOf}
+use Rattle.meaning.specs.Meaning.{Meaning}
+use Rattle.meaning.specs.Selected.{has_name}
+use Rattle.meaning.specs.declared.query.What.TheVariants.{Sales, Bars}
+use Rattle.meaning.proofs.ListedLocates.{AreLocatesOf}
 use Rattle.answers.specs.Answers.{asks_for, selected_sales}
 use Rattle.day_rows.specs.Messages.{Placed, order_rows, executions, own_priced_sales, break_numbers, directory_rows}
 use Rattle.day_rows.specs.DayRows.{AreByPlace, IsStamped}

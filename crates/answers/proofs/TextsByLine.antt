@@ -27,9 +27,9 @@ use Rattle.time_and_sales.specs.declared.directory.Names.{Names}
 use Rattle.bars.specs.Bars.{AreBarsOf}
 use Rattle.bars.specs.Texts.{bar_line, bars_header, bars_text}
 use Rattle.bars.specs.declared.bar.Bar.{Bar}
-use Rattle.query.specs.Meaning.{Meaning}
-use Rattle.query.specs.Selected.{has_name}
-use Rattle.query.specs.declared.query.What.TheVariants.{Sales, Bars}
+use Rattle.meaning.specs.Meaning.{Meaning}
+use Rattle.meaning.specs.Selected.{has_name}
+use Rattle.meaning.specs.declared.query.What.TheVariants.{Sales, Bars}
 
 -- one line more
 pub listing_more : (names : ℕ → List ℕ) (sales : List Sale) (i : ℕ) (d : Sale) → i < length sales

@@ -2,7 +2,7 @@
 -- To be believed.
 use Rattle.std.specs.Prelude.{◌≡◌, ℕ, true, List, All, Option, None}
 use Rattle.day_file.specs.Frames.{PlacedBody, StandsFor}
-use Rattle.query.specs.Meaning.{Meaning}
+use Rattle.meaning.specs.Meaning.{Meaning}
 use Rattle.day_rows.specs.Messages.{Placed, messages_of, first_wrong, is_counted, counted}
 
 -- the same query without a moment

@@ -3,7 +3,7 @@ ghost use Rattle.answers.specs.Answers.{IsAnswer};
 ghost use Rattle.day_rows.specs.Messages.{Placed};
 ghost use Rattle.answers.specs.Moments.{HasCounted, NoneIsPast, without_moment};
 ghost use Rattle.answers.specs.declared.day_fault.DayFault.{DayFault};
-ghost use Rattle.query.specs.Meaning.{Meaning};
+ghost use Rattle.meaning.specs.Meaning.{Meaning};
 
 /// The law of answers: a file and a query have at most one. It does nothing when it runs.
 pub fn one_answer()

@@ -6,7 +6,7 @@ use Rattle.std.specs.Borrow.{Bor}
 use Rattle.std.specs.declared.alloc.Global.{Global}
 use Rattle.std.specs.declared.sync.Arc.{Arc}
 use Rattle.probe.specs.declared.selection.Selection.{Selection}
-use Rattle.query.specs.declared.query.What.{What}
+use Rattle.meaning.specs.declared.query.What.{What}
 use Rattle.morsel_rows.specs.Partitions.{MorselRowsView, PartitionView, joined_partitions, partition_at}
 use Rattle.buckets.specs.declared.plan.Plan.{Plan}
 

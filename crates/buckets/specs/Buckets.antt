@@ -9,7 +9,7 @@ use Rattle.gathering.specs.Adding.{same_inputs}
 use Rattle.gathering.proofs.EqualInputs.{map_alike}
 use Rattle.lists.specs.Least.{numbers_below}
 use Rattle.probe.specs.Selection.{admits}
-use Rattle.query.specs.declared.query.What.{What}
+use Rattle.meaning.specs.declared.query.What.{What}
 use Rattle.morsel_rows.specs.Partitions.{joined_partitions}
 use Rattle.morsel_rows.specs.SameRows.{is_same_partition, partition_equiv, same_partition}
 use Rattle.buckets.specs.BucketRows.{BucketView}

@@ -8,7 +8,7 @@ use Rattle.probe.specs.Pricing.{first_unknown, priced, unknown_of}
 use Rattle.probe.specs.Trades.{kept}
 use Rattle.row_types.specs.declared.trade.Sale.{Sale}
 use Rattle.row_types.specs.declared.trade.Unknown.{Unknown}
-use Rattle.query.specs.declared.query.What.{What}
+use Rattle.meaning.specs.declared.query.What.{What}
 use Rattle.morsel_rows.specs.Partitions.{PartitionView}
 use Rattle.buckets.specs.Products.{product_of}
 use Rattle.buckets.specs.declared.product.Product.{Product}

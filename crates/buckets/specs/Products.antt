@@ -4,8 +4,8 @@ use Rattle.std.specs.Prelude.{ℕ, nat_lt, List, [], ◌∷◌, if◌then◌else
 use Rattle.row_types.specs.declared.trade.Sale.{Sale}
 use Rattle.bars.specs.Steps.{bar_of_one, merged_tables}
 use Rattle.bars.specs.declared.bar.Bar.{Bar}
-use Rattle.query.specs.declared.query.What.{What}
-use Rattle.query.specs.declared.query.What.TheVariants.{Sales, Bars}
+use Rattle.meaning.specs.declared.query.What.{What}
+use Rattle.meaning.specs.declared.query.What.TheVariants.{Sales, Bars}
 use Rattle.buckets.specs.declared.product.Product.{Product}
 use Rattle.buckets.specs.declared.product.Product.TheVariants.{Listed, Tabled}
 

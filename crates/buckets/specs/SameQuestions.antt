@@ -11,8 +11,8 @@ use Rattle.probe.specs.declared.selection.Locates.{Locates}
 use Rattle.probe.specs.declared.selection.Locates.TheVariants.{All, Listed}
 use Rattle.probe.specs.declared.selection.Selection.{Selection}
 use Rattle.probe.specs.declared.selection.Span.{Span}
-use Rattle.query.specs.declared.query.What.{What}
-use Rattle.query.specs.declared.query.What.TheVariants.{Sales, Bars}
+use Rattle.meaning.specs.declared.query.What.{What}
+use Rattle.meaning.specs.declared.query.What.TheVariants.{Sales, Bars}
 
 abbrev pub is_same_what : What → What → Bool
 is_same_what Sales Sales = true

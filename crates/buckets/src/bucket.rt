@@ -2,7 +2,7 @@
 ghost use Rattle.std.specs.Prelude.{◌≡◌, IfOk};
 ghost use Rattle.std.specs.Arc.{arc_value};
 ghost use Rattle.std.specs.Cmp.{partial_equiv_from_equiv};
-ghost use Rattle.query.specs.Meaning.{HasWidth};
+ghost use Rattle.meaning.specs.Meaning.{HasWidth};
 ghost use Rattle.morsel_rows.specs.Partitions.{AreRowsByPlace, joined_partitions};
 ghost use Rattle.buckets.specs.BucketRows.{bucket_of, planned_rows, rows_of_parts};
 ghost use Rattle.buckets.specs.Buckets.{bucket_equiv, is_same_bucket};
@@ -14,7 +14,7 @@ use crate::rows::{parts_of, same_rows};
 use broken_trades::Breaks;
 use morsel_rows::Partition;
 use probe::Selection;
-use query::What;
+use meaning::What;
 use std::alloc::Global;
 use std::marker::Model;
 use std::sync::Arc;
@@ -29,7 +29,7 @@ pub struct Bucket {
 
 impl Model for Bucket {
     ghost use Rattle.std.specs.Arc.{arc_value};
-    ghost use Rattle.query.specs.Meaning.{HasWidth};
+    ghost use Rattle.meaning.specs.Meaning.{HasWidth};
     ghost use Rattle.morsel_rows.specs.Partitions.{AreRowsByPlace, joined_partitions};
     ghost use Rattle.buckets.specs.BucketRows.{BucketView, bucket_of, planned_rows};
 

@@ -2,14 +2,14 @@
 ghost use Rattle.std.specs.Prelude.{◌≡◌, ◌<◌, All, IfOk, length, map, nat_eq};
 ghost use Rattle.std.specs.List.{IsDistinct};
 ghost use Rattle.lists.specs.declared.limits.TheConstants.{TRADE_LIMIT};
-ghost use Rattle.query.specs.Meaning.{HasWidth};
+ghost use Rattle.meaning.specs.Meaning.{HasWidth};
 ghost use Rattle.buckets.specs.Products.{product_of};
 
 use crate::OutOfMemory;
 use crate::product::Product;
 use bars::BarTable;
 use probe::Sale;
-use query::What;
+use meaning::What;
 use std::alloc::Global;
 use time_and_sales::Listing;
 

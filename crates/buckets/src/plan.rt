@@ -3,7 +3,7 @@
 use broken_trades::Breaks;
 use morsel_rows::MorselRows;
 use probe::Selection;
-use query::What;
+use meaning::What;
 use std::alloc::Global;
 use std::sync::Arc;
 

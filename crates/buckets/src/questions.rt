@@ -4,7 +4,7 @@ ghost use Rattle.buckets.specs.SameQuestions.{are_same_kinds, are_same_locates, 
 ghost use Rattle.buckets.specs.SameQuestions.{is_same_selection, is_same_span, is_same_what};
 
 use probe::{Kinds, Locates, Selection, Span};
-use query::What;
+use meaning::What;
 
 pub(crate) fn same_what(a: What, b: What) -> bool
     ensures { result ≡ is_same_what a b }

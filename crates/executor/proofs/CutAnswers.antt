@@ -10,7 +10,7 @@ use Rattle.day_file.specs.Kept.{numbered}
 use Rattle.day_file.specs.Walk.{frames_of}
 use Rattle.day_file.proofs.CutFrames.{frames_of_cut}
 use Rattle.day_file.proofs.Laws.{places_rise}
-use Rattle.query.specs.Meaning.{Meaning}
+use Rattle.meaning.specs.Meaning.{Meaning}
 use Rattle.answers.specs.Answers.{IsAnswer, IsAnswerToMessages}
 use Rattle.day_rows.specs.Messages.{Placed, first_wrong, messages_of}
 use Rattle.answers.specs.declared.day_fault.DayFault.{DayFault}

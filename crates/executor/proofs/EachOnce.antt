@@ -8,7 +8,7 @@ use Rattle.lists.specs.Among.{is_among}
 use Rattle.lists.specs.Least.{numbers_below}
 use Rattle.lists.proofs.Among.{among_from}
 use Rattle.day_file.specs.Frames.{PlacedBody}
-use Rattle.query.specs.Meaning.{Meaning}
+use Rattle.meaning.specs.Meaning.{Meaning}
 use Rattle.day_rows.specs.Messages.{first_wrong}
 use Rattle.schedules.specs.Schedules.{brings, first_left, has_arrived}
 use Rattle.schedules.specs.declared.event.Event.{Event}

@@ -3,7 +3,7 @@ use Rattle.std.proofs.Common.{◌≡◌, ℕ, List, Result, Ok, Err, subst}
 use Rattle.answers.specs.Answers.{IsAnswer}
 use Rattle.answers.specs.declared.day_fault.DayFault.{DayFault}
 use Rattle.query.specs.Grammar.{Means}
-use Rattle.query.specs.Meaning.{Meaning}
+use Rattle.meaning.specs.Meaning.{Meaning}
 use Rattle.query.specs.Words.{words_of}
 use Rattle.executor.specs.Readings.{Reading}
 use Rattle.executor.specs.Runs.{Answers, Ran}

@@ -3,7 +3,7 @@ use Rattle.std.proofs.Common.{◌≡◌, ℕ, List, Option, Some, None, MatchOpt
 use Rattle.std.specs.List.{concat}
 use Rattle.day_file.specs.Frames.{PlacedBody}
 use Rattle.day_file.proofs.Laws.{frames_are_one}
-use Rattle.query.specs.Meaning.{Meaning}
+use Rattle.meaning.specs.Meaning.{Meaning}
 use Rattle.answers.specs.Answers.{told_by}
 use Rattle.day_rows.specs.Messages.{first_wrong}
 use Rattle.answers.proofs.OneAnswer.{answers_are_one}

@@ -6,7 +6,7 @@ use Rattle.std.proofs.lemmas.List.FromFn.{length-map-range_with_len}
 use Rattle.row_types.specs.declared.directory.DirectoryRow.{DirectoryRow}
 use Rattle.day_file.specs.Cuts.{MorselView}
 use Rattle.day_file.specs.Kept.{numbered}
-use Rattle.query.specs.Meaning.{Meaning}
+use Rattle.meaning.specs.Meaning.{Meaning}
 use Rattle.answers.specs.Answers.{IsAnswerToMessages, told_by}
 use Rattle.answers.specs.declared.answer.Answer.{Answer}
 use Rattle.schedules.specs.Rehearsals.{after_link, unless_missing}

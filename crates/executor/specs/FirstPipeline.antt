@@ -9,7 +9,7 @@ use Rattle.answers.specs.declared.day_fault.DayFault.TheVariants.{WrongLength}
 use Rattle.scanning.specs.Scans.{ScanTotalView, inputs_of, total_of}
 use Rattle.scanning.specs.declared.wrong.WrongLength.{WrongLength as FoundWrong}
 use Rattle.row_types.specs.declared.directory.DirectoryRow.{DirectoryRow}
-use Rattle.query.specs.Meaning.{Meaning}
+use Rattle.meaning.specs.Meaning.{Meaning}
 use Rattle.pipelines.specs.Outcomes.{outcome_of}
 use Rattle.pipelines.specs.declared.outcome.Outcome.{Outcome}
 use Rattle.buckets.specs.Buckets.{total_found}

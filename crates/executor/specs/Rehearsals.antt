@@ -4,7 +4,7 @@ use Rattle.std.specs.Prelude.{◌≡◌, ℕ, ◌<◌, true, List, length, map, 
 use Rattle.std.specs.List.{concat}
 use Rattle.lists.specs.Least.{numbers_below}
 use Rattle.day_file.specs.Frames.{PlacedBody, StandsFor}
-use Rattle.query.specs.Meaning.{Meaning}
+use Rattle.meaning.specs.Meaning.{Meaning}
 use Rattle.schedules.specs.Schedules.{first_left, has_arrived}
 use Rattle.schedules.specs.declared.event.Event.{Event}
 use Rattle.schedules.specs.declared.event.Event.TheVariants.{Arrive}

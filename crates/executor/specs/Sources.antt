@@ -3,7 +3,7 @@
 use Rattle.std.specs.Prelude.{◌≡◌, ℕ, ◌≤◌, List, length, take, Some, Result, Ok, Err}
 use Rattle.answers.specs.Answers.{IsAnswer}
 use Rattle.query.specs.Faults.{first_query_fault}
-use Rattle.query.specs.Meaning.{Meaning}
+use Rattle.meaning.specs.Meaning.{Meaning}
 use Rattle.query.specs.Words.{words_of}
 use Rattle.answers.specs.declared.day_fault.DayFault.{DayFault}
 use Rattle.executor.specs.Readings.{Reading}

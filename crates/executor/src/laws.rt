@@ -1,6 +1,6 @@
 ghost use Rattle.std.specs.Prelude.{◌≡◌, ℕ, List, length};
 ghost use Rattle.std.specs.List.{concat};
-ghost use Rattle.query.specs.Meaning.{Meaning};
+ghost use Rattle.meaning.specs.Meaning.{Meaning};
 ghost use Rattle.schedules.specs.declared.event.Event.{Event as TheEvent};
 ghost use Rattle.executor.specs.Rehearsals.{HaveArrived, IsFinished, IsRehearsed, TellTheSame, each_once};
 ghost use Rattle.executor.specs.declared.calls.rehearse.Rehearsal.{Rehearsal as TheRehearsal};

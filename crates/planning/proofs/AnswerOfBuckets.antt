@@ -20,9 +20,9 @@ use Rattle.row_types.specs.declared.directory.DirectoryRow.{DirectoryRow}
 use Rattle.time_and_sales.specs.declared.directory.Names.{Names}
 use Rattle.bars.specs.Bars.{all_sales}
 use Rattle.bars.proofs.Bars.{AreBarsOf-permutation}
-use Rattle.query.specs.Meaning.{Meaning}
-use Rattle.query.specs.declared.query.What.{What}
-use Rattle.query.specs.declared.query.What.TheVariants.{Sales, Bars}
+use Rattle.meaning.specs.Meaning.{Meaning}
+use Rattle.meaning.specs.declared.query.What.{What}
+use Rattle.meaning.specs.declared.query.What.TheVariants.{Sales, Bars}
 use Rattle.answers.specs.Answers.{IsAnswerToMessages, IsTextOfMessages, IsTextOfSales, asks_for, selected_sales}
 use Rattle.day_rows.specs.DayRows.{AreByPlace}
 use Rattle.day_rows.specs.Messages.{Placed, break_numbers, directory_rows, executions, order_rows, own_priced_sales}

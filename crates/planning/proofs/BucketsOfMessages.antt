@@ -28,7 +28,7 @@ use Rattle.probe.proofs.KeptSales.{length-kept}
 use Rattle.probe.proofs.PartSales.{first_unknown_of_parts, priced_in_part}
 use Rattle.probe.proofs.PricedSales.{length-priced}
 use Rattle.bars.specs.Bars.{all_sales}
-use Rattle.query.specs.Meaning.{Meaning}
+use Rattle.meaning.specs.Meaning.{Meaning}
 use Rattle.answers.specs.Answers.{asks_for}
 use Rattle.day_rows.specs.DayRows.{AreByPlace, AreStamped, DayRows, IsStamped, rows_of}
 use Rattle.day_rows.specs.Messages.{Placed, break_numbers, directory_rows, executions, order_rows, own_priced_sales}

@@ -14,9 +14,9 @@ use Rattle.bars.specs.declared.bar.Bar.{Bar}
 use Rattle.bars.proofs.JoinedTables.{union_of_bars}
 use Rattle.bars.proofs.SumsAreBounded.{all_sums_fit, table_is_writable}
 use Rattle.row_types.specs.SalesByPlace.{IsByPlace}
-use Rattle.query.specs.Meaning.{Meaning}
-use Rattle.query.specs.declared.query.What.{What}
-use Rattle.query.specs.declared.query.What.TheVariants.{Sales, Bars}
+use Rattle.meaning.specs.Meaning.{Meaning}
+use Rattle.meaning.specs.declared.query.What.{What}
+use Rattle.meaning.specs.declared.query.What.TheVariants.{Sales, Bars}
 use Rattle.row_types.specs.declared.directory.DirectoryRow.{DirectoryRow}
 use Rattle.day_rows.specs.DayRows.{IsStamped}
 use Rattle.day_rows.specs.Messages.{Placed}

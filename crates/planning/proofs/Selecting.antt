@@ -5,9 +5,9 @@ use Rattle.probe.specs.Selection.{admits, has_kind, has_locate, has_time}
 use Rattle.row_types.specs.declared.trade.Sale.{Sale}
 use Rattle.time_and_sales.specs.Names.{name_of}
 use Rattle.row_types.specs.declared.directory.DirectoryRow.{DirectoryRow}
-use Rattle.query.specs.Meaning.{Meaning}
-use Rattle.query.specs.Selected.{has_name, locates_of}
-use Rattle.query.proofs.ListedLocates.{among_selected}
+use Rattle.meaning.specs.Meaning.{Meaning}
+use Rattle.meaning.specs.Selected.{has_name, locates_of}
+use Rattle.meaning.proofs.ListedLocates.{among_selected}
 use Rattle.answers.specs.Answers.{asks_for}
 use Rattle.planning.specs.Planned.{selection_of}
 

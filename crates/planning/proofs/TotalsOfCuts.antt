@@ -3,7 +3,7 @@ use Rattle.std.proofs.Common.{◌≡◌, ℕ, ◌<◌, List, [], ◌∷◌, map,
 use Rattle.lists.specs.Least.{numbers_below}
 use Rattle.day_file.specs.Cuts.{MorselView}
 use Rattle.probe.specs.Selection.{admits}
-use Rattle.query.specs.Meaning.{Meaning}
+use Rattle.meaning.specs.Meaning.{Meaning}
 use Rattle.day_rows.specs.DayRows.{rows_of}
 use Rattle.day_rows.specs.Messages.{Placed, break_numbers, directory_rows}
 use Rattle.morsel_rows.specs.Partitions.{MorselRowsView, partition_of}

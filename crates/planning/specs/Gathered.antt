@@ -15,9 +15,9 @@ use Rattle.row_types.specs.declared.directory.DirectoryRow.{DirectoryRow}
 use Rattle.bars.specs.Bars.{AreBarsOf, all_sales}
 use Rattle.bars.specs.Texts.{bars_text}
 use Rattle.bars.specs.declared.bar.Bar.{Bar}
-use Rattle.query.specs.Meaning.{Meaning}
-use Rattle.query.specs.declared.query.What.{What}
-use Rattle.query.specs.declared.query.What.TheVariants.{Sales, Bars}
+use Rattle.meaning.specs.Meaning.{Meaning}
+use Rattle.meaning.specs.declared.query.What.{What}
+use Rattle.meaning.specs.declared.query.What.TheVariants.{Sales, Bars}
 use Rattle.day_rows.specs.DayRows.{AreByPlace, AreStamped, IsStamped, rows_of}
 use Rattle.answers.specs.declared.day_fault.DayFault.{DayFault}
 use Rattle.answers.specs.declared.day_fault.DayFault.TheVariants.{RepeatedReference, UnknownReference}

@@ -7,8 +7,8 @@ use Rattle.lists.specs.Least.{numbers_below}
 use Rattle.probe.specs.declared.selection.Selection.{Selection}
 use Rattle.time_and_sales.specs.Names.{name_of}
 use Rattle.row_types.specs.declared.directory.DirectoryRow.{DirectoryRow}
-use Rattle.query.specs.Meaning.{Meaning}
-use Rattle.query.specs.Selected.{locates_of}
+use Rattle.meaning.specs.Meaning.{Meaning}
+use Rattle.meaning.specs.Selected.{locates_of}
 use Rattle.links.specs.declared.linked.Linked.{Linked}
 use Rattle.links.specs.declared.linked.Linked.TheVariants.{Next, Halt}
 use Rattle.morsel_rows.specs.Partitions.{MorselRowsView, partition_at}

@@ -14,7 +14,7 @@ use buckets::BucketWork;
 use gathering::Inputs;
 use links::{Link, Linked};
 use morsel_rows::MorselRows;
-use query::Query;
+use meaning::Query;
 use scanning::{ScanTotal, ScanWork, WrongLength};
 use std::alloc::Global;
 use std::marker::Model;

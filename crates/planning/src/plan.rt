@@ -2,7 +2,7 @@
 ghost use Rattle.std.specs.Prelude.{◌≡◌, ℕ, IfOk, map};
 ghost use Rattle.std.specs.Arc.{arc_value};
 ghost use Rattle.lists.specs.Least.{numbers_below};
-ghost use Rattle.query.specs.Meaning.{HasWidth};
+ghost use Rattle.meaning.specs.Meaning.{HasWidth};
 ghost use Rattle.morsel_rows.specs.Partitions.{AreRowsByPlace, joined_partitions};
 ghost use Rattle.buckets.specs.BucketRows.{bucket_of, planned_rows};
 ghost use Rattle.planning.specs.Planned.{all_breaks, all_directory, rising, selection_of};
@@ -12,7 +12,7 @@ use crate::names::DayNames;
 use broken_trades::Breaks;
 use buckets::{Bucket, Plan};
 use morsel_rows::MorselRows;
-use query::{Query, selection};
+use meaning::{Query, selection};
 use std::alloc::Global;
 use std::sync::Arc;
 use time_and_sales::DirectoryRow;

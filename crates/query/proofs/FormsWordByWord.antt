@@ -5,14 +5,15 @@ use Rattle.query.specs.Words.{Word, reads_as}
 use Rattle.query.specs.Forms.{◌>>=◌, value_or, took, timed, one_list, in_list, span_of, spanned, condition_of, width_at, unit_after, width_of, what_of}
 use Rattle.query.specs.Forms.{after_as, moment_of}
 use Rattle.query.specs.Values.{count_of, unit_of, time_of, symbols_of, kinds_of}
-use Rattle.query.specs.Meaning.{Meaning, Said, meaning_of, only, is_width}
+use Rattle.meaning.specs.Meaning.{Meaning, is_width}
+use Rattle.query.specs.Said.{Said, meaning_of, only}
 use Rattle.query.specs.Faults.{Next, Step, step, continued, read_from, expecting, valued, opening, bounded, wide}
 use Rattle.query.specs.Faults.{query, number, unit, moment, of_after_as, moment_time, filter, condition, symbol_in, symbols, time_from, first_time}
 use Rattle.query.specs.Faults.{time_until, second_time, kind_in, kinds, more}
 use Rattle.query.specs.declared.fault.QueryFault.{QueryFault}
 use Rattle.query.specs.declared.fault.QueryFault.TheVariants.{UnknownWord, BadNumber, BadTime, Repeated, EmptyRange}
-use Rattle.query.specs.declared.query.What.{What}
-use Rattle.query.specs.declared.query.What.TheVariants.{Sales, Bars}
+use Rattle.meaning.specs.declared.query.What.{What}
+use Rattle.meaning.specs.declared.query.What.TheVariants.{Sales, Bars}
 use Rattle.probe.specs.declared.selection.Kinds.{Kinds}
 use Rattle.probe.specs.declared.selection.Span.{Span}
 

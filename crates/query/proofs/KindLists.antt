@@ -3,7 +3,7 @@ use Rattle.std.proofs.Common.{◌≡◌, ℕ, Bool, true, false, cond, ◌&&◌,
 use Rattle.std.specs.List.{list_all, onto_first}
 use Rattle.query.specs.Words.{parts}
 use Rattle.query.specs.Values.{is_kind, has_letter, letters_of, kinds_of}
-use Rattle.query.specs.Meaning.{has_some}
+use Rattle.meaning.specs.Meaning.{has_some}
 use Rattle.probe.specs.declared.selection.Kinds.{Kinds}
 
 or_left : (a b : Bool) → a ≡ true → (a || b) ≡ true

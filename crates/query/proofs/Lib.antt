@@ -3,8 +3,4 @@ pub mod CutAtSeparator
 pub mod SymbolLists
 pub mod FormsWordByWord
 pub mod KindLists
-pub mod WriterIsCanonical
-pub mod CanonicalHasMeaning
-pub mod ListedLocates
-pub mod SortedNames
 pub mod MemoryForSymbols

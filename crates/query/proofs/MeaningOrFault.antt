@@ -5,14 +5,15 @@ use Rattle.std.specs.Result.{result_err}
 use Rattle.std.proofs.lemmas.Slice.Eq.{bytes_eq-Decides}
 use Rattle.query.specs.Words.{Word, word, reads_as}
 use Rattle.query.specs.Values.{count_of, unit_of, time_of, symbols_of, kinds_of}
-use Rattle.query.specs.Meaning.{Meaning, Said, only, meaning_of, is_width}
+use Rattle.meaning.specs.Meaning.{Meaning, is_width}
+use Rattle.query.specs.Said.{Said, only, meaning_of}
 use Rattle.query.specs.Grammar.{Conditions, More, Filter, Moment, Means}
 use Rattle.query.specs.Grammar.{symbol, time, kind, done, further, all, those, any_moment, up_to, sales, bars}
 use Rattle.query.specs.Faults.{Next, Step, expecting, valued, opening, begins, narrows, opens, wide, bounded, step, ended, continued, read_from}
 use Rattle.query.specs.Faults.{first_query_fault}
 use Rattle.query.specs.Faults.{query, number, unit, moment, of_after_as, moment_time, filter, condition, symbol_in, symbols, time_from, first_time}
 use Rattle.query.specs.Faults.{time_until, second_time, kind_in, kinds, more}
-use Rattle.query.specs.declared.query.What.TheVariants.{Sales, Bars}
+use Rattle.meaning.specs.declared.query.What.TheVariants.{Sales, Bars}
 use Rattle.query.specs.declared.fault.QueryFault.{QueryFault}
 use Rattle.query.specs.declared.fault.QueryFault.TheVariants.{UnknownWord, BadNumber, BadTime, Repeated, Incomplete, EmptyRange, OutOfMemory}
 

@@ -5,11 +5,12 @@ use Rattle.query.specs.Words.{Word, reads_as, begins_list, lists_symbols}
 use Rattle.query.specs.Forms.{◌>>=◌, value_or, took, timed, one_list, in_list, span_of, spanned, condition_of, width_at, unit_after, width_of, what_of}
 use Rattle.query.specs.Forms.{begins_with, after_as, moment_of}
 use Rattle.query.specs.Values.{count_of, unit_of, time_of, symbols_of, kinds_of}
-use Rattle.query.specs.Meaning.{Said, is_width}
+use Rattle.meaning.specs.Meaning.{is_width}
+use Rattle.query.specs.Said.{Said}
 use Rattle.query.specs.declared.fault.QueryFault.{QueryFault}
 use Rattle.query.specs.declared.fault.QueryFault.TheVariants.{UnknownWord, BadNumber, BadTime, Repeated, EmptyRange, OutOfMemory}
-use Rattle.query.specs.declared.query.What.{What}
-use Rattle.query.specs.declared.query.What.TheVariants.{Sales, Bars}
+use Rattle.meaning.specs.declared.query.What.{What}
+use Rattle.meaning.specs.declared.query.What.TheVariants.{Sales, Bars}
 use Rattle.probe.specs.declared.selection.Span.{Span}
 
 or_right : (a b : Bool) → b ≡ true → (a || b) ≡ true

@@ -7,8 +7,9 @@ use borrow.Author.Tests.{lt-ltb}
 use Rattle.std.specs.Borrow.{Bor}
 use Rattle.query.specs.Words.{parts}
 use Rattle.query.specs.TextLeft.{after_part}
-use Rattle.query.specs.Values.{is_symbol, symbols_of}
-use Rattle.query.specs.Meaning.{are_symbols}
+use Rattle.meaning.specs.Symbols.{is_symbol}
+use Rattle.query.specs.Values.{symbols_of}
+use Rattle.meaning.specs.Meaning.{are_symbols}
 
 append_none : (xs : List (List ℕ)) → xs ++ [] ≡ xs
 append_none xs = grind (arith, common_steps)

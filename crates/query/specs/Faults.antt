@@ -5,8 +5,9 @@ use Rattle.std.specs.Prelude.{Result, Ok, Err, codes}
 use Rattle.std.specs.Result.{result_err}
 use Rattle.query.specs.Words.{Word, reads_as}
 use Rattle.query.specs.Values.{count_of, unit_of, time_of, symbols_of, kinds_of}
-use Rattle.query.specs.Meaning.{Meaning, Said, only, meaning_of, is_width}
-use Rattle.query.specs.declared.query.What.TheVariants.{Sales, Bars}
+use Rattle.meaning.specs.Meaning.{Meaning, is_width}
+use Rattle.query.specs.Said.{Said, only, meaning_of}
+use Rattle.meaning.specs.declared.query.What.TheVariants.{Sales, Bars}
 use Rattle.query.specs.declared.fault.QueryFault.{QueryFault}
 use Rattle.query.specs.declared.fault.QueryFault.TheVariants.{UnknownWord, BadNumber, BadTime, Repeated, Incomplete}
 use Rattle.query.specs.declared.fault.QueryFault.TheVariants.{EmptyRange}

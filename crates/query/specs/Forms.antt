@@ -5,9 +5,10 @@ use Rattle.std.specs.Prelude.{ℕ, ◌*◌, nat_lt, Bool, false, if◌then◌els
 use Rattle.std.specs.Prelude.{Err, codes}
 use Rattle.query.specs.Words.{Word, reads_as}
 use Rattle.query.specs.Values.{count_of, unit_of, time_of, symbols_of, kinds_of}
-use Rattle.query.specs.Meaning.{Said, is_width}
-use Rattle.query.specs.declared.query.What.{What}
-use Rattle.query.specs.declared.query.What.TheVariants.{Sales, Bars}
+use Rattle.meaning.specs.Meaning.{is_width}
+use Rattle.query.specs.Said.{Said}
+use Rattle.meaning.specs.declared.query.What.{What}
+use Rattle.meaning.specs.declared.query.What.TheVariants.{Sales, Bars}
 use Rattle.query.specs.declared.fault.QueryFault.{QueryFault}
 use Rattle.query.specs.declared.fault.QueryFault.TheVariants.{UnknownWord, BadNumber, BadTime, Repeated, Incomplete}
 use Rattle.query.specs.declared.fault.QueryFault.TheVariants.{EmptyRange}

@@ -4,8 +4,9 @@
 use Rattle.std.specs.Prelude.{◌≡◌, ℕ, ◌*◌, nat_lt, true, List, [], ◌∷◌, Some, None, codes}
 use Rattle.query.specs.Words.{Word, word}
 use Rattle.query.specs.Values.{count_of, unit_of, time_of, symbols_of, kinds_of}
-use Rattle.query.specs.Meaning.{Meaning, Said, only, meaning_of, is_width}
-use Rattle.query.specs.declared.query.What.TheVariants.{Sales, Bars}
+use Rattle.meaning.specs.Meaning.{Meaning, is_width}
+use Rattle.query.specs.Said.{Said, only, meaning_of}
+use Rattle.meaning.specs.declared.query.What.TheVariants.{Sales, Bars}
 use Rattle.probe.specs.declared.selection.Kinds.{Kinds}
 
 mutual

@@ -1,10 +1,7 @@
 pub mod Words
 pub mod TextLeft
 pub mod Values
-pub mod Meaning
+pub mod Said
 pub mod Forms
 pub mod Grammar
 pub mod Faults
-pub mod Selected
-pub mod Canonical
-pub mod CanonicalPieces

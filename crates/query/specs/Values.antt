@@ -1,6 +1,6 @@
 -- Words that stand for a value.
 -- To be believed.
-use Rattle.std.specs.Prelude.{ℕ, ◌+◌, ◌-◌, ◌*◌, ◌==◌, nat_lt, nat_le, Bool, ◌&&◌, ◌||◌, not, if◌then◌else◌, List}
+use Rattle.std.specs.Prelude.{ℕ, ◌+◌, ◌-◌, ◌*◌, ◌==◌, nat_lt, nat_le, Bool, ◌&&◌, ◌||◌, if◌then◌else◌, List}
 use Rattle.std.specs.Prelude.{length, fold, Option, Some, None, option_and_then, slice_index, codes}
 use Rattle.std.specs.Char.{is_ascii_digit}
 use Rattle.std.specs.List.{list_all, list_any}
@@ -8,7 +8,7 @@ use Rattle.std.specs.Str.{bytes_eq}
 use Rattle.query.specs.Words.{parts}
 use Rattle.lists.specs.declared.limits.TheConstants.{SECONDS_OF_DAY}
 use Rattle.probe.specs.declared.selection.Kinds.{Kinds}
-use Rattle.query.specs.declared.words.TheConstants.{COMMA}
+use Rattle.meaning.specs.declared.symbols.TheConstants.{COMMA}
 use Rattle.query.specs.declared.values.TheConstants.{COLON}
 
 -- the number that digits write; 48 is the code of `0`
@@ -52,15 +52,6 @@ clock_of bytes =
 -- a time of the day, or its end
 unfoldable pub time_of : List ℕ → Option ℕ
 time_of bytes = if bytes_eq bytes (codes "24:00:00") then Some SECONDS_OF_DAY else clock_of bytes
-
--- a visible ASCII character, from `!` to `~`, but no comma
-abbrev pub is_symbol_byte : ℕ → Bool
-is_symbol_byte byte = (nat_le 33 byte && nat_le byte 126) && not (byte == COMMA)
-
--- a symbol: one to eight such bytes
-unfoldable pub is_symbol : List ℕ → Bool
-is_symbol bytes =
-    (nat_lt 0 (length bytes) && nat_le (length bytes) 8) && list_all is_symbol_byte bytes
 
 -- a word that is a list of symbols, with a comma between each two
 unfoldable pub symbols_of : List ℕ → Option (List (List ℕ))

@@ -3,15 +3,16 @@ ghost use Rattle.std.specs.Prelude.{◌≡◌, ◌≢◌, IfOk, IfErr, MatchResu
 ghost use Rattle.query.specs.Faults.{first_query_fault, query, read_from};
 ghost use Rattle.query.specs.Forms.{what_of, width_of};
 ghost use Rattle.query.specs.Grammar.{Means};
-ghost use Rattle.query.specs.Meaning.{CanBeSpelled, HasWidth, Meaning, is_width, meaning_of};
+ghost use Rattle.meaning.specs.Meaning.{CanBeSpelled, HasWidth, Meaning, is_width};
+ghost use Rattle.query.specs.Said.{meaning_of};
 ghost use Rattle.query.specs.Words.{lists_symbols, words_of};
 
 use crate::fault::QueryFault;
-use crate::query::{Query, What};
 use crate::reading::Reading;
 use crate::values::{count_of, unit_of};
 use crate::words::Words;
 use lists::limits::SECONDS_OF_DAY;
+use meaning::{Query, What};
 use std::alloc::Allocator;
 
 /// Reads the query that a text spells, in time linear in its length. Of several faults it reports

@@ -2,25 +2,16 @@
 ghost use Rattle.std.specs.Prelude.{◌≡◌, ◌≢◌, ◌<◌, ◌≤◌, length, true, IfOk, IfErr, OnOk, Ok, Err, Some};
 ghost use Rattle.query.specs.Faults.{condition, filter, read_from};
 ghost use Rattle.query.specs.Forms.{condition_of, in_list, moment_of, spanned, timed};
-ghost use Rattle.query.specs.Meaning.{
-  CanBeSpelled,
-  HasWidth,
-  Said,
-  are_symbols,
-  has_some,
-  is_span,
-  meaning_of,
-  only,
-};
+ghost use Rattle.meaning.specs.Meaning.{CanBeSpelled, HasWidth, are_symbols, has_some, is_span};
+ghost use Rattle.query.specs.Said.{Said, meaning_of, only};
 ghost use Rattle.query.specs.Values.{kinds_of, symbols_of};
 ghost use Rattle.query.specs.Words.{begins_list, lists_symbols};
 
 use crate::fault::QueryFault;
-use crate::query::{Query, What};
-use crate::symbols::Symbols;
-use crate::values::{kinds_of, time_of};
+use crate::values::{kinds_of, symbols_of, time_of};
 use crate::words::Words;
 use lists::limits::SECONDS_OF_DAY;
+use meaning::{Query, Symbols, What};
 use probe::{Kinds, Span};
 use std::alloc::Allocator;
 use std::marker::Model;
@@ -43,7 +34,7 @@ pub(crate) struct Reading<A: Allocator> {
 }
 
 impl<A: Allocator> Model for Reading<A> {
-    ghost use Rattle.query.specs.Meaning.{IsSaidSoundly, Said};
+    ghost use Rattle.query.specs.Said.{IsSaidSoundly, Said};
 
     ghost Value = { Said };
 
@@ -192,7 +183,7 @@ fn read_symbols<A: Allocator + Clone>(
     words.expect(b"in")?;
     let list = words.required()?;
     let alloc = alloc.clone().map_err(|_| QueryFault::OutOfMemory)?;
-    let symbols = Symbols::read(alloc, list.bytes).map_err(|_| QueryFault::OutOfMemory)?;
+    let symbols = symbols_of(alloc, list.bytes).map_err(|_| QueryFault::OutOfMemory)?;
     symbols.ok_or(QueryFault::UnknownWord { at: list.at })
 }
 

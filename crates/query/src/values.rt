@@ -1,26 +1,28 @@
 //! Words that stand for a value.
-ghost use Rattle.std.specs.Prelude.{◌≡◌, ◌+◌, ◌*◌, ◌<◌, ◌≤◌, ◌^◌, length, IfSome, is_some, Some, true};
+ghost use Rattle.std.specs.Prelude.{◌≡◌, ◌+◌, ◌*◌, ◌<◌, ◌≤◌, ◌^◌, length, IfOk, IfSome, is_some, Some, true};
 ghost use Rattle.std.specs.Char.{is_ascii_digit};
 ghost use Rattle.std.specs.List.{list_all};
 ghost use Rattle.query.specs.Values.{
   clock_of,
   is_kind,
-  is_symbol_byte,
   kinds_of,
   number_from,
   count_of,
   pair_at,
+  symbols_of,
   time_of,
   unit_of,
 };
 ghost use Rattle.query.specs.Words.{parts};
 
-use crate::words::{COMMA, cut};
+use crate::words::cut;
 use lists::limits::SECONDS_OF_DAY;
+use meaning::{COMMA, OutOfMemory, Symbol, Symbols};
 use probe::Kinds;
+use std::alloc::Allocator;
 
 /// What parts the hours, minutes and seconds of a time.
-pub(crate) const COLON: u8 = b':';
+pub const COLON: u8 = b':';
 
 fn all_digits(bytes: &[u8]) -> bool
     ensures { result ≡ list_all is_ascii_digit bytes.now }
@@ -111,6 +113,26 @@ pub(crate) fn time_of(bytes: &[u8]) -> Option<u32>
     } else {
         clock_of(bytes)
     }
+}
+
+/// The symbols of a list with a comma between each two, if it is one.
+pub(crate) fn symbols_of<A: Allocator>(
+    alloc: A,
+    bytes: &[u8],
+) -> Result<Option<Symbols<A>>, OutOfMemory>
+    ensures { IfOk result (λ symbols. symbols ≡ symbols_of bytes.now) }
+{
+    let mut items = Vec::new(alloc);
+    let mut rest = Some(bytes);
+    while let Some(text) = rest {
+        let (part, after) = cut(text, COMMA);
+        let Some(symbol) = Symbol::of(part) else {
+            return Ok(None);
+        };
+        items.push(symbol)?;
+        rest = after;
+    }
+    Ok(Some(Symbols::from_vec(items)))
 }
 
 fn is_kind(part: &[u8]) -> bool

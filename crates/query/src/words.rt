@@ -9,10 +9,7 @@ use crate::fault::QueryFault;
 use std::marker::Model;
 
 /// What parts the words of a text.
-pub(crate) const SPACE: u8 = b' ';
-
-/// What parts the items of a list.
-pub(crate) const COMMA: u8 = b',';
+pub const SPACE: u8 = b' ';
 
 /// A word, and the number of bytes that stand before it in the text.
 #[derive(Clone, Copy, Debug)]

@@ -5,7 +5,7 @@ use Rattle.row_types.specs.declared.order.OrderRow.{OrderRow}
 use Rattle.order_table.specs.Orders.{first_repeated}
 use Rattle.row_types.specs.declared.trade.Execution.{Execution}
 use Rattle.probe.specs.Pricing.{first_unknown}
-use Rattle.query.specs.Meaning.{Meaning}
+use Rattle.meaning.specs.Meaning.{Meaning}
 use Rattle.answers.specs.Answers.{IsAnswerToMessages, IsTextOfMessages}
 use Rattle.day_rows.specs.Messages.{Placed, executions, order_rows}
 use Rattle.answers.specs.declared.day_fault.DayFault.{DayFault}

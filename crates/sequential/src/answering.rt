@@ -4,7 +4,7 @@ ghost use Rattle.std.specs.List.Sorted.{IsPermutation};
 ghost use Rattle.probe.specs.Pricing.{priced};
 ghost use Rattle.probe.specs.Selection.{admits};
 ghost use Rattle.probe.specs.Trades.{kept};
-ghost use Rattle.query.specs.Meaning.{Meaning};
+ghost use Rattle.meaning.specs.Meaning.{Meaning};
 ghost use Rattle.row_types.specs.SalesByPlace.{IsByPlace};
 ghost use Rattle.time_and_sales.specs.Names.{last_row, name_text};
 ghost use Rattle.answers.specs.Answers.{IsAnswer, IsAnswerToMessages, IsTextOfSales, told_by};
@@ -22,7 +22,7 @@ use itch_messages::read;
 use lists::limits::TRADE_LIMIT;
 use order_table::{Built, OrderRow, OrderTable, Repeated};
 use probe::{Execution, Priced, Sale, Selection, Unknown, keep, price_all};
-use query::{Query, What, selection};
+use meaning::{Query, What, selection};
 use std::alloc::{AllocError, Allocator};
 use time_and_sales::{Listing, Names};
 

@@ -8,4 +8,4 @@ pub use answering::plain;
 pub use answers::Answer;
 pub use day_file::DayFile;
 pub use lists::OutOfMemory;
-pub use query::Query;
+pub use meaning::Query;

@@ -1,5 +1,5 @@
-//! Tests of the crate `query`, of what its contracts don't say: the text of each fault, and that
-//! each call succeeds if there is memory.
+//! Tests of the crates `query`, `meaning` and `canonical_query`, of what their contracts don't say:
+//! the text of each fault, and that each call succeeds if there is memory.
 #![tactic(auto)]
 
 #[cfg(test)]

@@ -2,7 +2,8 @@
 //! has grown, 16 bytes at a time.
 
 use linked_list_allocator::LocalHeap;
-use query::{Locates, Names, OutOfMemory, parse, selection, write};
+use canonical_query::write;
+use query::{Locates, Names, OutOfMemory, parse, selection};
 use std::alloc::Global;
 use std::test::Fail;
 use time_and_sales::DirectoryRow;

@@ -1,7 +1,8 @@
 //! The language by examples: a text, and the canonical text of the query that it spells or the
 //! message of its first fault.
 
-use query::{OutOfMemory, What, parse, write};
+use canonical_query::write;
+use query::{OutOfMemory, What, parse};
 use std::alloc::Global;
 use std::test::Fail;
 

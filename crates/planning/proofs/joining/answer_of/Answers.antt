@@ -2,8 +2,8 @@ use Rattle.std.proofs.Common.{◌∙◌, ap, map, subst, sym}
 use Rattle.std.specs.Arc.{arc_value}
 use Rattle.time_and_sales.specs.Names.{last_row, name_text}
 use Rattle.bars.specs.Bars.{all_sales}
-use Rattle.query.specs.Meaning.{Meaning}
-use Rattle.query.specs.declared.query.What.{What}
+use Rattle.meaning.specs.Meaning.{Meaning}
+use Rattle.meaning.specs.declared.query.What.{What}
 use Rattle.planning.specs.Gathered.{IsTextOfAll}
 use Rattle.planning.proofs.AnswerOfBuckets.{fault_answers, none_from, text_gathered}
 use Rattle.planning.proofs.BucketsOfMessages.{lists_in}

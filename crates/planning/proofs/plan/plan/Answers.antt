@@ -1,6 +1,6 @@
 use Rattle.std.proofs.Common.{◌∙◌, rules}
 use Rattle.time_and_sales.specs.Names.{name_text}
-use Rattle.query.specs.Selected.{locates_of}
+use Rattle.meaning.specs.Selected.{locates_of}
 use Rattle.planning.proofs.plan.plan.Goals as goal
 
 pub returns-clause-selection : goal.returns-clause-selection

@@ -3,7 +3,7 @@ use Rattle.std.specs.Prelude.{Ok, Err}
 use Rattle.std.proofs.lemmas.Result.{err_from_is_err_and}
 use Rattle.query.specs.Words.{words_of}
 use Rattle.query.specs.Faults.{query, read_from}
-use Rattle.query.specs.Meaning.{meaning_of}
+use Rattle.query.specs.Said.{meaning_of}
 use Rattle.query.proofs.MeaningOrFault.{means_from_read, fault_from_read, one_meaning, only_memory}
 use Rattle.query.proofs.parser.parse.Goals as goal
 

@@ -3,7 +3,7 @@ use Rattle.lists.specs.declared.limits.TheConstants.{TRADE_LIMIT}
 use Rattle.time_and_sales.specs.Names.{IsNamesOf, last_row, name_text}
 use Rattle.probe.specs.Pricing.{priced}
 use Rattle.probe.specs.Selection.{admits}
-use Rattle.query.proofs.ListedLocates.{AreLocatesOf-selected}
+use Rattle.meaning.proofs.ListedLocates.{AreLocatesOf-selected}
 use Rattle.day_rows.specs.DayRows.{DayRows}
 use Rattle.day_rows.specs.Messages.{directory_rows, executions, order_rows}
 use Rattle.answers.proofs.AnswerOfSteps.{text_answers, text_asked}

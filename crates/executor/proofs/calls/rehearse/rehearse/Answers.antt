@@ -1,6 +1,6 @@
 use Rattle.std.proofs.Common.{ap, sym, ◌∙◌}
 use Rattle.std.specs.Arc.{arc_value}
-use Rattle.query.specs.Meaning.{Meaning}
+use Rattle.meaning.specs.Meaning.{Meaning}
 use Rattle.scanning.specs.Scans.{inputs_of}
 use Rattle.executor.specs.FirstPipeline.{AreRuns}
 use Rattle.executor.proofs.CutAnswers.{messages}

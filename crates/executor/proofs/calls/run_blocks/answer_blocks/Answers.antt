@@ -1,6 +1,6 @@
 use Rattle.std.proofs.Common.{rules, subst}
 use Rattle.std.specs.List.{concat}
-use Rattle.query.specs.Meaning.{Meaning}
+use Rattle.meaning.specs.Meaning.{Meaning}
 use Rattle.executor.specs.FirstPipeline.{IsScanOf}
 use Rattle.executor.proofs.BlocksScanned.{scan_of}
 use Rattle.executor.proofs.calls.run_blocks.answer_blocks.Goals as goal

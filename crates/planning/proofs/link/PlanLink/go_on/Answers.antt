@@ -3,7 +3,7 @@ use Rattle.std.specs.Arc.{arc_value}
 use Rattle.std.proofs.lemmas.List.{length-map}
 use Rattle.std.proofs.lemmas.List.FromFn.{length-map-range_with_len}
 use Rattle.lists.specs.Least.{numbers_below}
-use Rattle.query.specs.Meaning.{HasWidth}
+use Rattle.meaning.specs.Meaning.{HasWidth}
 use Rattle.morsel_rows.specs.Partitions.{AreRowsByPlace, joined_partitions}
 use Rattle.buckets.specs.BucketRows.{bucket_of}
 use Rattle.buckets.specs.Buckets.{AreNumbered}

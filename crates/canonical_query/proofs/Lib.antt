@@ -1,0 +1,2 @@
+pub mod WriterIsCanonical
+pub mod CanonicalHasMeaning

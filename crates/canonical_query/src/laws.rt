@@ -1,0 +1,26 @@
+//! Laws of the grammar.
+ghost use Rattle.std.specs.Prelude.{◌≡◌, List, None};
+ghost use Rattle.canonical_query.specs.Canonical.{canonical};
+ghost use Rattle.query.specs.Faults.{first_query_fault};
+ghost use Rattle.query.specs.Grammar.{Means};
+ghost use Rattle.meaning.specs.Meaning.{CanBeSpelled, Meaning};
+ghost use Rattle.query.specs.Words.{Word, words_of};
+
+/// The words of a text have one meaning or none.
+pub fn one_meaning()
+    ensures { (words : List Word) (one other : Meaning) →
+        Means words one → Means words other → one ≡ other }
+{}
+
+/// The words of a text have a meaning, or a first fault, and never both.
+pub fn meaning_or_fault()
+    ensures never_both { (words : List Word) (meaning : Meaning) →
+        Means words meaning → first_query_fault words ≡ None }
+    ensures one_of_them { (words : List Word) → first_query_fault words ≡ None →
+        (meaning : Meaning) × Means words meaning }
+{}
+
+/// The canonical text of a query is in the grammar, with that query as its meaning.
+pub fn canonical_text()
+    ensures { (query : Meaning) → CanBeSpelled query → Means (words_of (canonical query)) query }
+{}

@@ -1,0 +1,2 @@
+pub mod ListedLocates
+pub mod SortedNames

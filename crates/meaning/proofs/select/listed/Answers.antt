@@ -1,0 +1,28 @@
+use Rattle.std.proofs.Common.{◌≡◌, ◌∙◌, ◌++◌, ◌∷◌, [], ℕ, ap, arith, sym}
+use Rattle.std.specs.Prelude.{Some}
+use Rattle.time_and_sales.specs.Names.{last_row, name_text}
+use Rattle.meaning.specs.Selected.{has_name}
+use Rattle.meaning.proofs.ListedLocates.{all_selected, passing_less, passing_more, same_symbols}
+use Rattle.meaning.proofs.select.listed.Goals as goal
+use Rattle.meaning.proofs.select.listed.Goals.{then-hold+in_ok-push, else-hold}
+
+pub loop-number-preserved : goal.loop-number-preserved
+loop-number-preserved g c =
+    let number = c.loop-number.number in
+    let text = λ (k : ℕ). name_text k (last_row c.args.names.now k) in
+    let test = λ (k : ℕ). has_name (Some c.args.symbols.now) (text k) in
+    let name : c.items.result.now ≡ text number = ◌∙◌ {c = text number} c.items.ensures.value c.name.ensures in
+    let same : c.hold.result ≡ test number = same_symbols c.args.symbols.now c.in_ok-sorted.sorted c.items.result.now (text number) c.hold.result
+    c.in_ok-sorted.ensures name c.hold.ensures in
+    elim c.if-hold.branch [
+      | then-hold+in_ok-push w ↦
+          ap (λ rows. rows.items) w.rows-is ∙ w.in_ok-push.ensures.items ∙ ap (λ rows. rows ++ number ∷ []) c.loop-number.invariant
+          ∙ sym (passing_more test number (sym same ∙ w.if-hold.true))
+      | else-hold w ↦
+          ap (λ rows. rows.items) w.rows-is ∙ c.loop-number.invariant ∙ sym (passing_less test number (sym same ∙ w.if-hold.false))
+    ]
+
+pub returns : goal.returns
+returns g c =
+    all_selected c.args.symbols.now (λ (locate : ℕ). name_text locate (last_row c.args.names.now locate)) c.loop-number.number c.loop-number.rows.items
+    c.loop-number.invariant (omega (arith, c.loop-number-test.false))

@@ -1,0 +1,3 @@
+pub mod Symbols
+pub mod Meaning
+pub mod Selected

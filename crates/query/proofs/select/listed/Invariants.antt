@@ -1,9 +1,0 @@
-use Rattle.std.specs.Prelude.{◌≡◌, Some, filter}
-use Rattle.lists.specs.Least.{numbers_below}
-use Rattle.time_and_sales.specs.Names.{last_row, name_text}
-use Rattle.query.specs.Selected.{has_name}
-use Rattle.query.proofs.select.listed.Given as goal
-
-abbrev pub invariant-loop-number : goal.invariant-loop-number
-invariant-loop-number g l =
-    l.rows.items ≡ filter (λ locate. has_name (Some l.symbols) (name_text locate (last_row l.names locate))) (numbers_below l.number)
