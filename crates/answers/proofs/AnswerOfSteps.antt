@@ -8,8 +8,8 @@ use Rattle.meaning.specs.Meaning.{Meaning}
 use Rattle.time_and_sales.specs.Names.{name_of}
 use Rattle.day_rows.specs.Messages.{Placed, counted, directory_rows, executions, first_wrong, messages_of, order_rows}
 use Rattle.answers.specs.Answers.{IsAnswer, IsAnswerToMessages, IsTextOfMessages, IsTextOfSales, selected_sales, wrong_length_at}
-use Rattle.answers.specs.declared.day_fault.DayFault.{DayFault}
-use Rattle.answers.specs.declared.day_fault.DayFault.TheVariants.{Truncated}
+use Rattle.outcomes.specs.declared.day_fault.DayFault.{DayFault}
+use Rattle.outcomes.specs.declared.day_fault.DayFault.TheVariants.{Truncated}
 
 match_none : {T : Type 0} (o : Option T) (P : Type 0) (Q : T → Type 0) → o ≡ None → P → MatchOption o P Q
 match_none None P Q e p = p

@@ -6,7 +6,7 @@ use Rattle.meaning.specs.Meaning.{Meaning}
 use Rattle.answers.specs.Answers.{IsAnswer, IsAnswerToFrames, IsAnswerToMessages, wrong_length_at}
 use Rattle.day_rows.specs.Messages.{Placed, counted, first_wrong, messages_of}
 use Rattle.answers.specs.Moments.{HasCounted, NoneIsPast, without_moment}
-use Rattle.answers.specs.declared.day_fault.DayFault.{DayFault}
+use Rattle.outcomes.specs.declared.day_fault.DayFault.{DayFault}
 use Rattle.answers.proofs.AnswerOfSteps.{messages_answer}
 use Rattle.day_rows.proofs.CountedMessages.{counted-all, counted-none}
 

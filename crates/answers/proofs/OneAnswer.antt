@@ -14,8 +14,8 @@ use Rattle.meaning.specs.declared.query.What.{What}
 use Rattle.meaning.specs.declared.query.What.TheVariants.{Sales, Bars}
 use Rattle.day_rows.specs.Messages.{Placed, counted, executions, first_wrong, messages_of, order_rows}
 use Rattle.answers.specs.Answers.{IsAnswer, IsAnswerToFrames, IsAnswerToMessages, IsTextOfMessages, IsTextOfSales, wrong_length_at}
-use Rattle.answers.specs.declared.day_fault.DayFault.{DayFault}
-use Rattle.answers.specs.declared.day_fault.DayFault.TheVariants.{Truncated, RepeatedReference, UnknownReference}
+use Rattle.outcomes.specs.declared.day_fault.DayFault.{DayFault}
+use Rattle.outcomes.specs.declared.day_fault.DayFault.TheVariants.{Truncated, RepeatedReference, UnknownReference}
 
 one_text : (what : What) (names : ℕ → List ℕ) (sales : List Sale) (one other : List ℕ) → IsTextOfSales what names sales one
     → IsTextOfSales what names sales other → one ≡ other

@@ -34,7 +34,7 @@ use Rattle.meaning.proofs.ListedLocates.{AreLocatesOf}
 use Rattle.answers.specs.Answers.{asks_for, selected_sales}
 use Rattle.day_rows.specs.Messages.{Placed, order_rows, executions, own_priced_sales, break_numbers, directory_rows}
 use Rattle.day_rows.specs.DayRows.{AreByPlace, IsStamped}
-use Rattle.answers.specs.declared.day_fault.DayFault.{DayFault}
+use Rattle.outcomes.specs.declared.day_fault.DayFault.{DayFault}
 use Rattle.day_rows.proofs.RowsByPlace.{distinct_places, kept_distinct}
 use Rattle.day_rows.proofs.TradesOfRows.{listing_is}
 

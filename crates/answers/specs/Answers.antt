@@ -38,8 +38,8 @@ use Rattle.day_rows.specs.Messages.{
 }
 use Rattle.answers.specs.declared.answer.Answer.{Answer}
 use Rattle.answers.specs.declared.answer.Answer.TheVariants.{Printed, Faulty}
-use Rattle.answers.specs.declared.day_fault.DayFault.{DayFault}
-use Rattle.answers.specs.declared.day_fault.DayFault.TheVariants.{
+use Rattle.outcomes.specs.declared.day_fault.DayFault.{DayFault}
+use Rattle.outcomes.specs.declared.day_fault.DayFault.TheVariants.{
   Truncated,
   WrongLength,
   RepeatedReference,

@@ -1,5 +1,5 @@
-use crate::day_fault::DayFault;
 use crate::text::Text;
+use outcomes::DayFault;
 use std::alloc::{Allocator, Global};
 
 /// The answer to a query.

@@ -2,7 +2,7 @@ ghost use Rattle.std.specs.Prelude.{◌≡◌, ◌↔◌, ℕ, List, Result};
 ghost use Rattle.answers.specs.Answers.{IsAnswer};
 ghost use Rattle.day_rows.specs.Messages.{Placed};
 ghost use Rattle.answers.specs.Moments.{HasCounted, NoneIsPast, without_moment};
-ghost use Rattle.answers.specs.declared.day_fault.DayFault.{DayFault};
+ghost use Rattle.outcomes.specs.declared.day_fault.DayFault.{DayFault};
 ghost use Rattle.meaning.specs.Meaning.{Meaning};
 
 /// The law of answers: a file and a query have at most one. It does nothing when it runs.

@@ -2,15 +2,14 @@
 #![tactic(auto)]
 
 mod answer;
-mod day_fault;
 mod laws;
 mod text;
 mod texts;
 
 pub use answer::Answer;
-pub use day_fault::DayFault;
 pub use day_rows::{Row, Rows, counted_are_joined, counts, row_of, rows_are_joined};
 pub use laws::{counted_messages_decide, moment_past_all, one_answer};
 pub use lists::OutOfMemory;
+pub use outcomes::DayFault;
 pub use text::Text;
 pub use texts::{text_of_bars, text_of_listings, text_of_sales, text_of_tables};

@@ -1,7 +1,1 @@
 mod Ended
-mod Examples
-mod Found
-mod LineParts
-mod Numbers
-mod Texts
-mod Whole

@@ -1,4 +1,1 @@
-pub mod Arguments
-pub mod FaultLines
-pub mod Jobs
 pub mod Outcomes

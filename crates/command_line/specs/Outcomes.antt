@@ -1,33 +1,13 @@
 -- The program's outcome: its status, and what it does to its devices.
 -- To be believed.
-use Rattle.std.specs.Prelude.{◌≡◌, ◌==◌, ◌≤◌, ℕ, Bool, false, true, List, Result, Ok, Err, length}
-use Rattle.std.specs.Prelude.{string_bytes, take}
-use Rattle.command_line.specs.FaultLines.{line_of, status_of}
-use Rattle.command_line.specs.declared.arguments.Job.{Job}
-use Rattle.command_line.specs.declared.arguments.WordsFault.{WordsFault}
-use Rattle.command_line.specs.declared.arguments.WordsFault.TheVariants as words
+use Rattle.std.specs.Prelude.{◌≡◌, ◌==◌, ℕ, Bool, List, Result, string_bytes}
+use Rattle.arguments.specs.declared.arguments.Job.{Job}
 use Rattle.executor.specs.Readings.{Reading}
 use Rattle.executor.specs.Runs.{Ran, is_write_failed}
-use Rattle.executor.specs.declared.run_fault.RunFault.{RunFault}
-use Rattle.executor.specs.declared.run_fault.RunFault.TheVariants as fault
-
--- an outcome's status
-abbrev pub status_of_outcome : Result (Unit {0}) RunFault → ℕ
-status_of_outcome (Ok done) = 0
-status_of_outcome (Err f) = status_of f
-
-module _ {L : Type 0} (Took : L → L → List ℕ → Type 0) (HasFlushed : L → Type 0) (has_failed : L → Bool)
-    (before after : L) where
-  -- the device took the whole text and passed it on, or it failed and took some first bytes of it: perhaps none,
-  -- perhaps all
-  pub record Delivered (text : List ℕ) : Type 0 where
-    pub whole : has_failed after ≡ false → Took before after text × HasFlushed after
-    pub part : has_failed after ≡ true → (count : ℕ) × Took before after (take count text)
-
-  -- what the device for errors has of an outcome: the line of its fault, and nothing where there is no fault
-  abbrev pub Reported : Result (Unit {0}) RunFault → Type 0
-  Reported (Ok done) = after ≡ before
-  Reported (Err f) = Delivered (line_of f)
+use Rattle.outcomes.specs.declared.run_fault.RunFault.{RunFault}
+use Rattle.outcomes.specs.declared.run_fault.RunFault.TheVariants as fault
+use Rattle.reports.specs.FaultLines.{status_of}
+use Rattle.reports.specs.Reports.{Reported, status_of_outcome}
 
 -- over what is known of its source, the job did to its output what a run of its query does, and the output failed
 -- exactly where the outcome says so; this is the outcome's status, and the line of the outcome's fault went to the
@@ -46,35 +26,3 @@ Did reading OutTook OutHasFlushed out_failed Took HasFlushed has_failed job out 
 -- the status is that of a source that failed
 abbrev pub tells_failed_reading : ℕ → Bool
 tells_failed_reading status = status == status_of fault.ReadFailed
-
-module _ {K L : Type 0}
-    (OutTook : K → K → List ℕ → Type 0) (OutHasFlushed : K → Type 0) (out_failed : K → Bool)
-    (Took : L → L → List ℕ → Type 0) (HasFlushed : L → Type 0) (has_failed : L → Bool)
-    (out out_after : K) (errors errors_after : L) (status : ℕ) where
-  -- the output took so many first bytes of a text, perhaps none or all, and failed, and the errors have the line of
-  -- that
-  pub record IsCutShort (text : List ℕ) : Type 0 where
-    pub written : ℕ
-    pub within : written ≤ length text
-    pub took : OutTook out out_after (take written text)
-    pub status_is : status ≡ status_of (fault.WriteFailed written)
-    pub reported : Delivered Took HasFlushed has_failed errors errors_after (line_of (fault.WriteFailed written))
-
-  -- help or the version is delivered to the output, and the errors have nothing; where that fails, they have the
-  -- line of a failed write
-  pub record Helped (text : List ℕ) : Type 0 where
-    pub whole : out_failed out_after ≡ false
-        → OutTook out out_after text × OutHasFlushed out_after × (status ≡ 0) × (errors_after ≡ errors)
-    pub part : out_failed out_after ≡ true → IsCutShort text
-
-  -- help and the version go to the output, and what is wrong to the errors, of which want of memory is a fault's
-  -- line; the output takes nothing else
-  abbrev pub Explained : WordsFault → Type 0
-  Explained (words.Help text) = Helped (string_bytes text)
-  Explained (words.Version text) = Helped (string_bytes text)
-  Explained (words.Wrong text) = (status ≡ 2)
-      × Delivered Took HasFlushed has_failed errors errors_after (string_bytes text)
-      × (out_after ≡ out)
-  Explained words.Memory = (status ≡ status_of fault.OutOfMemory)
-      × Delivered Took HasFlushed has_failed errors errors_after (line_of fault.OutOfMemory)
-      × (out_after ≡ out)

@@ -9,7 +9,6 @@
 #![tactic(auto)]
 
 mod ahead;
-mod crew;
 mod employ;
 mod gate;
 mod gatherers;
@@ -19,12 +18,12 @@ mod runs;
 mod worker;
 
 pub use ahead::{Task, run_ahead};
-pub use crew::Crew;
 pub use gate::{FreeGate, Gate};
 pub use gatherers::{
     Gatherer, channel_of, gather_all, gather_until_covered, merge_all, start_gatherers,
 };
 pub use gathering::{Gathering, Inputs, OutOfMemory, Piece, Work};
+pub use outcomes::Crew;
 pub use pipeline::{run_pipeline, total_of_pieces};
 pub use port::{ChannelPort, KeepingPort, Port};
 pub use runs::{run_missing, run_task};

@@ -2,12 +2,12 @@
 ghost use Rattle.std.specs.Prelude.{◌≡◌, ◌<◌, [], length, IfOk, OnOk};
 ghost use Rattle.std.specs.Arc.{arc_value};
 
-use crate::crew::Crew;
 use crate::employ::start_workers;
 use crate::gate::Gate;
 use crate::gatherers::{gather_all, gather_until_covered, merge_all, start_gatherers};
 use crate::runs::run_missing;
 use gathering::{Gathering, Inputs, OutOfMemory, Piece, TotalRefused, Work};
+use outcomes::Crew;
 use std::alloc::{AllocError, Global};
 use std::sync::{Arc, Wait};
 use std::thread::{Scope, Threads};

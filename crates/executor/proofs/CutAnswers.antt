@@ -13,7 +13,7 @@ use Rattle.day_file.proofs.Laws.{places_rise}
 use Rattle.meaning.specs.Meaning.{Meaning}
 use Rattle.answers.specs.Answers.{IsAnswer, IsAnswerToMessages}
 use Rattle.day_rows.specs.Messages.{Placed, first_wrong, messages_of}
-use Rattle.answers.specs.declared.day_fault.DayFault.{DayFault}
+use Rattle.outcomes.specs.declared.day_fault.DayFault.{DayFault}
 use Rattle.answers.proofs.AnswerOfSteps.{messages_answer, wrong_length_answers}
 use Rattle.day_rows.proofs.CountedMessages.{counted_by_place}
 use Rattle.day_rows.proofs.FewTrades.{few_trades}

@@ -1,15 +1,15 @@
 -- An answer over all that was read, once it is handed over, is what a run of its query promises.
 use Rattle.std.proofs.Common.{◌≡◌, ℕ, List, Result, Ok, Err, subst}
 use Rattle.answers.specs.Answers.{IsAnswer}
-use Rattle.answers.specs.declared.day_fault.DayFault.{DayFault}
+use Rattle.outcomes.specs.declared.day_fault.DayFault.{DayFault}
 use Rattle.query.specs.Grammar.{Means}
 use Rattle.meaning.specs.Meaning.{Meaning}
 use Rattle.query.specs.Words.{words_of}
 use Rattle.executor.specs.Readings.{Reading}
 use Rattle.executor.specs.Runs.{Answers, Ran}
 use Rattle.executor.specs.Sources.{IsAnswered, IsHandedOver}
-use Rattle.executor.specs.declared.run_fault.RunFault.{RunFault}
-use Rattle.executor.specs.declared.run_fault.RunFault.TheVariants as fault
+use Rattle.outcomes.specs.declared.run_fault.RunFault.{RunFault}
+use Rattle.outcomes.specs.declared.run_fault.RunFault.TheVariants as fault
 
 module _ {K : Type 0} (reading : Reading) (Took : K → K → List ℕ → Type 0) (HasFlushed : K → Type 0) (words : List ℕ) (limit : ℕ) (before after : K)
     (query : Meaning) (answer : Result (List ℕ) DayFault) (means : Means (words_of words) query) (answered : IsAnswered reading query answer) where

@@ -4,8 +4,8 @@ use Rattle.std.specs.Prelude.{◌≡◌, ℕ, ◌<◌, ◌≤◌, All, List, Opt
 use Rattle.std.specs.List.{concat}
 use Rattle.lists.specs.declared.limits.TheConstants.{LONGEST_FILE}
 use Rattle.day_file.specs.Cuts.{AreBytes, IsRun}
-use Rattle.answers.specs.declared.day_fault.DayFault.{DayFault}
-use Rattle.answers.specs.declared.day_fault.DayFault.TheVariants.{WrongLength}
+use Rattle.outcomes.specs.declared.day_fault.DayFault.{DayFault}
+use Rattle.outcomes.specs.declared.day_fault.DayFault.TheVariants.{WrongLength}
 use Rattle.scanning.specs.Scans.{ScanTotalView, inputs_of, total_of}
 use Rattle.scanning.specs.declared.wrong.WrongLength.{WrongLength as FoundWrong}
 use Rattle.row_types.specs.declared.directory.DirectoryRow.{DirectoryRow}

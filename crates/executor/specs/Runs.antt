@@ -6,10 +6,10 @@ use Rattle.query.specs.Faults.{first_query_fault}
 use Rattle.query.specs.Grammar.{Means}
 use Rattle.meaning.specs.Meaning.{Meaning}
 use Rattle.query.specs.Words.{words_of}
-use Rattle.answers.specs.declared.day_fault.DayFault.{DayFault}
+use Rattle.outcomes.specs.declared.day_fault.DayFault.{DayFault}
 use Rattle.executor.specs.Readings.{Reading}
-use Rattle.executor.specs.declared.run_fault.RunFault.{RunFault}
-use Rattle.executor.specs.declared.run_fault.RunFault.TheVariants as fault
+use Rattle.outcomes.specs.declared.run_fault.RunFault.{RunFault}
+use Rattle.outcomes.specs.declared.run_fault.RunFault.TheVariants as fault
 
 -- the words mean a query
 abbrev pub IsQuery : List ℕ → Type 0

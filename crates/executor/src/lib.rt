@@ -3,8 +3,6 @@
 
 mod calls;
 mod laws;
-mod run_fault;
-mod settings;
 
 pub use answers::{Answer, DayFault, Text, one_answer};
 pub use block_scan::{BlockSource, FileBlocks, Memory};
@@ -15,10 +13,9 @@ pub use calls::run_blocks::run_blocks;
 pub use day_file::{Counted, Cut, DayFile, DeviceFailed, LONGEST_FILE, Source};
 pub use laws::{all_arrived_answers, each_once_answers, one_rehearsal};
 pub use lists::OutOfMemory;
+pub use outcomes::{RunFault, Settings};
 pub use pipelines::{Crew, FreeGate, Gate};
 pub use query::{Query, QueryFault, What, parse};
-pub use run_fault::RunFault;
 pub use schedules::Event;
 pub use sequential::plain;
-pub use settings::Settings;
 pub use sinks::{CountedSink, Sink, WriteFailed, deliver};

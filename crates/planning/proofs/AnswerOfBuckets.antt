@@ -26,8 +26,8 @@ use Rattle.meaning.specs.declared.query.What.TheVariants.{Sales, Bars}
 use Rattle.answers.specs.Answers.{IsAnswerToMessages, IsTextOfMessages, IsTextOfSales, asks_for, selected_sales}
 use Rattle.day_rows.specs.DayRows.{AreByPlace}
 use Rattle.day_rows.specs.Messages.{Placed, break_numbers, directory_rows, executions, order_rows, own_priced_sales}
-use Rattle.answers.specs.declared.day_fault.DayFault.{DayFault}
-use Rattle.answers.specs.declared.day_fault.DayFault.TheVariants.{RepeatedReference, UnknownReference}
+use Rattle.outcomes.specs.declared.day_fault.DayFault.{DayFault}
+use Rattle.outcomes.specs.declared.day_fault.DayFault.TheVariants.{RepeatedReference, UnknownReference}
 use Rattle.answers.proofs.AnswerOfSteps.{text_answers, text_asked}
 use Rattle.day_rows.proofs.RowsByPlace.{kept_distinct}
 use Rattle.day_rows.proofs.TradesOfRows.{kept_are_sales, listing_is}

@@ -19,8 +19,8 @@ use Rattle.meaning.specs.Meaning.{Meaning}
 use Rattle.meaning.specs.declared.query.What.{What}
 use Rattle.meaning.specs.declared.query.What.TheVariants.{Sales, Bars}
 use Rattle.day_rows.specs.DayRows.{AreByPlace, AreStamped, IsStamped, rows_of}
-use Rattle.answers.specs.declared.day_fault.DayFault.{DayFault}
-use Rattle.answers.specs.declared.day_fault.DayFault.TheVariants.{RepeatedReference, UnknownReference}
+use Rattle.outcomes.specs.declared.day_fault.DayFault.{DayFault}
+use Rattle.outcomes.specs.declared.day_fault.DayFault.TheVariants.{RepeatedReference, UnknownReference}
 use Rattle.day_rows.specs.Messages.{Placed, break_numbers, directory_rows, executions, own_priced_sales}
 use Rattle.morsel_rows.specs.Partitions.{partition_of}
 use Rattle.buckets.specs.FoundRows.{TotalView, all_found, found_of}

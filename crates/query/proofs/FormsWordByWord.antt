@@ -10,8 +10,8 @@ use Rattle.query.specs.Said.{Said, meaning_of, only}
 use Rattle.query.specs.Faults.{Next, Step, step, continued, read_from, expecting, valued, opening, bounded, wide}
 use Rattle.query.specs.Faults.{query, number, unit, moment, of_after_as, moment_time, filter, condition, symbol_in, symbols, time_from, first_time}
 use Rattle.query.specs.Faults.{time_until, second_time, kind_in, kinds, more}
-use Rattle.query.specs.declared.fault.QueryFault.{QueryFault}
-use Rattle.query.specs.declared.fault.QueryFault.TheVariants.{UnknownWord, BadNumber, BadTime, Repeated, EmptyRange}
+use Rattle.outcomes.specs.declared.query_fault.QueryFault.{QueryFault}
+use Rattle.outcomes.specs.declared.query_fault.QueryFault.TheVariants.{UnknownWord, BadNumber, BadTime, Repeated, EmptyRange}
 use Rattle.meaning.specs.declared.query.What.{What}
 use Rattle.meaning.specs.declared.query.What.TheVariants.{Sales, Bars}
 use Rattle.probe.specs.declared.selection.Kinds.{Kinds}

@@ -14,8 +14,8 @@ use Rattle.query.specs.Faults.{first_query_fault}
 use Rattle.query.specs.Faults.{query, number, unit, moment, of_after_as, moment_time, filter, condition, symbol_in, symbols, time_from, first_time}
 use Rattle.query.specs.Faults.{time_until, second_time, kind_in, kinds, more}
 use Rattle.meaning.specs.declared.query.What.TheVariants.{Sales, Bars}
-use Rattle.query.specs.declared.fault.QueryFault.{QueryFault}
-use Rattle.query.specs.declared.fault.QueryFault.TheVariants.{UnknownWord, BadNumber, BadTime, Repeated, Incomplete, EmptyRange, OutOfMemory}
+use Rattle.outcomes.specs.declared.query_fault.QueryFault.{QueryFault}
+use Rattle.outcomes.specs.declared.query_fault.QueryFault.TheVariants.{UnknownWord, BadNumber, BadTime, Repeated, Incomplete, EmptyRange, OutOfMemory}
 
 -- ---- what the grammar gives a meaning is read
 

@@ -7,8 +7,8 @@ use Rattle.query.specs.Forms.{begins_with, after_as, moment_of}
 use Rattle.query.specs.Values.{count_of, unit_of, time_of, symbols_of, kinds_of}
 use Rattle.meaning.specs.Meaning.{is_width}
 use Rattle.query.specs.Said.{Said}
-use Rattle.query.specs.declared.fault.QueryFault.{QueryFault}
-use Rattle.query.specs.declared.fault.QueryFault.TheVariants.{UnknownWord, BadNumber, BadTime, Repeated, EmptyRange, OutOfMemory}
+use Rattle.outcomes.specs.declared.query_fault.QueryFault.{QueryFault}
+use Rattle.outcomes.specs.declared.query_fault.QueryFault.TheVariants.{UnknownWord, BadNumber, BadTime, Repeated, EmptyRange, OutOfMemory}
 use Rattle.meaning.specs.declared.query.What.{What}
 use Rattle.meaning.specs.declared.query.What.TheVariants.{Sales, Bars}
 use Rattle.probe.specs.declared.selection.Span.{Span}

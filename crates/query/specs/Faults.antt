@@ -8,9 +8,9 @@ use Rattle.query.specs.Values.{count_of, unit_of, time_of, symbols_of, kinds_of}
 use Rattle.meaning.specs.Meaning.{Meaning, is_width}
 use Rattle.query.specs.Said.{Said, only, meaning_of}
 use Rattle.meaning.specs.declared.query.What.TheVariants.{Sales, Bars}
-use Rattle.query.specs.declared.fault.QueryFault.{QueryFault}
-use Rattle.query.specs.declared.fault.QueryFault.TheVariants.{UnknownWord, BadNumber, BadTime, Repeated, Incomplete}
-use Rattle.query.specs.declared.fault.QueryFault.TheVariants.{EmptyRange}
+use Rattle.outcomes.specs.declared.query_fault.QueryFault.{QueryFault}
+use Rattle.outcomes.specs.declared.query_fault.QueryFault.TheVariants.{UnknownWord, BadNumber, BadTime, Repeated, Incomplete}
+use Rattle.outcomes.specs.declared.query_fault.QueryFault.TheVariants.{EmptyRange}
 
 -- what must come next, after what was said
 pub data Next : Type 0 where

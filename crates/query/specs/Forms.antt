@@ -9,9 +9,9 @@ use Rattle.meaning.specs.Meaning.{is_width}
 use Rattle.query.specs.Said.{Said}
 use Rattle.meaning.specs.declared.query.What.{What}
 use Rattle.meaning.specs.declared.query.What.TheVariants.{Sales, Bars}
-use Rattle.query.specs.declared.fault.QueryFault.{QueryFault}
-use Rattle.query.specs.declared.fault.QueryFault.TheVariants.{UnknownWord, BadNumber, BadTime, Repeated, Incomplete}
-use Rattle.query.specs.declared.fault.QueryFault.TheVariants.{EmptyRange}
+use Rattle.outcomes.specs.declared.query_fault.QueryFault.{QueryFault}
+use Rattle.outcomes.specs.declared.query_fault.QueryFault.TheVariants.{UnknownWord, BadNumber, BadTime, Repeated, Incomplete}
+use Rattle.outcomes.specs.declared.query_fault.QueryFault.TheVariants.{EmptyRange}
 use Rattle.probe.specs.declared.selection.Span.{Span}
 
 infixl 10 ◌>>=◌

@@ -5,17 +5,16 @@
 //! bytes from the text's start, times and widths in seconds.
 #![tactic(auto)]
 
-pub mod fault;
 mod parser;
 mod reading;
 mod values;
 mod words;
 
-pub use fault::QueryFault;
 pub use meaning::{
     Kinds, LocateList, Locates, Names, OutOfMemory, Query, Selection, Span, Symbol, Symbols, What,
     selection,
 };
+pub use outcomes::QueryFault;
 pub use parser::parse;
 pub use values::COLON;
 pub use words::SPACE;

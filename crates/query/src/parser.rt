@@ -7,12 +7,12 @@ ghost use Rattle.meaning.specs.Meaning.{CanBeSpelled, HasWidth, Meaning, is_widt
 ghost use Rattle.query.specs.Said.{meaning_of};
 ghost use Rattle.query.specs.Words.{lists_symbols, words_of};
 
-use crate::fault::QueryFault;
 use crate::reading::Reading;
 use crate::values::{count_of, unit_of};
 use crate::words::Words;
 use lists::limits::SECONDS_OF_DAY;
 use meaning::{Query, What};
+use outcomes::QueryFault;
 use std::alloc::Allocator;
 
 /// Reads the query that a text spells, in time linear in its length. Of several faults it reports

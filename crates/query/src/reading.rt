@@ -7,11 +7,11 @@ ghost use Rattle.query.specs.Said.{Said, meaning_of, only};
 ghost use Rattle.query.specs.Values.{kinds_of, symbols_of};
 ghost use Rattle.query.specs.Words.{begins_list, lists_symbols};
 
-use crate::fault::QueryFault;
 use crate::values::{kinds_of, symbols_of, time_of};
 use crate::words::Words;
 use lists::limits::SECONDS_OF_DAY;
 use meaning::{Query, Symbols, What};
+use outcomes::QueryFault;
 use probe::{Kinds, Span};
 use std::alloc::Allocator;
 use std::marker::Model;

@@ -5,7 +5,7 @@ ghost use Rattle.query.specs.Words.{Word, parts, reads_as, word, words_from};
 ghost use Rattle.query.specs.Forms.{begins_with, took};
 ghost use Rattle.query.specs.TextLeft.{after_part};
 
-use crate::fault::QueryFault;
+use outcomes::QueryFault;
 use std::marker::Model;
 
 /// What parts the words of a text.

@@ -8,8 +8,8 @@ use Rattle.probe.specs.Pricing.{first_unknown}
 use Rattle.meaning.specs.Meaning.{Meaning}
 use Rattle.answers.specs.Answers.{IsAnswerToMessages, IsTextOfMessages}
 use Rattle.day_rows.specs.Messages.{Placed, executions, order_rows}
-use Rattle.answers.specs.declared.day_fault.DayFault.{DayFault}
-use Rattle.answers.specs.declared.day_fault.DayFault.TheVariants.{RepeatedReference, UnknownReference}
+use Rattle.outcomes.specs.declared.day_fault.DayFault.{DayFault}
+use Rattle.outcomes.specs.declared.day_fault.DayFault.TheVariants.{RepeatedReference, UnknownReference}
 use Rattle.sequential.specs.Steps.{IfDay, IsReferenceFault}
 use Rattle.sequential.specs.declared.refused.Refused.{Refused}
 use Rattle.sequential.specs.declared.refused.Refused.TheVariants.{Day, OutOfMemory}

@@ -9,8 +9,8 @@ use Rattle.row_types.specs.declared.trade.Execution.{Execution}
 use Rattle.probe.specs.Pricing.{first_unknown}
 use Rattle.day_rows.specs.DayRows.{AreByPlace, DayRows, rows_of}
 use Rattle.day_rows.specs.Messages.{Placed, messages_of, counted, first_wrong}
-use Rattle.answers.specs.declared.day_fault.DayFault.{DayFault}
-use Rattle.answers.specs.declared.day_fault.DayFault.TheVariants.{RepeatedReference, UnknownReference}
+use Rattle.outcomes.specs.declared.day_fault.DayFault.{DayFault}
+use Rattle.outcomes.specs.declared.day_fault.DayFault.TheVariants.{RepeatedReference, UnknownReference}
 use Rattle.sequential.specs.declared.refused.Refused.{Refused}
 use Rattle.sequential.specs.declared.refused.Refused.TheVariants.{Day, OutOfMemory}
 

@@ -20,9 +20,9 @@ use broken_trades::Breaks;
 use day_file::{DayFile, frames};
 use itch_messages::read;
 use lists::limits::TRADE_LIMIT;
+use meaning::{Query, What, selection};
 use order_table::{Built, OrderRow, OrderTable, Repeated};
 use probe::{Execution, Priced, Sale, Selection, Unknown, keep, price_all};
-use meaning::{Query, What, selection};
 use std::alloc::{AllocError, Allocator};
 use time_and_sales::{Listing, Names};
 

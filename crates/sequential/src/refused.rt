@@ -1,5 +1,5 @@
 ghost use Rattle.std.specs.Prelude.{◌≡◌};
-ghost use Rattle.answers.specs.declared.day_fault.DayFault.TheVariants.{Truncated as AtPlace};
+ghost use Rattle.outcomes.specs.declared.day_fault.DayFault.TheVariants.{Truncated as AtPlace};
 ghost use Rattle.sequential.specs.declared.refused.Refused.TheVariants.{Day, OutOfMemory as Memory};
 
 use answers::DayFault;

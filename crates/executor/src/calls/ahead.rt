@@ -8,9 +8,9 @@ ghost use Rattle.streaming.specs.Streams.{GaveAll, IsReadFault};
 ghost use Rattle.executor.specs.CutRead.{IsCutRead};
 
 use crate::OutOfMemory;
-use crate::settings::Settings;
 use crossbeam_channel::{Receiver, Sender};
 use day_file::{Cut, Morsel};
+use outcomes::Settings;
 use pipelines::{Piece, Task, run_ahead};
 use scanning::{ScanInput, ScanWork};
 use std::alloc::Global;

@@ -6,8 +6,8 @@ ghost use Rattle.query.specs.Words.{words_of};
 ghost use Rattle.executor.specs.Runs.{is_write_failed};
 ghost use Rattle.executor.specs.Sources.{IsHandedOver, IsQueryRefusal};
 
-use crate::run_fault::RunFault;
 use answers::Answer;
+use outcomes::RunFault;
 use query::{Query, QueryFault, parse};
 use sinks::{Sink, WriteFailed, deliver_pieces};
 use std::alloc::Global;

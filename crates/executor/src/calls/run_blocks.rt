@@ -6,10 +6,9 @@ ghost use Rattle.executor.specs.Sources.{IsAnswered, IsSourceRefusal};
 
 use crate::calls::answer::answer_scans;
 use crate::calls::ends::{hand_over, query_of};
-use crate::run_fault::RunFault;
-use crate::settings::Settings;
 use answers::{Answer, DayFault};
 use block_scan::{BlockSource, BlocksFault, scan_blocks};
+use outcomes::{RunFault, Settings};
 use query::Query;
 use sinks::Sink;
 use std::alloc::{AllocError, Global};

@@ -10,8 +10,8 @@ use Rattle.day_file.proofs.Laws.{places_rise}
 use Rattle.answers.specs.Answers.{IsAnswer}
 use Rattle.day_rows.specs.DayRows.{counted_rows_at, joined, rows_of}
 use Rattle.day_rows.specs.Messages.{counted, first_wrong, messages_of}
-use Rattle.answers.specs.declared.day_fault.DayFault.{DayFault}
-use Rattle.answers.specs.declared.day_fault.DayFault.TheVariants.{WrongLength}
+use Rattle.outcomes.specs.declared.day_fault.DayFault.{DayFault}
+use Rattle.outcomes.specs.declared.day_fault.DayFault.TheVariants.{WrongLength}
 use Rattle.answers.proofs.AnswerOfSteps.{truncation_answers, wrong_length_answers}
 use Rattle.day_rows.proofs.FewTrades.{few_trades}
 use Rattle.day_rows.proofs.RowsOfFrames.{collects, right_length, wrong_first}

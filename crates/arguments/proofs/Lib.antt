@@ -1,0 +1,5 @@
+mod Examples
+mod Found
+mod Numbers
+mod Texts
+mod Whole

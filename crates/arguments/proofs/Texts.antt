@@ -1,0 +1,38 @@
+-- What clap found, as its getters give it: texts, and where values are from.
+use Rattle.std.proofs.Common.{◌≡◌, ◌∙◌, Bool, Option, None, Some, refl, sym, ap, subst, is_some, true}
+use Rattle.std.specs.Borrow.{Bor}
+use Rattle.std.specs.Prelude.{find, option_and_then, option_map}
+use Rattle.std.specs.Str.{bytes_eq}
+use Rattle.clap.specs.Facts.{Entry}
+use Rattle.clap.specs.Matches.{first_value, matched_of}
+use Rattle.clap.specs.Walk.{Row, Text, first_of, row_of, rows_of}
+use Rattle.clap.specs.declared.parser.matches.Found.{Found}
+use Rattle.clap.specs.declared.parser.matches.MatchedArg.{MatchedArg}
+use Rattle.clap.specs.declared.parser.matches.ValueSource.{ValueSource}
+use Rattle.clap.proofs.CallerLemmas.{some_of_text}
+use Rattle.clap.proofs.WalkLemmas.{find_row, first_value-rows}
+use Rattle.arguments.specs.Jobs.{is_given, is_of_words}
+
+-- the getter has a text where clap found one
+pub text_found : (f : Found) (id : Text) (o : Option (Bor Text)) → option_map (λ s. s.now) o ≡ first_value f id
+    → is_some (first_of id (rows_of f)) ≡ true → is_some o ≡ true
+text_found f id o given has =
+    some_of_text (λ (s : Bor Text). s.now) o _ given (subst (λ (v : Option Text). is_some v ≡ true) (sym (first_value-rows f id)) has)
+
+-- and the text that it unwraps to is the one that clap found
+pub text_unwrapped : (f : Found) (id : Text) (o : Option (Bor Text)) (v : Bor Text) → option_map (λ s. s.now) o ≡ first_value f id
+    → o ≡ Some v → first_of id (rows_of f) ≡ Some v.now
+text_unwrapped f id o v given is =
+    sym (first_value-rows f id) ∙ (sym given ∙ ap (option_map (λ (s : Bor Text). s.now)) is)
+
+-- whether the words give an option is what the source of its value says
+pub given_by_source : (f : Found) (id : Text) (o : Option ValueSource) (given : Bool)
+    → o ≡ option_and_then (λ a. a.source) (matched_of f id) → is_of_words o ≡ given → given ≡ is_given id (rows_of f)
+given_by_source f id o given is says =
+    sym says ∙ ap is_of_words (is ∙ (same (find (λ (e : Entry). bytes_eq e.0.now id) f.entries.items)
+    ∙ ap (option_and_then (λ (r : Row). r.source)) (sym (find_row f.entries.items id))))
+  where
+    same : (e : Option Entry) → option_and_then (λ (a : MatchedArg). a.source) (option_map (λ x. x.1) e)
+        ≡ option_and_then (λ (r : Row). r.source) (option_map row_of e)
+    same None = refl
+    same (Some e) = refl

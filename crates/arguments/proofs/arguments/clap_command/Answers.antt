@@ -1,0 +1,20 @@
+use Rattle.std.proofs.Common.{ap, ap₂, codes, ◌≡◌, ◌∙◌}
+use Rattle.std.proofs.lemmas.Result.{IfOk-weaker}
+use Rattle.clap.specs.Words.{app_of, new_app, with_rule}
+use Rattle.arguments.specs.Arguments.{with_version}
+use Rattle.clap.specs.Simple.{app_of_fields}
+use Rattle.arguments.proofs.arguments.clap_command.Goals as goal
+
+pub returns : goal.returns
+returns c =
+    let start_is : app_of c.after_help.result ≡ with_version (new_app (codes "itch_bars")) =
+    ap app_of_fields c.after_help.ensures ∙ (ap app_of_fields c.override_usage.ensures ∙ (ap app_of_fields c.about.ensures
+    ∙ (ap app_of_fields c.version.ensures ∙ ap with_version c.new.ensures.app))) in
+    IfOk-weaker c.arg-6.result _ _ (λ command h. h.shape c.gatherers_option.ensures.local
+    ∙ ap₂ with_rule (c.in_ok-arg-5.ensures.shape c.partitions_option.ensures.local
+    ∙ ap₂ with_rule (c.in_ok-arg-4.ensures.shape c.morsel_option.ensures.local
+    ∙ ap₂ with_rule (c.in_ok-arg-3.ensures.shape c.workers_option.ensures.local
+    ∙ ap₂ with_rule (c.in_ok-arg-2.ensures.shape c.query_argument.ensures.local
+    ∙ ap₂ with_rule (c.in_ok-arg.ensures.shape c.file_argument.ensures.local
+    ∙ ap₂ with_rule start_is c.file_argument.ensures.rule) c.query_argument.ensures.rule) c.workers_option.ensures.rule)
+    c.morsel_option.ensures.rule) c.partitions_option.ensures.rule) c.gatherers_option.ensures.rule) c.arg-6.ensures

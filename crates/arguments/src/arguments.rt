@@ -1,0 +1,302 @@
+ghost use Rattle.std.specs.Prelude.{◌≡◌, ◌∷◌, false, IfErr, IfOk, List, [], map, string_bytes};
+ghost use Rattle.std.specs.declared.io.ErrorKind.TheVariants.{OutOfMemory as RanOut};
+ghost use Rattle.clap.specs.Values.{kind_of};
+ghost use Rattle.clap.specs.declared.error.kind.ErrorKind.TheVariants.{InvalidValue};
+ghost use Rattle.clap.specs.Words.{FailsBy, HasKind, Kinds, app_of, fault_of, found_of};
+ghost use Rattle.clap.specs.Words.{matches_of, rows_of, rule_of};
+ghost use Rattle.arguments.specs.Arguments.{file_rule, gatherers_rule, morsel_rule};
+ghost use Rattle.arguments.specs.Arguments.{partitions_rule, query_rule, the_app, workers_rule};
+ghost use Rattle.arguments.specs.Jobs.{HasSettingsOf, IsFaultOf, IsJobOf, IsWhole, is_given};
+
+use clap::error::ErrorKind;
+use clap::parser::ValueSource;
+use clap::{Arg, ArgAction, ArgMatches, Command, Error, value_parser};
+use lists::limits::LONGEST_FILE;
+use outcomes::{Crew, Settings};
+use std::alloc::{AllocError, Global};
+use std::io;
+
+/// What `--version` tells behind the program's name.
+const VERSION: &str = "0.1.0";
+
+/// How the program is called: the query is one word, which a shell takes in quotes.
+const USAGE: &str = "itch_bars [OPTIONS] <FILE> \"<QUERY>\"";
+
+/// What help says behind the options.
+const AFTER_HELP: &str = "\
+These numbers change the time and the memory that a run takes; no answer depends on them.
+Both are least for a file that is named, without --morsel: it isn't held in memory.
+
+Queries:
+  sales        time and sales: a line for each sale of the day, by its place in the file
+  bars 5 m     a line for each security and interval of 5 minutes; s, m or h, 1 s to 24 h
+Behind either, if wanted:
+  as of 16:00:00                       only messages up to this moment count
+Behind these, `where` and some of these, joined by `and`, each at most once:
+  symbol in MSFT,AAPL                  these securities
+  time from 09:30:00 until 16:00:00    from the start on, before the end
+  kind in E,C,P,Q                      executions, executions with a price, trades, crosses
+Symbols are case-sensitive; one that the file doesn't have gives no lines, and is no fault. No
+spaces stand in a list. The whole grammar is in docs/FORMATS.md of the program's repository.
+
+Columns:
+  sales        time,symbol,kind,price,shares,number
+  bars         symbol,start,first,high,low,last,volume,trades,average
+Times are of the exchange's clock, prices in dollars. An average of 410.5075+12750/25850 is
+410.5075 dollars and 12750/25850 of a ten-thousandth of a dollar.
+
+Examples:
+  itch_bars day.itch sales
+  itch_bars day.itch \"bars 5 m where symbol in MSFT and kind in E,P\"
+  zcat day.itch.gz | itch_bars - \"sales as of 12:00:00 where symbol in MSFT,AAPL\"
+
+Output:
+The answer goes to standard output, and a fault to standard error as one line. The status is
+  0  the query was answered
+  1  the file has a fault, or is too long
+  2  the words or the query are wrong, or --morsel is too small for the file
+  3  memory ran out
+  4  the file can't be opened or read
+  5  the output can't be written";
+
+/// What the command line asks for.
+#[derive(Drop)]
+pub struct Job {
+    /// The path of the day file, or `-` for standard input.
+    pub file: String,
+    /// The text of the query.
+    pub query: String,
+    /// Whether the words give a size of morsels, in which even a file is then held that can be read
+    /// by blocks.
+    pub morsel_given: bool,
+    pub settings: Settings,
+}
+
+/// Why there is no job.
+#[derive(Drop)]
+pub enum WordsFault {
+    /// Help was asked for: status 0, where it can be written.
+    Help { text: String },
+    /// The version was asked for: the same.
+    Version { text: String },
+    /// The words are wrong: status 2.
+    Wrong { text: String },
+    /// A growth was refused: status 3.
+    Memory,
+}
+
+impl From<AllocError> for WordsFault {
+    ghost use Rattle.arguments.specs.declared.arguments.WordsFault.TheVariants.{Memory};
+
+    ghost from_gives = { λ _ fault. fault ≡ Memory };
+
+    fn from(_error: AllocError) -> WordsFault {
+        WordsFault::Memory
+    }
+}
+
+/// What is reported where the words themselves can't be read: that memory ran out, or else that one
+/// of them isn't UTF-8.
+pub fn reading_fault(alloc: Global, reading: io::ErrorKind) -> WordsFault
+    ensures memory { reading ≡ RanOut → result ≡ WordsFault.Memory }
+    ensures wrong { IsFaultOf (InvalidValue ∷ []) result }
+{
+    if reading == io::ErrorKind::OutOfMemory {
+        return WordsFault::Memory;
+    }
+    match not_utf8(alloc) {
+        Ok(error) => words_fault(alloc, &error),
+        Err(AllocError) => WordsFault::Memory,
+    }
+}
+
+/// The error of a word that isn't UTF-8.
+fn not_utf8(alloc: Global) -> Result<Error, AllocError>
+    ensures { IfOk result (λ error. kind_of error ≡ InvalidValue) }
+{
+    let mut command = clap_command(alloc)?;
+    command.error(ErrorKind::InvalidValue, "a word is not valid UTF-8")
+}
+
+/// The job that the words of a command line ask for. The first word is the program's name.
+pub fn command(alloc: Global, words: &[String]) -> Result<Job, WordsFault>
+    ensures job { IfOk result (IsJobOf (matches_of the_app (map string_bytes words.now))) }
+    ensures right { IfOk result (λ _. fault_of the_app (map string_bytes words.now) ≡ []) }
+    ensures fault { IfErr result (IsFaultOf (fault_of the_app (map string_bytes words.now))) }
+{
+    match matched(alloc, words) {
+        Ok(matches) => Ok(job_of(alloc, &matches)?),
+        Err(error) => Err(words_fault(alloc, &error)),
+    }
+}
+
+/// What `clap` matches in the words.
+fn matched<'a>(alloc: Global, words: &'a [String]) -> Result<ArgMatches<'a>, Error>
+    ensures rows { IfOk result (λ m. rows_of (found_of m)
+        ≡ matches_of the_app (map string_bytes words.entry.now)) }
+    ensures whole { IfOk result (λ m. IsWhole (rows_of (found_of m))) }
+    ensures kinds { FailsBy (fault_of the_app (map string_bytes words.entry.now)) result }
+{
+    let command = clap_command(alloc)?;
+    command.try_get_matches_from(words)
+}
+
+/// The program's command line.
+fn clap_command<'a>(alloc: Global) -> Result<Command<'a>, AllocError>
+    ensures { IfOk result (λ c. app_of c ≡ the_app) }
+{
+    Command::new(alloc, "itch_bars")
+        .version(VERSION)
+        .about("Answers a query over a day file of Nasdaq TotalView-ITCH 5.0")
+        .override_usage(USAGE)
+        .after_help(AFTER_HELP)
+        .arg(file_argument(alloc))?
+        .arg(query_argument(alloc))?
+        .arg(workers_option(alloc))?
+        .arg(morsel_option(alloc))?
+        .arg(partitions_option(alloc))?
+        .arg(gatherers_option(alloc))
+}
+
+/// The day file's path.
+fn file_argument<'a>(alloc: Global) -> Arg<'a>
+    ensures rule { rule_of result ≡ file_rule }
+    ensures local { result.global ≡ false }
+{
+    Arg::new(alloc, "FILE")
+        .required(true)
+        .action(ArgAction::Set)
+        .help("A day file, unpacked; - is standard input")
+}
+
+/// The query's text.
+fn query_argument<'a>(alloc: Global) -> Arg<'a>
+    ensures rule { rule_of result ≡ query_rule }
+    ensures local { result.global ≡ false }
+{
+    Arg::new(alloc, "QUERY")
+        .required(true)
+        .action(ArgAction::Set)
+        .help("What to answer, as below; it is one word, so put it in quotes")
+}
+
+/// How many threads work.
+fn workers_option<'a>(alloc: Global) -> Arg<'a>
+    ensures rule { rule_of result ≡ workers_rule }
+    ensures local { result.global ≡ false }
+{
+    Arg::new(alloc, "workers")
+        .long("workers")
+        .value_name("N")
+        .action(ArgAction::Set)
+        .value_parser(value_parser!(u32).range(1..=64))
+        .default_value("4")
+        .help("Threads that work, 1 to 64: more take less time, up to one for each\nprocessor")
+}
+
+/// The least size of a morsel.
+fn morsel_option<'a>(alloc: Global) -> Arg<'a>
+    ensures rule { rule_of result ≡ morsel_rule }
+    ensures local { result.global ≡ false }
+{
+    Arg::new(alloc, "morsel")
+        .long("morsel")
+        .value_name("BYTES")
+        .action(ArgAction::Set)
+        .value_parser(value_parser!(u64).range(1..=1_073_741_824))
+        .default_value("1048576")
+        .help(
+            "Least size of the pieces in which standard input is held, 1 to\n1073741824; \
+            a file is held in them only if this is given, and\nover 65536 of them are refused",
+        )
+}
+
+/// How many partitions there are.
+fn partitions_option<'a>(alloc: Global) -> Arg<'a>
+    ensures rule { rule_of result ≡ partitions_rule }
+    ensures local { result.global ≡ false }
+{
+    Arg::new(alloc, "partitions")
+        .long("partitions")
+        .value_name("N")
+        .action(ArgAction::Set)
+        .value_parser(value_parser!(u32).range(1..=256))
+        .default_value("64")
+        .help(
+            "Parts of the orders, 1 to 256, each looked up by itself: more take\nless memory at once",
+        )
+}
+
+/// How many threads gather what the workers find.
+fn gatherers_option<'a>(alloc: Global) -> Arg<'a>
+    ensures rule { rule_of result ≡ gatherers_rule }
+    ensures local { result.global ≡ false }
+{
+    Arg::new(alloc, "gatherers")
+        .long("gatherers")
+        .value_name("N")
+        .action(ArgAction::Set)
+        .value_parser(value_parser!(u32).range(1..=8))
+        .default_value("1")
+        .help(
+            "Threads that put together what the workers find, 1 to 8: more help\nwhere one can't keep up with them",
+        )
+}
+
+/// The job of what was matched.
+fn job_of(alloc: Global, matches: &ArgMatches<'_>) -> Result<Job, AllocError>
+    requires { IsWhole (rows_of (found_of matches.now)) }
+    ensures { IfOk result (IsJobOf (rows_of (found_of matches.now))) }
+{
+    let file = matches.get_str("FILE").unwrap();
+    let query = matches.get_str("QUERY").unwrap();
+    Ok(Job {
+        file: String::from_str(alloc, file)?,
+        query: String::from_str(alloc, query)?,
+        morsel_given: is_given(matches, "morsel"),
+        settings: settings_of(matches),
+    })
+}
+
+/// Whether the words give an option, so that its value isn't its default.
+fn is_given(matches: &ArgMatches<'_>, id: &str) -> bool
+    ensures { result ≡ is_given id.now (rows_of (found_of matches.now)) }
+{
+    match matches.value_source(id) {
+        Some(ValueSource::CommandLine) => true,
+        Some(ValueSource::DefaultValue) | None => false,
+    }
+}
+
+/// The settings of what was matched.
+fn settings_of(matches: &ArgMatches<'_>) -> Settings
+    requires { IsWhole (rows_of (found_of matches.now)) }
+    ensures { HasSettingsOf (rows_of (found_of matches.now)) result }
+{
+    let workers = matches.get_one::<u32>("workers").unwrap();
+    let morsel = matches.get_one::<u64>("morsel").unwrap();
+    let parts = matches.get_one::<u32>("partitions").unwrap();
+    let gatherers = matches.get_one::<u32>("gatherers").unwrap();
+    let crew = Crew { workers, gatherers };
+    Settings {
+        crew,
+        morsel,
+        parts,
+        limit: LONGEST_FILE,
+    }
+}
+
+/// Help or the version, or what is wrong with the words.
+fn words_fault(alloc: Global, error: &Error) -> WordsFault
+    ensures { (kinds : Kinds) → HasKind kinds error.now → IsFaultOf kinds result }
+{
+    let Ok(text) = format!(in alloc; "{error}") else {
+        return WordsFault::Memory;
+    };
+    match error.kind() {
+        ErrorKind::OutOfMemory => WordsFault::Memory,
+        ErrorKind::DisplayHelp => WordsFault::Help { text },
+        ErrorKind::DisplayVersion => WordsFault::Version { text },
+        _ => WordsFault::Wrong { text },
+    }
+}

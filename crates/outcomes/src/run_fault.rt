@@ -1,0 +1,32 @@
+use crate::day_fault::DayFault;
+use crate::query_fault::QueryFault;
+use lists::limits::MOST_MORSELS;
+use thiserror::Error;
+
+/// Why a query was not answered. The first of these, in this order, is told; want of memory takes the
+/// place of what would have come later.
+#[derive(Clone, Copy, Debug, PartialEq, Eq, Error)]
+pub enum RunFault {
+    /// The query's text is no query.
+    #[error("{0}")]
+    Query(QueryFault),
+    /// The source failed.
+    #[error("reading failed")]
+    ReadFailed,
+    /// The source gave more than `limit` bytes.
+    #[error("file is longer than {limit} bytes")]
+    TooLong { limit: u64 },
+    /// The day file isn't truncated, is cut while it is read, and has more than 65,536 morsels of the size
+    /// that the settings ask for.
+    #[error("more than {MOST_MORSELS} morsels")]
+    TooManyMorsels,
+    /// The day file has a fault.
+    #[error("{0}")]
+    Day(DayFault),
+    /// The sink failed, and had taken the first `written` bytes of the text.
+    #[error("writing failed after {written} bytes")]
+    WriteFailed { written: u64 },
+    /// A growth was refused.
+    #[error("out of memory")]
+    OutOfMemory,
+}
