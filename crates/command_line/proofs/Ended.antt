@@ -3,7 +3,7 @@ use Rattle.std.proofs.Common.{◌≡◌, ℕ, Bool, List, Result, Ok, Err, refl,
 use Rattle.reports.specs.FaultLines.{status_of}
 use Rattle.command_line.specs.Outcomes.{tells_failed_reading}
 use Rattle.reports.specs.Reports.{Reported, status_of_outcome}
-use Rattle.executor.specs.Runs.{is_read_failed}
+use Rattle.runs.specs.Runs.{is_read_failed}
 use Rattle.outcomes.specs.declared.run_fault.RunFault.{RunFault}
 use Rattle.outcomes.specs.declared.run_fault.RunFault.TheVariants as fault
 

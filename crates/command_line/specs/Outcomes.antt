@@ -2,8 +2,8 @@
 -- To be believed.
 use Rattle.std.specs.Prelude.{◌≡◌, ◌==◌, ℕ, Bool, List, Result, string_bytes}
 use Rattle.arguments.specs.declared.arguments.Job.{Job}
-use Rattle.executor.specs.Readings.{Reading}
-use Rattle.executor.specs.Runs.{Ran, is_write_failed}
+use Rattle.runs.specs.Readings.{Reading}
+use Rattle.runs.specs.Runs.{Ran, is_write_failed}
 use Rattle.outcomes.specs.declared.run_fault.RunFault.{RunFault}
 use Rattle.outcomes.specs.declared.run_fault.RunFault.TheVariants as fault
 use Rattle.reports.specs.FaultLines.{status_of}

@@ -4,7 +4,7 @@
 mod performing;
 
 pub use arguments::{Job, WordsFault, command, reading_fault};
-pub use executor::{
+pub use runs::{
     BlockSource, Counted, CountedSink, Crew, DayFault, DeviceFailed, FileBlocks, LONGEST_FILE,
     Memory, QueryFault, RunFault, Settings, Sink, Source,
 };

@@ -1,11 +1,11 @@
 ghost use Rattle.std.specs.Prelude.{◌≡◌, false, MatchOption};
 ghost use Rattle.command_line.specs.Outcomes.{Did, tells_failed_reading};
-ghost use Rattle.executor.specs.Readings.{of_blocks, of_stream};
+ghost use Rattle.runs.specs.Readings.{of_blocks, of_stream};
 ghost use Rattle.reports.specs.FaultLines.{line_of, status_of};
 ghost use Rattle.reports.specs.Reports.{Delivered};
 
 use arguments::Job;
-use executor::{BlockSource, RunFault, Sink, Source, run, run_blocks};
+use runs::{BlockSource, RunFault, Sink, Source, run, run_blocks};
 use reports::{report, tell};
 use std::alloc::Global;
 use std::sync::Wait;

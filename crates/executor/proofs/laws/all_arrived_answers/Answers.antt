@@ -1,5 +1,0 @@
-use Rattle.executor.proofs.EachOnce.{all_arrived}
-use Rattle.executor.proofs.laws.all_arrived_answers.Goals as goal
-
-pub returns : goal.returns
-returns c = all_arrived

@@ -1,0 +1,3 @@
+mod EachOnce
+mod OneRehearsal
+mod Rehearsed

@@ -1,0 +1,14 @@
+//! Rehearsals: a query over a cut day file is answered by two lists of events, on one thread, as threads
+//! answer it in whatever order they finish. Laws say that the order decides nothing.
+#![tactic(auto)]
+
+mod laws;
+mod rehearse;
+
+pub use answers::Answer;
+pub use day_file::Cut;
+pub use laws::{all_arrived_answers, each_once_answers, one_rehearsal};
+pub use lists::OutOfMemory;
+pub use schedules::Event;
+pub use meaning::Query;
+pub use rehearse::{Rehearsal, rehearse};

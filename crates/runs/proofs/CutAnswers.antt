@@ -1,0 +1,101 @@
+-- What both pipelines find over a cut makes the answer to the query over its file.
+use Rattle.std.proofs.Common.{◌≡◌, ℕ, ◌<◌, List, [], ◌∷◌, Option, Some, None, option_map, Result, Err, map, flat_map, refl, sym, ap, ◌∙◌, subst}
+use Rattle.std.specs.List.{AllByRecursion, concat}
+use Rattle.std.proofs.lemmas.List.Elements.{All-append, All-nil, recursion_from_All}
+use Rattle.lists.specs.Least.{numbers_below}
+use Rattle.row_types.specs.declared.directory.DirectoryRow.{DirectoryRow}
+use Rattle.day_file.specs.Cuts.{AreBytes, MorselView}
+use Rattle.day_file.specs.Frames.{PlacedBody, StandsFor}
+use Rattle.day_file.specs.Kept.{numbered}
+use Rattle.day_file.specs.Walk.{frames_of}
+use Rattle.day_file.proofs.CutFrames.{frames_of_cut}
+use Rattle.day_file.proofs.Laws.{places_rise}
+use Rattle.meaning.specs.Meaning.{Meaning}
+use Rattle.answers.specs.Answers.{IsAnswer, IsAnswerToMessages}
+use Rattle.day_rows.specs.Messages.{Placed, first_wrong, messages_of}
+use Rattle.outcomes.specs.declared.day_fault.DayFault.{DayFault}
+use Rattle.answers.proofs.AnswerOfSteps.{messages_answer, wrong_length_answers}
+use Rattle.day_rows.proofs.CountedMessages.{counted_by_place}
+use Rattle.day_rows.proofs.FewTrades.{few_trades}
+use Rattle.day_rows.proofs.RowsByPlace.{messages_by_place}
+use Rattle.day_rows.proofs.StampedMessages.{stamped_rows}
+use Rattle.scanning.specs.Scans.{ScanTotalView, total_of}
+use Rattle.scanning.specs.declared.wrong.WrongLength.{WrongLength}
+use Rattle.buckets.specs.BucketRows.{BucketView}
+use Rattle.buckets.specs.Buckets.{total_found}
+use Rattle.buckets.specs.FoundRows.{TotalView}
+use Rattle.planning.specs.Gathered.{AreGatheredOf}
+use Rattle.planning.specs.Planned.{LinkView, all_directory, planned_bucket}
+use Rattle.planning.proofs.MorselsOfCuts.{counted_in, directory_is, input_of, told_of, wrong_is}
+use Rattle.planning.proofs.TotalsOfCuts.{linked_total}
+use Rattle.runs.specs.FirstPipeline.{AreRuns, wrong_fault}
+
+-- the bytes of runs joined
+bytes_joined : (runs : List (List ℕ)) → AllByRecursion AreBytes runs → AreBytes (concat runs)
+bytes_joined [] all = All-nil _
+bytes_joined (run ∷ runs) all = All-append (λ byte. byte < 256) run (concat runs) all.0 (bytes_joined runs all.1)
+
+module _ (runs : List (List ℕ)) (query : Meaning) (parts : ℕ) where
+  abbrev morsels : List MorselView
+  morsels = numbered 0 0 runs
+
+  abbrev pub frames : List PlacedBody
+  frames = flat_map frames_of morsels
+
+  abbrev pub messages : List Placed
+  messages = counted_in query.as_of parts morsels
+
+  -- the total of the first pipeline
+  abbrev pub scan : ScanTotalView
+  scan = total_of (map (input_of query.as_of parts) morsels)
+
+  -- the inputs of the second
+  abbrev pub buckets : List BucketView
+  buckets = map (planned_bucket query scan.morsels) (numbers_below parts)
+
+  abbrev pub link : LinkView
+  link = record { query = query; parts = parts }
+
+  pub right_frames : scan.wrong ≡ None → first_wrong frames ≡ None
+  right_frames e = go (first_wrong frames) (sym (wrong_is query.as_of parts morsels) ∙ e)
+    where
+      go : (o : Option PlacedBody) → option_map told_of o ≡ None → o ≡ None
+      go None f = refl
+      go (Some frame) f = absurd (cc)
+
+  pub wrong_frame : (stop : WrongLength) → scan.wrong ≡ Some stop → (frame : PlacedBody) × (first_wrong frames ≡ Some frame) × (told_of frame ≡ stop)
+  wrong_frame stop e = go (first_wrong frames) refl (sym (wrong_is query.as_of parts morsels) ∙ e)
+    where
+      go : (o : Option PlacedBody) → first_wrong frames ≡ o → option_map told_of o ≡ Some stop
+          → (frame : PlacedBody) × (first_wrong frames ≡ Some frame) × (told_of frame ≡ stop)
+      go None f g = absurd (cc)
+      go (Some frame) f g = let same : told_of frame ≡ stop = cc in (frame, f, same)
+
+  module _ (are : AreRuns runs) where
+    pub stands : StandsFor frames (concat runs)
+    stands = frames_of_cut runs are.each
+
+    -- what all buckets found is what those of the messages have, and the names are those of their directory
+    pub gathered_by : (total : TotalView) (kept : List DirectoryRow) → 0 < parts → total ≡ total_found buckets → kept ≡ all_directory scan.morsels
+        → AreGatheredOf query total kept messages
+    gathered_by total kept some found names = record {
+      parts = parts;
+      some = some;
+      by_place = counted_by_place query.as_of (messages_of frames) (messages_by_place frames (places_rise 0 frames stands.places));
+      few = few_trades query.as_of (concat runs) frames stands are.within;
+      stamped = stamped_rows query.as_of (concat runs) frames (bytes_joined runs (recursion_from_All AreBytes runs are.bytes)) stands;
+      total_is = found ∙ linked_total query parts morsels;
+      names_are = names ∙ directory_is query.as_of parts morsels;
+    }
+
+    -- no length is wrong
+    pub answered_by : (told : Result (List ℕ) DayFault) → scan.wrong ≡ None → IsAnswerToMessages messages query told → IsAnswer (concat runs) query told
+    answered_by told right answers = messages_answer (concat runs) query frames told stands (right_frames right) answers
+
+    -- this length is wrong
+    pub halted_by : (stop : WrongLength) (told : Result (List ℕ) DayFault) → scan.wrong ≡ Some stop → told ≡ Err (wrong_fault stop)
+        → IsAnswer (concat runs) query told
+    halted_by stop told wrong is =
+        let first = wrong_frame stop wrong in
+        subst (IsAnswer (concat runs) query) (ap (λ (w : WrongLength). Err (wrong_fault w)) first.2 ∙ sym is)
+        (wrong_length_answers (concat runs) query frames first.0 stands first.1)

@@ -1,0 +1,4 @@
+pub mod CutAnswers
+pub mod Answered
+pub mod BlocksScanned
+pub mod HandedOver

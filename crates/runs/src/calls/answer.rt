@@ -1,0 +1,85 @@
+ghost use Rattle.std.specs.Prelude.{ℕ, List, ◌<◌, ◌≤◌, IfOk};
+ghost use Rattle.std.specs.List.{concat};
+ghost use Rattle.lists.specs.declared.limits.TheConstants.{MOST_PARTITIONS};
+ghost use Rattle.answers.specs.Answers.{IsAnswer, told_by};
+ghost use Rattle.runs.specs.FirstPipeline.{IsOutcomeOf, IsScanOf};
+
+use crate::OutOfMemory;
+use crate::calls::first_pipeline::told_of;
+use answers::Answer;
+use buckets::BucketTotal;
+use day_file::Cut;
+use pipelines::{Crew, FreeGate, Gate, Outcome, run_pair, run_second};
+use planning::{DayNames, PlanLink, answer_in_ranges};
+use query::Query;
+use scanning::{ScanTotal, WrongLength, scan_inputs};
+use std::alloc::Global;
+use std::sync::{Arc, Wait};
+use std::thread::Threads;
+
+/// Answers a query over a cut day file on threads: by two pipelines, each with the crew's workers. The
+/// first has a task for each morsel; the second, which doesn't run if a wrong length was found, one for
+/// each of so many partitions, from 1 to 256. Neither the crew nor the gate, the cut or the partitions
+/// change the answer.
+///
+/// It waits for its threads. It is refused if memory was refused to the caller's thread.
+pub fn answer<G: Gate, R: Threads + Wait + Sync>(
+    rt: &R,
+    alloc: Global,
+    cut: &Cut,
+    query: &Query,
+    parts: u32,
+    crew: Crew,
+    gate: &G,
+) -> Result<Answer, OutOfMemory>
+    requires parts { (0 < parts) × (parts ≤ MOST_PARTITIONS) }
+    ensures { IfOk result (λ answer. IsAnswer (concat cut.now) query.now (told_by answer)) }
+{
+    let scans = scan_inputs(alloc, cut, query.as_of, parts)?;
+    let inputs = Arc::new(alloc, scans)?;
+    let link = PlanLink::new(query, parts);
+    let outcome = run_pair(rt, alloc, inputs, &link, crew, gate)?;
+    answer_of_outcome(rt, alloc, query, outcome, crew)
+}
+
+/// The answer that the total of the scans of a whole file gives. The second pipeline runs alone; what the
+/// scans found is freed when it is done.
+pub(crate) fn answer_scans<R: Threads + Wait + Sync>(
+    rt: &R,
+    alloc: Global,
+    total: ScanTotal,
+    query: &Query,
+    parts: u32,
+    crew: Crew,
+) -> Result<Answer, OutOfMemory>
+    requires parts { (0 < parts) × (parts ≤ MOST_PARTITIONS) }
+    requires total { (runs : List (List ℕ)) × IsScanOf query.now.as_of parts total runs }
+    ensures { IfOk result (λ answer. (runs : List (List ℕ)) →
+        IsScanOf query.now.as_of parts total runs →
+        IsAnswer (concat runs) query.now (told_by answer)) }
+{
+    let link = PlanLink::new(query, parts);
+    let outcome = run_second(rt, alloc, total, &link, crew, &FreeGate)?;
+    answer_of_outcome(rt, alloc, query, outcome, crew)
+}
+
+/// The answer that the outcome of both pipelines gives. As many threads as the crew has workers make its
+/// text.
+fn answer_of_outcome<R: Threads + Sync>(
+    rt: &R,
+    alloc: Global,
+    query: &Query,
+    outcome: Outcome<BucketTotal, DayNames, WrongLength>,
+    crew: Crew,
+) -> Result<Answer, OutOfMemory>
+    requires outcome { (runs : List (List ℕ)) × IsOutcomeOf query.now outcome runs }
+    ensures { IfOk result (λ answer. (runs : List (List ℕ)) → IsOutcomeOf query.now outcome runs →
+        IsAnswer (concat runs) query.now (told_by answer)) }
+{
+    match outcome {
+        Outcome::Finished { total, kept } => {
+            answer_in_ranges(rt, alloc, query, total, &kept, crew.workers)
+        }
+        Outcome::Stopped { stop } => Ok(told_of(stop)),
+    }
+}

@@ -1,0 +1,40 @@
+//! What every run begins and ends with: the query of its text, and the answer that goes to its sink.
+ghost use Rattle.std.specs.Prelude.{◌≡◌, false, IfErr, IfOk};
+ghost use Rattle.answers.specs.Answers.{told_by};
+ghost use Rattle.query.specs.Grammar.{Means};
+ghost use Rattle.query.specs.Words.{words_of};
+ghost use Rattle.runs.specs.Runs.{is_write_failed};
+ghost use Rattle.runs.specs.Sources.{IsHandedOver, IsQueryRefusal};
+
+use answers::Answer;
+use outcomes::RunFault;
+use query::{Query, QueryFault, parse};
+use sinks::{Sink, WriteFailed, deliver_pieces};
+use std::alloc::Global;
+
+/// The query that a text means.
+pub(crate) fn query_of(alloc: Global, text: &str) -> Result<Query, RunFault>
+    ensures query { IfOk result (Means (words_of text.now)) }
+    ensures refused { IfErr result (IsQueryRefusal text.now) }
+{
+    match parse(alloc, text) {
+        Ok(query) => Ok(query),
+        Err(QueryFault::OutOfMemory) => Err(RunFault::OutOfMemory),
+        Err(fault) => Err(RunFault::Query(fault)),
+    }
+}
+
+/// Writes the text of an answer to a sink, and tells its fault.
+pub(crate) fn hand_over<K: Sink>(answer: Answer, sink: &mut K) -> Result<(), RunFault>
+    requires { K.has_failed sink.old ≡ false }
+    ensures handed { IsHandedOver K.Took K.HasFlushed sink.old sink.new (told_by answer) result }
+    ensures write_failed { K.has_failed sink.new ≡ is_write_failed result }
+{
+    match answer {
+        Answer::Printed(text) => match deliver_pieces(sink, text.pieces()) {
+            Ok(()) => Ok(()),
+            Err(WriteFailed { written }) => Err(RunFault::WriteFailed { written }),
+        },
+        Answer::Faulty(fault) => Err(RunFault::Day(fault)),
+    }
+}

@@ -1,0 +1,104 @@
+ghost use Rattle.std.specs.Prelude.{◌≡◌, false, IfErr, IfOk};
+ghost use Rattle.std.specs.List.{concat};
+ghost use Rattle.answers.specs.Answers.{IsAnswer, told_by};
+ghost use Rattle.runs.specs.Readings.{of_stream};
+ghost use Rattle.runs.specs.Runs.{Ran, is_read_failed, is_write_failed};
+ghost use Rattle.runs.specs.Sources.{IsAnswered, IsSourceRefusal};
+
+use crate::OutOfMemory;
+use crate::calls::ahead::{ScannedCut, read_scanned};
+use crate::calls::answer::answer_scans;
+use crate::calls::ends::{hand_over, query_of};
+use answers::{Answer, DayFault};
+use outcomes::{RunFault, Settings};
+use pipelines::{FreeGate, total_of_pieces};
+use query::Query;
+use scanning::scan_inputs;
+use sinks::Sink;
+use std::alloc::{AllocError, Global};
+use std::sync::{Arc, Wait};
+use std::thread;
+use std::thread::Threads;
+use streaming::{CutReadFault, Source};
+
+/// Reads a whole day file from a source and cuts it into morsels meanwhile, which threads scan as soon
+/// as they are cut. Threads then find the answer to the query, which is written to a sink. Nothing is
+/// written before every refusal but that of the sink is past. After a refusal the source may have been
+/// read in part. It waits for the threads.
+pub fn run<R: Threads + Wait + Sync, S: Source, K: Sink>(
+    rt: &R,
+    alloc: Global,
+    source: &mut S,
+    query_text: &str,
+    settings: Settings,
+    sink: &mut K,
+) -> Result<(), RunFault>
+    requires source { S.has_failed source.old ≡ false }
+    requires sink { K.has_failed sink.old ≡ false }
+    ensures ran { Ran (of_stream S.Gave S.HasEnded settings.limit settings.morsel source.old source.new)
+        K.Took K.HasFlushed query_text.now settings.limit sink.old sink.new result }
+    ensures read_failed { S.has_failed source.new ≡ is_read_failed result }
+    ensures write_failed { K.has_failed sink.new ≡ is_write_failed result }
+{
+    let query = query_of(alloc, query_text)?;
+    let answer = answer_source(rt, alloc, source, &query, settings)?;
+    hand_over(answer, sink)
+}
+
+/// The answer to a query over all that a source gives.
+fn answer_source<R: Threads + Wait + Sync, S: Source>(
+    rt: &R,
+    alloc: Global,
+    source: &mut S,
+    query: &Query,
+    settings: Settings,
+) -> Result<Answer, RunFault>
+    requires { S.has_failed source.old ≡ false }
+    ensures answers { IfOk result (λ answer.
+        IsAnswered (of_stream S.Gave S.HasEnded settings.limit settings.morsel source.old source.new)
+        query.now (told_by answer)) }
+    ensures refused { IfErr result (IsSourceRefusal
+        (of_stream S.Gave S.HasEnded settings.limit settings.morsel source.old source.new) settings.limit) }
+    ensures read_failed { S.has_failed source.new ≡ is_read_failed result }
+{
+    let limit = settings.limit;
+    let scanned = match read_scanned(rt, alloc, source, query.as_of, settings) {
+        Ok(scanned) => scanned,
+        Err(CutReadFault::ReadFailed) => return Err(RunFault::ReadFailed),
+        Err(CutReadFault::TooLong) => return Err(RunFault::TooLong { limit }),
+        Err(CutReadFault::Truncated { place }) => {
+            return Ok(Answer::Faulty(DayFault::Truncated { place }));
+        }
+        Err(CutReadFault::TooManyMorsels) => return Err(RunFault::TooManyMorsels),
+        Err(CutReadFault::OutOfMemory) => return Err(RunFault::OutOfMemory),
+    };
+    match answer_cut(rt, alloc, scanned, query, settings) {
+        Ok(answer) => Ok(answer),
+        Err(AllocError) => Err(RunFault::OutOfMemory),
+    }
+}
+
+/// The answer to a query over a cut day file, by the scans of its morsels; those that aren't there are
+/// done first. The bytes are freed on a thread of its own meanwhile, or by the caller if none can be made.
+fn answer_cut<R: Threads + Wait + Sync>(
+    rt: &R,
+    alloc: Global,
+    scanned: ScannedCut,
+    query: &Query,
+    settings: Settings,
+) -> Result<Answer, OutOfMemory>
+    ensures { IfOk result (λ answer. IsAnswer (concat scanned.cut) query.now (told_by answer)) }
+{
+    let Settings { crew, parts, .. } = settings;
+    let ScannedCut { cut, scans } = scanned;
+    let inputs = Arc::new(alloc, scan_inputs(alloc, &cut, query.as_of, parts)?)?;
+    drop(cut);
+    let total = total_of_pieces(alloc, &inputs, scans, &FreeGate, 1)?;
+    // (without a thread, what it was to free is let go with the error)
+    let freeing = thread::spawn(rt, move || drop(inputs)).ok();
+    let answer = answer_scans(rt, alloc, total, query, parts, crew);
+    if let Some(freeing) = freeing {
+        freeing.join(rt);
+    }
+    answer
+}

@@ -1,0 +1,17 @@
+//! Answers a query over a whole day file, on threads: the text that it asks for, or the file's one fault.
+#![tactic(auto)]
+
+mod calls;
+
+pub use answers::{Answer, DayFault, Text};
+pub use block_scan::{BlockSource, FileBlocks, Memory};
+pub use calls::answer::answer;
+pub use calls::first_pipeline::told_of;
+pub use calls::run::run;
+pub use calls::run_blocks::run_blocks;
+pub use day_file::{Counted, Cut, DayFile, DeviceFailed, LONGEST_FILE, Source};
+pub use lists::OutOfMemory;
+pub use outcomes::{RunFault, Settings};
+pub use pipelines::{Crew, FreeGate, Gate};
+pub use query::{Query, QueryFault, What, parse};
+pub use sinks::{CountedSink, Sink, WriteFailed, deliver};
