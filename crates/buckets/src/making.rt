@@ -8,8 +8,8 @@ ghost use Rattle.buckets.specs.Products.{product_of};
 use crate::OutOfMemory;
 use crate::product::Product;
 use bars::BarTable;
-use probe::Sale;
 use meaning::What;
+use probe::Sale;
 use std::alloc::Global;
 use time_and_sales::Listing;
 

@@ -1,9 +1,9 @@
 //! What the buckets of a day share.
 
 use broken_trades::Breaks;
+use meaning::What;
 use morsel_rows::MorselRows;
 use probe::Selection;
-use meaning::What;
 use std::alloc::Global;
 use std::sync::Arc;
 

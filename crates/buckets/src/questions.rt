@@ -3,8 +3,8 @@ ghost use Rattle.std.specs.Prelude.{◌≡◌};
 ghost use Rattle.buckets.specs.SameQuestions.{are_same_kinds, are_same_locates, is_same_bool};
 ghost use Rattle.buckets.specs.SameQuestions.{is_same_selection, is_same_span, is_same_what};
 
-use probe::{Kinds, Locates, Selection, Span};
 use meaning::What;
+use probe::{Kinds, Locates, Selection, Span};
 
 pub(crate) fn same_what(a: What, b: What) -> bool
     ensures { result ≡ is_same_what a b }

@@ -4,9 +4,9 @@
 mod performing;
 
 pub use arguments::{Job, WordsFault, command, reading_fault};
+pub use performing::{perform, perform_blocks, perform_opened};
+pub use reports::{explain, tell};
 pub use runs::{
     BlockSource, Counted, CountedSink, Crew, DayFault, DeviceFailed, FileBlocks, LONGEST_FILE,
     Memory, QueryFault, RunFault, Settings, Sink, Source,
 };
-pub use performing::{perform, perform_blocks, perform_opened};
-pub use reports::{explain, tell};

@@ -5,8 +5,8 @@ ghost use Rattle.reports.specs.FaultLines.{line_of, status_of};
 ghost use Rattle.reports.specs.Reports.{Delivered};
 
 use arguments::Job;
-use runs::{BlockSource, RunFault, Sink, Source, run, run_blocks};
 use reports::{report, tell};
+use runs::{BlockSource, RunFault, Sink, Source, run, run_blocks};
 use std::alloc::Global;
 use std::sync::Wait;
 use std::thread::Threads;

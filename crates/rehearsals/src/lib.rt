@@ -9,6 +9,6 @@ pub use answers::Answer;
 pub use day_file::Cut;
 pub use laws::{all_arrived_answers, each_once_answers, one_rehearsal};
 pub use lists::OutOfMemory;
-pub use schedules::Event;
 pub use meaning::Query;
 pub use rehearse::{Rehearsal, rehearse};
+pub use schedules::Event;

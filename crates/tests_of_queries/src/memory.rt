@@ -1,8 +1,8 @@
 //! Each call that takes memory, with less and more of it: a heap has memory for a call once its size
 //! has grown, 16 bytes at a time.
 
-use linked_list_allocator::LocalHeap;
 use canonical_query::write;
+use linked_list_allocator::LocalHeap;
 use query::{Locates, Names, OutOfMemory, parse, selection};
 use std::alloc::Global;
 use std::test::Fail;

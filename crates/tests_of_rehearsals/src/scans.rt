@@ -1,6 +1,6 @@
 //! Scans of the morsels of a day, whose pieces are gathered in any order.
-use day_rows::Row;
 use day_file::cut_at;
+use day_rows::Row;
 use gathering::{Filed, Gathering, Inputs, Piece};
 use morsel_rows::{MorselRows, OrderList, Partition};
 use order_table::OrderRow;
