@@ -4,3 +4,4 @@ pub mod SameQuestions
 pub mod BucketRows
 pub mod Buckets
 pub mod RisingLists
+pub mod Plans

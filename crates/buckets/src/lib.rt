@@ -8,6 +8,7 @@
 mod bucket;
 mod found;
 mod making;
+mod names;
 mod plan;
 mod product;
 mod questions;
@@ -19,6 +20,7 @@ mod work;
 pub use bucket::Bucket;
 pub use found::{BucketTotal, Found};
 pub use lists::OutOfMemory;
+pub use names::DayNames;
 pub use plan::Plan;
 pub use product::Product;
 pub use work::BucketWork;

@@ -1,9 +1,2 @@
-pub mod AnswerOfBuckets
-pub mod BucketsOfMessages
-pub mod GatheredRows
 pub mod MorselsOfCuts
-pub mod ProductsJoined
-pub mod Rising
-pub mod Selecting
-pub mod TotalsOfCuts
 pub mod LinkedBuckets

@@ -29,7 +29,8 @@ use Rattle.links.specs.Totals.{IsTotal}
 use Rattle.buckets.specs.BucketRows.{BucketView, bucket_of, planned_rows, rows_at}
 use Rattle.buckets.specs.Buckets.{AreNumbered}
 use Rattle.buckets.specs.declared.plan.Plan.{Plan}
-use Rattle.planning.specs.Planned.{all_breaks, all_directory, planned_bucket, rising, selection_of}
+use Rattle.planning.specs.Planned.{all_breaks, all_directory, planned_bucket}
+use Rattle.buckets.specs.Plans.{rising, selection_of}
 use Rattle.planning.proofs.MorselsOfCuts.{counted_in, input_of, partition_is}
 
 -- ---- a plan's buckets

@@ -1,20 +1,17 @@
 -- What the total of all morsels is linked to: its wrong length, or a bucket of each partition.
 -- Derived: the answer isn't said by morsels and buckets.
-use Rattle.std.specs.Prelude.{ℕ, ◌==◌, nat_lt, List, [], ◌∷◌, map, Option, Some, None, if◌then◌else◌}
+use Rattle.std.specs.Prelude.{ℕ, List, map, Option, Some, None}
 use Rattle.std.specs.List.{flat_map}
-use Rattle.std.specs.declared.alloc.Global.{Global}
 use Rattle.lists.specs.Least.{numbers_below}
-use Rattle.probe.specs.declared.selection.Selection.{Selection}
-use Rattle.time_and_sales.specs.Names.{name_of}
 use Rattle.row_types.specs.declared.directory.DirectoryRow.{DirectoryRow}
 use Rattle.meaning.specs.Meaning.{Meaning}
-use Rattle.meaning.specs.Selected.{locates_of}
 use Rattle.links.specs.declared.linked.Linked.{Linked}
 use Rattle.links.specs.declared.linked.Linked.TheVariants.{Next, Halt}
 use Rattle.morsel_rows.specs.Partitions.{MorselRowsView, partition_at}
 use Rattle.scanning.specs.Scans.{ScanTotalView}
 use Rattle.scanning.specs.declared.wrong.WrongLength.{WrongLength}
 use Rattle.buckets.specs.BucketRows.{BucketView}
+use Rattle.buckets.specs.Plans.{rising, selection_of}
 
 -- the breaks of all morsels
 abbrev pub all_breaks : List MorselRowsView → List ℕ
@@ -23,24 +20,6 @@ all_breaks morsels = flat_map (λ rows. rows.breaks) morsels
 -- their directory rows
 abbrev pub all_directory : List MorselRowsView → List DirectoryRow
 all_directory morsels = flat_map (λ rows. rows.directory) morsels
-
--- a number put where it belongs, once
-abbrev pub put_rising : ℕ → List ℕ → List ℕ
-put_rising n [] = n ∷ []
-put_rising n (m ∷ ms) = if nat_lt n m then n ∷ m ∷ ms else if n == m then m ∷ ms else m ∷ put_rising n ms
-
--- the numbers, rising, each once
-abbrev pub rising : List ℕ → List ℕ
-rising [] = []
-rising (n ∷ ns) = put_rising n (rising ns)
-
--- the selection of a query, where the directory has these rows
-abbrev pub selection_of : Meaning → List DirectoryRow → Selection Global
-selection_of query rows = record {
-  locates = locates_of query.symbols (name_of rows);
-  span = query.span;
-  kinds = query.kinds;
-}
 
 -- the bucket of this number
 abbrev pub planned_bucket : Meaning → List MorselRowsView → ℕ → BucketView

@@ -1,14 +1,9 @@
-//! From the rows of all morsels to buckets, and from what all buckets have found to the answer.
+//! From the rows of all morsels to buckets.
 #![tactic(auto)]
 
-mod joining;
 mod link;
-mod names;
 mod plan;
-mod ranges;
 
-pub use joining::answer_of;
+pub use buckets::DayNames;
 pub use link::PlanLink;
 pub use lists::OutOfMemory;
-pub use names::DayNames;
-pub use ranges::answer_in_ranges;

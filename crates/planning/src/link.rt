@@ -8,9 +8,8 @@ ghost use Rattle.links.specs.declared.linked.Linked.TheVariants.{Next};
 ghost use Rattle.planning.specs.Planned.{all_directory, linked_to, planned_bucket};
 
 use crate::OutOfMemory;
-use crate::names::DayNames;
 use crate::plan::{buckets_of, directory_of, plan};
-use buckets::BucketWork;
+use buckets::{BucketWork, DayNames};
 use gathering::Inputs;
 use links::{Link, Linked};
 use meaning::Query;

@@ -5,12 +5,12 @@ ghost use Rattle.lists.specs.Least.{numbers_below};
 ghost use Rattle.meaning.specs.Meaning.{HasWidth};
 ghost use Rattle.morsel_rows.specs.Partitions.{AreRowsByPlace, joined_partitions};
 ghost use Rattle.buckets.specs.BucketRows.{bucket_of, planned_rows};
-ghost use Rattle.planning.specs.Planned.{all_breaks, all_directory, rising, selection_of};
+ghost use Rattle.planning.specs.Planned.{all_breaks, all_directory};
+ghost use Rattle.buckets.specs.Plans.{rising, selection_of};
 
 use crate::OutOfMemory;
-use crate::names::DayNames;
 use broken_trades::Breaks;
-use buckets::{Bucket, Plan};
+use buckets::{Bucket, DayNames, Plan};
 use meaning::{Query, selection};
 use morsel_rows::MorselRows;
 use std::alloc::Global;

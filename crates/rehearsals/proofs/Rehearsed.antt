@@ -20,7 +20,7 @@ use Rattle.scanning.proofs.MorselInputs.{length-numbered}
 use Rattle.buckets.specs.BucketRows.{BucketView}
 use Rattle.buckets.specs.Buckets.{total_found}
 use Rattle.buckets.specs.FoundRows.{TotalView}
-use Rattle.planning.specs.Gathered.{AreGatheredOf}
+use Rattle.joining.specs.Gathered.{AreGatheredOf}
 use Rattle.planning.specs.Planned.{LinkView, all_directory, linked_to, planned_bucket}
 use Rattle.rehearsals.specs.Rehearsals.{IsRehearsed}
 use Rattle.runs.specs.FirstPipeline.{AreRuns, wrong_fault}

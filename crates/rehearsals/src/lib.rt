@@ -2,6 +2,7 @@
 //! answer it in whatever order they finish. Laws say that the order decides nothing.
 #![tactic(auto)]
 
+mod joining;
 mod laws;
 mod rehearse;
 

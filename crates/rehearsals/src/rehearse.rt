@@ -4,9 +4,10 @@ ghost use Rattle.lists.specs.declared.limits.TheConstants.{MOST_PARTITIONS};
 ghost use Rattle.rehearsals.specs.Rehearsals.{IsRehearsed};
 
 use crate::OutOfMemory;
+use crate::joining::answer_of;
 use answers::Answer;
 use day_file::Cut;
-use planning::{PlanLink, answer_of};
+use planning::PlanLink;
 use query::Query;
 use runs::told_of;
 use scanning::scan_inputs;

@@ -12,7 +12,7 @@ use Rattle.scanning.specs.Scans.{ScanInputView, ScanTotalView, inputs_of, total_
 use Rattle.scanning.specs.declared.wrong.WrongLength.{WrongLength}
 use Rattle.buckets.specs.Buckets.{total_found}
 use Rattle.buckets.specs.FoundRows.{TotalView}
-use Rattle.planning.specs.Gathered.{AreGatheredOf}
+use Rattle.joining.specs.Gathered.{AreGatheredOf}
 use Rattle.planning.specs.Planned.{LinkView, all_directory, linked_to}
 use Rattle.runs.specs.FirstPipeline.{AreRuns, wrong_fault}
 use Rattle.runs.proofs.CutAnswers.{answered_by, buckets, gathered_by, halted_by, link, messages, scan}

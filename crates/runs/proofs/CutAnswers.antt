@@ -24,10 +24,10 @@ use Rattle.scanning.specs.declared.wrong.WrongLength.{WrongLength}
 use Rattle.buckets.specs.BucketRows.{BucketView}
 use Rattle.buckets.specs.Buckets.{total_found}
 use Rattle.buckets.specs.FoundRows.{TotalView}
-use Rattle.planning.specs.Gathered.{AreGatheredOf}
+use Rattle.joining.specs.Gathered.{AreGatheredOf}
 use Rattle.planning.specs.Planned.{LinkView, all_directory, planned_bucket}
 use Rattle.planning.proofs.MorselsOfCuts.{counted_in, directory_is, input_of, told_of, wrong_is}
-use Rattle.planning.proofs.TotalsOfCuts.{linked_total}
+use Rattle.runs.proofs.TotalsOfCuts.{linked_total}
 use Rattle.runs.specs.FirstPipeline.{AreRuns, wrong_fault}
 
 -- the bytes of runs joined

@@ -1,3 +1,4 @@
+pub mod TotalsOfCuts
 pub mod CutAnswers
 pub mod Answered
 pub mod BlocksScanned

@@ -3,7 +3,7 @@ use Rattle.std.specs.Arc.{arc_value}
 use Rattle.std.specs.declared.alloc.Global.{Global}
 use Rattle.std.specs.declared.sync.Arc.{Arc}
 use Rattle.morsel_rows.specs.Partitions.{MorselRowsView}
-use Rattle.planning.proofs.GatheredRows.{gathered_all, gathered_more}
+use Rattle.buckets.proofs.GatheredRows.{gathered_all, gathered_more}
 use Rattle.planning.proofs.plan.directory_of.Goals as goal
 
 pub returns : goal.returns

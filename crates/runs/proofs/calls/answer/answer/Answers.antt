@@ -2,7 +2,7 @@ use Rattle.std.proofs.Common.{ap, ◌∙◌}
 use Rattle.std.specs.Arc.{arc_value}
 use Rattle.meaning.specs.Meaning.{Meaning}
 use Rattle.scanning.specs.Scans.{inputs_of}
-use Rattle.planning.proofs.ProductsJoined.{on_ok}
+use Rattle.joining.proofs.ProductsJoined.{on_ok}
 use Rattle.runs.specs.FirstPipeline.{AreRuns}
 use Rattle.runs.proofs.Answered.{given_by}
 use Rattle.runs.proofs.calls.answer.answer.Goals as goal

@@ -1,6 +1,6 @@
 use Rattle.std.proofs.Common.{sym, ◌∙◌}
 use Rattle.answers.specs.Answers.{told_by}
-use Rattle.planning.proofs.ProductsJoined.{on_ok}
+use Rattle.joining.proofs.ProductsJoined.{on_ok}
 use Rattle.runs.proofs.Answered.{finished, gathered, halted}
 use Rattle.runs.proofs.CutAnswers.{messages}
 use Rattle.runs.proofs.calls.answer.answer_of_outcome.Goals as goal

@@ -1,6 +1,6 @@
 use Rattle.std.proofs.Common.{refl}
 use Rattle.scanning.specs.Scans.{inputs_of}
-use Rattle.planning.proofs.ProductsJoined.{on_ok}
+use Rattle.joining.proofs.ProductsJoined.{on_ok}
 use Rattle.runs.proofs.Answered.{given_of}
 use Rattle.runs.proofs.calls.answer.answer_scans.Goals as goal
 

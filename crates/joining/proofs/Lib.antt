@@ -1,0 +1,4 @@
+pub mod AnswerOfBuckets
+pub mod BucketsOfMessages
+pub mod ProductsJoined
+pub mod Selecting

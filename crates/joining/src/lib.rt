@@ -1,0 +1,9 @@
+//! From what all buckets have found to the answer: the first fault in the references, or the text.
+#![tactic(auto)]
+
+mod listed;
+mod ranges;
+
+pub use listed::{fault_of, tables};
+pub use lists::OutOfMemory;
+pub use ranges::answer_in_ranges;

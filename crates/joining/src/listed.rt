@@ -1,0 +1,57 @@
+//! What all buckets have found: the first fault in the references, and the tables.
+ghost use Rattle.std.specs.Prelude.{◌≡◌, IfOk, All, filter_map, map};
+ghost use Rattle.std.specs.Arc.{arc_value};
+ghost use Rattle.bars.specs.Bars.{IsTraded, all_bars};
+ghost use Rattle.joining.specs.Gathered.{fault_from, table_of};
+
+use crate::OutOfMemory;
+use bars::BarTable;
+use buckets::{BucketTotal, Product};
+use order_table::Repeated;
+use outcomes::DayFault;
+use probe::Unknown;
+use std::alloc::Global;
+use std::sync::Arc;
+
+/// The first fault in the references.
+pub fn fault_of(total: &BucketTotal) -> Option<DayFault>
+    ensures { result ≡ fault_from total.now.repeated total.now.unknown }
+{
+    match (total.repeated(), total.unknown()) {
+        (Some(Repeated { place, order_no }), _) => {
+            Some(DayFault::RepeatedReference { place, order_no })
+        }
+        (None, Some(Unknown { place, order_no })) => {
+            Some(DayFault::UnknownReference { place, order_no })
+        }
+        (None, None) => None,
+    }
+}
+
+/// The tables among what is listed.
+pub fn tables<'a>(
+    alloc: Global,
+    products: &'a [Arc<Product, Global>],
+) -> Result<Vec<&'a BarTable>, OutOfMemory>
+    ensures tables { IfOk result (λ tables. map (λ table. table.now) tables.items
+        ≡ filter_map table_of (map arc_value products.now)) }
+    ensures traded { IfOk result (λ tables. All IsTraded (all_bars (map (λ table. table.now) tables.items))) }
+{
+    let mut tables = Vec::with_capacity(alloc, products.len())?;
+    for product in products {
+        match &**product {
+            Product::Tabled(table) => tables.push(traded(table))?,
+            Product::Listed(_) => {}
+        }
+    }
+    Ok(tables)
+}
+
+/// The same table. Each of its bars is of one sale or more, as its type keeps.
+fn traded(table: &BarTable) -> &BarTable
+    ensures same { result.now ≡ table.now }
+    ensures traded { All IsTraded result.now }
+{
+    table.items();
+    table
+}

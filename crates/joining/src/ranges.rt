@@ -1,0 +1,125 @@
+//! What all buckets list, joined by threads in ranges.
+ghost use Rattle.std.specs.Prelude.{◌≡◌, List, IfOk, filter_map, map};
+ghost use Rattle.std.specs.Arc.{arc_value};
+ghost use Rattle.row_types.specs.declared.trade.Sale.{Sale};
+ghost use Rattle.time_and_sales.specs.Names.{last_row, name_text};
+ghost use Rattle.bars.specs.Bars.{all_sales};
+ghost use Rattle.meaning.specs.declared.query.What.TheVariants.{Bars, Sales};
+ghost use Rattle.answers.specs.Answers.{IsAnswerToMessages, told_by};
+ghost use Rattle.day_rows.specs.Messages.{Placed};
+ghost use Rattle.joining.specs.Gathered.{AreGatheredOf, AreProductsOf, IsTextOfAll, listing_of};
+
+use crate::OutOfMemory;
+use crate::listed::{fault_of, tables};
+use answers::{Answer, Text, text_of_listings, text_of_tables};
+use buckets::{BucketTotal, DayNames, Product};
+use meaning::{Query, What};
+use std::alloc::Global;
+use std::sync::Arc;
+use std::thread::Threads;
+use time_and_sales::{Listing, Names};
+
+/// The answer that the total of all buckets gives: the first fault in the references, or the text
+/// that is asked for. Threads make the text in so many parts, or one, and the rows of all buckets are
+/// let go when it is made.
+pub fn answer_in_ranges<R: Threads + Sync>(
+    rt: &R,
+    alloc: Global,
+    query: &Query,
+    total: BucketTotal,
+    names: &DayNames,
+    ranges: u32,
+) -> Result<Answer, OutOfMemory>
+    requires gathered { (messages : List Placed) × AreGatheredOf query.now total names.now messages }
+    ensures { IfOk result (λ answer. (messages : List Placed) → AreGatheredOf query.now total names.now messages →
+        IsAnswerToMessages messages query.now (told_by answer)) }
+{
+    match fault_of(&total) {
+        Some(fault) => Ok(Answer::Faulty(fault)),
+        None => {
+            let products = total.into_products();
+            let text = text_of(rt, alloc, query.what, products, names.names(), ranges)?;
+            Ok(Answer::Printed(text))
+        }
+    }
+}
+
+/// The text that is asked for of what all buckets list.
+fn text_of<R: Threads + Sync>(
+    rt: &R,
+    alloc: Global,
+    what: What,
+    products: Vec<Arc<Product, Global>>,
+    names: &Names,
+    ranges: u32,
+) -> Result<Text, OutOfMemory>
+    requires products { (lists : List (List Sale)) × AreProductsOf what lists (map arc_value products.items) }
+    ensures { IfOk result (λ text. (lists : List (List Sale)) →
+        AreProductsOf what lists (map arc_value products.items) →
+        IsTextOfAll what (λ locate. name_text locate (last_row names.now locate)) (all_sales lists) text) }
+{
+    match what {
+        What::Sales => text_of_sales(rt, alloc, products, names, ranges),
+        What::Bars { width } => text_of_bars(rt, alloc, products, width, names, ranges),
+    }
+}
+
+/// The text of all listings.
+fn text_of_sales<R: Threads + Sync>(
+    rt: &R,
+    alloc: Global,
+    products: Vec<Arc<Product, Global>>,
+    names: &Names,
+    ranges: u32,
+) -> Result<Text, OutOfMemory>
+    requires products { (lists : List (List Sale)) × AreProductsOf Sales lists (map arc_value products.items) }
+    ensures { IfOk result (λ text. (lists : List (List Sale)) →
+        AreProductsOf Sales lists (map arc_value products.items) →
+        IsTextOfAll Sales (λ locate. name_text locate (last_row names.now locate)) (all_sales lists) text) }
+{
+    let listings = listings(alloc, &products)?;
+    text_of_listings(rt, alloc, &listings, names, ranges)
+}
+
+/// The text of all tables, which are of bars of this width.
+fn text_of_bars<R: Threads + Sync>(
+    rt: &R,
+    alloc: Global,
+    products: Vec<Arc<Product, Global>>,
+    width: u32,
+    names: &Names,
+    ranges: u32,
+) -> Result<Text, OutOfMemory>
+    requires products { (lists : List (List Sale)) × AreProductsOf (Bars width) lists (map arc_value products.items) }
+    ensures { IfOk result (λ text. (lists : List (List Sale)) →
+        AreProductsOf (Bars width) lists (map arc_value products.items) →
+        IsTextOfAll (Bars width) (λ locate. name_text locate (last_row names.now locate)) (all_sales lists) text) }
+{
+    let tables = tables(alloc, &products)?;
+    text_of_tables(rt, alloc, &tables, names, ranges)
+}
+
+/// The listings among what is listed.
+fn listings<'a>(
+    alloc: Global,
+    products: &'a [Arc<Product, Global>],
+) -> Result<Vec<&'a Listing>, OutOfMemory>
+    ensures { IfOk result (λ listings. map (λ listing. listing.now) listings.items
+        ≡ filter_map listing_of (map arc_value products.now)) }
+{
+    let mut listings = Vec::with_capacity(alloc, products.len())?;
+    for product in products {
+        match &**product {
+            Product::Listed(listing) => listings.push(lent(listing))?,
+            Product::Tabled(_) => {}
+        }
+    }
+    Ok(listings)
+}
+
+/// The same listing.
+fn lent(listing: &Listing) -> &Listing
+    ensures { result.now ≡ listing.now }
+{
+    listing
+}

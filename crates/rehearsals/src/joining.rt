@@ -1,0 +1,127 @@
+//! What all buckets list, joined on one thread.
+ghost use Rattle.std.specs.Prelude.{◌≡◌, List, IfOk, filter_map, map};
+ghost use Rattle.std.specs.Arc.{arc_value};
+ghost use Rattle.row_types.specs.declared.trade.Sale.{Sale};
+ghost use Rattle.time_and_sales.specs.Names.{last_row, name_text};
+ghost use Rattle.bars.specs.Bars.{all_sales};
+ghost use Rattle.meaning.specs.declared.query.What.TheVariants.{Bars, Sales};
+ghost use Rattle.answers.specs.Answers.{IsAnswerToMessages, told_by};
+ghost use Rattle.day_rows.specs.Messages.{Placed};
+ghost use Rattle.joining.specs.Gathered.{AreGatheredOf, AreProductsOf, IsTextOfAll, listing_of};
+
+use crate::OutOfMemory;
+use answers::{Answer, Text, text_of_bars, text_of_sales};
+use bars::BarTable;
+use buckets::{BucketTotal, DayNames, Product};
+use joining::{fault_of, tables};
+use meaning::{Query, What};
+use std::alloc::Global;
+use std::sync::Arc;
+use time_and_sales::{Listing, Names};
+
+/// The answer that the total of all buckets gives: the first fault in the references, or the text
+/// that is asked for.
+pub(crate) fn answer_of(
+    alloc: Global,
+    query: &Query,
+    total: BucketTotal,
+    names: &DayNames,
+) -> Result<Answer, OutOfMemory>
+    requires { (messages : List Placed) × AreGatheredOf query.now total names.now messages }
+    ensures { IfOk result (λ answer. (messages : List Placed) → AreGatheredOf query.now total names.now messages →
+        IsAnswerToMessages messages query.now (told_by answer)) }
+{
+    match fault_of(&total) {
+        Some(fault) => Ok(Answer::Faulty(fault)),
+        None => {
+            let text = text_of(alloc, query.what, total.into_products(), names.names())?;
+            Ok(Answer::Printed(text))
+        }
+    }
+}
+
+/// The text that is asked for of what all buckets list.
+fn text_of(
+    alloc: Global,
+    what: What,
+    products: Vec<Arc<Product, Global>>,
+    names: &Names,
+) -> Result<Text, OutOfMemory>
+    requires { (lists : List (List Sale)) × AreProductsOf what lists (map arc_value products.items) }
+    ensures { IfOk result (λ text. (lists : List (List Sale)) →
+        AreProductsOf what lists (map arc_value products.items) →
+        IsTextOfAll what (λ locate. name_text locate (last_row names.now locate)) (all_sales lists) text) }
+{
+    match what {
+        What::Sales => text_of_listings(alloc, products, names),
+        What::Bars { width } => text_of_tables(alloc, products, width, names),
+    }
+}
+
+/// The text of all listings in one.
+fn text_of_listings(
+    alloc: Global,
+    products: Vec<Arc<Product, Global>>,
+    names: &Names,
+) -> Result<Text, OutOfMemory>
+    requires { (lists : List (List Sale)) × AreProductsOf Sales lists (map arc_value products.items) }
+    ensures { IfOk result (λ text. (lists : List (List Sale)) →
+        AreProductsOf Sales lists (map arc_value products.items) →
+        IsTextOfAll Sales (λ locate. name_text locate (last_row names.now locate)) (all_sales lists) text) }
+{
+    let listing = Listing::merge_all(alloc, listings(alloc, products)?)?;
+    text_of_sales(alloc, listing.items(), names)
+}
+
+/// The text of all tables, which are of bars of this width, in one.
+fn text_of_tables(
+    alloc: Global,
+    products: Vec<Arc<Product, Global>>,
+    width: u32,
+    names: &Names,
+) -> Result<Text, OutOfMemory>
+    requires { (lists : List (List Sale)) × AreProductsOf (Bars width) lists (map arc_value products.items) }
+    ensures { IfOk result (λ text. (lists : List (List Sale)) →
+        AreProductsOf (Bars width) lists (map arc_value products.items) →
+        IsTextOfAll (Bars width) (λ locate. name_text locate (last_row names.now locate)) (all_sales lists) text) }
+{
+    let tables = tables(alloc, &products)?;
+    let table = BarTable::merge_all(alloc, &tables)?;
+    text_of_bars(alloc, table.items(), names)
+}
+
+/// The listings among what is listed.
+fn listings(alloc: Global, products: Vec<Arc<Product, Global>>) -> Result<Vec<Listing>, OutOfMemory>
+    ensures { IfOk result (λ listings. listings.items ≡ filter_map listing_of (map arc_value products.items)) }
+{
+    let mut listings = Vec::with_capacity(alloc, products.len())?;
+    for product in products {
+        match listing_in(alloc, product)? {
+            Some(listing) => listings.push(listing)?,
+            None => {}
+        }
+    }
+    Ok(listings)
+}
+
+/// The listing, if it is one; without a copy where nobody else has it.
+fn listing_in(alloc: Global, product: Arc<Product, Global>) -> Result<Option<Listing>, OutOfMemory>
+    ensures { IfOk result (λ listing. listing ≡ listing_of (arc_value product)) }
+{
+    match Arc::try_unwrap(product) {
+        Ok(Product::Listed(listing)) => Ok(Some(listing)),
+        Ok(Product::Tabled(_)) => Ok(None),
+        Err(shared) => match &*shared {
+            Product::Listed(listing) => Ok(Some(copy_of(alloc, listing)?)),
+            Product::Tabled(_) => Ok(None),
+        },
+    }
+}
+
+/// The same listing.
+fn copy_of(alloc: Global, listing: &Listing) -> Result<Listing, OutOfMemory>
+    ensures { IfOk result (λ copy. copy ≡ listing.now) }
+{
+    let sales = Vec::from_slice(alloc, listing.items())?;
+    Ok(Listing::of_sales(sales))
+}
