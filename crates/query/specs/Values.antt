@@ -6,6 +6,7 @@ use Rattle.std.specs.Char.{is_ascii_digit}
 use Rattle.std.specs.List.{list_all, list_any}
 use Rattle.std.specs.Str.{bytes_eq}
 use Rattle.query.specs.Words.{parts}
+use Rattle.meaning.specs.Symbols.{is_symbol}
 use Rattle.lists.specs.declared.limits.TheConstants.{SECONDS_OF_DAY}
 use Rattle.probe.specs.declared.selection.Kinds.{Kinds}
 use Rattle.meaning.specs.declared.symbols.TheConstants.{COMMA}
