@@ -3,5 +3,5 @@ pub mod OneBucketMore
 pub mod RowsOfParts
 pub mod RowsApart
 pub mod RisingRows
-pub mod Rising
+pub mod RisingNumbers
 pub mod GatheredRows

@@ -40,7 +40,7 @@ use Rattle.buckets.specs.FoundRows.{FoundView, found_of, sales_in}
 use Rattle.buckets.specs.Products.{product_of}
 use Rattle.joining.specs.Gathered.{AreListable, found_in}
 use Rattle.buckets.specs.Plans.{rising, selection_of}
-use Rattle.buckets.proofs.Rising.{rising_among}
+use Rattle.buckets.proofs.RisingNumbers.{rising_among}
 use Rattle.joining.proofs.Selecting.{selection_agrees}
 
 -- ---- faults

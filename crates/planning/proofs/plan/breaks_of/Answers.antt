@@ -5,7 +5,7 @@ use Rattle.std.specs.declared.sync.Arc.{Arc}
 use Rattle.morsel_rows.specs.Partitions.{MorselRowsView}
 use Rattle.buckets.specs.Plans.{rising}
 use Rattle.buckets.proofs.GatheredRows.{gathered_all, gathered_more}
-use Rattle.buckets.proofs.Rising.{rising_is}
+use Rattle.buckets.proofs.RisingNumbers.{rising_is}
 use Rattle.planning.proofs.plan.breaks_of.Goals as goal
 
 pub returns : goal.returns
