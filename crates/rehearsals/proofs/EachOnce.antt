@@ -14,8 +14,8 @@ use Rattle.schedules.specs.Schedules.{brings, first_left, has_arrived}
 use Rattle.schedules.specs.declared.event.Event.{Event}
 use Rattle.schedules.specs.declared.event.Event.TheVariants.{Arrive}
 use Rattle.rehearsals.specs.Rehearsals.{HaveArrived, IsFinished, IsRehearsed, each_once}
-use Rattle.rehearsals.specs.declared.rehearse.Rehearsal.{Rehearsal}
-use Rattle.rehearsals.specs.declared.rehearse.Rehearsal.TheVariants.{Missing}
+use Rattle.rehearsals.specs.declared.rehearsing.Rehearsal.{Rehearsal}
+use Rattle.rehearsals.specs.declared.rehearsing.Rehearsal.TheVariants.{Missing}
 
 brought : (task : ℕ) (tasks : List ℕ) → list_any (brings 1 task) (map (λ t. Arrive 0 t) tasks) ≡ is_among tasks task
 brought task [] = refl

@@ -10,8 +10,8 @@ use Rattle.answers.proofs.OneAnswer.{answers_are_one}
 use Rattle.schedules.specs.Schedules.{first_left}
 use Rattle.schedules.specs.declared.event.Event.{Event}
 use Rattle.rehearsals.specs.Rehearsals.{IsFinished, IsRehearsed, TellTheSame}
-use Rattle.rehearsals.specs.declared.rehearse.Rehearsal.{Rehearsal}
-use Rattle.rehearsals.specs.declared.rehearse.Rehearsal.TheVariants.{Finished, Missing}
+use Rattle.rehearsals.specs.declared.rehearsing.Rehearsal.{Rehearsal}
+use Rattle.rehearsals.specs.declared.rehearsing.Rehearsal.TheVariants.{Finished, Missing}
 
 one_missing : (pipeline task : ℕ) (one other : Rehearsal) → one ≡ Missing pipeline task → other ≡ Missing pipeline task → TellTheSame one other
 one_missing pipeline task one other e f =

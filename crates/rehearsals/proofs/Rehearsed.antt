@@ -24,7 +24,7 @@ use Rattle.joining.specs.Gathered.{AreGatheredOf}
 use Rattle.planning.specs.Planned.{LinkView, all_directory, linked_to, planned_bucket}
 use Rattle.rehearsals.specs.Rehearsals.{IsRehearsed}
 use Rattle.runs.specs.FirstPipeline.{AreRuns, wrong_fault}
-use Rattle.rehearsals.specs.declared.rehearse.Rehearsal.TheVariants as rehearsal
+use Rattle.rehearsals.specs.declared.rehearsing.Rehearsal.TheVariants as rehearsal
 use Rattle.runs.proofs.CutAnswers.{answered_by, buckets, frames, gathered_by, halted_by, link, messages, right_frames, scan, stands, wrong_frame}
 
 abbrev Pair : Type 0

@@ -10,8 +10,8 @@ use Rattle.schedules.specs.declared.event.Event.{Event}
 use Rattle.schedules.specs.declared.event.Event.TheVariants.{Arrive}
 use Rattle.answers.specs.Answers.{IsAnswer, told_by}
 use Rattle.day_rows.specs.Messages.{first_wrong}
-use Rattle.rehearsals.specs.declared.rehearse.Rehearsal.{Rehearsal}
-use Rattle.rehearsals.specs.declared.rehearse.Rehearsal.TheVariants.{Finished, Missing}
+use Rattle.rehearsals.specs.declared.rehearsing.Rehearsal.{Rehearsal}
+use Rattle.rehearsals.specs.declared.rehearsing.Rehearsal.TheVariants.{Finished, Missing}
 
 -- the rehearsal has the answer to the query over the file
 abbrev pub IsFinished : List ℕ → Meaning → Rehearsal → Type 0

@@ -3,7 +3,7 @@ ghost use Rattle.std.specs.List.{concat};
 ghost use Rattle.meaning.specs.Meaning.{Meaning};
 ghost use Rattle.schedules.specs.declared.event.Event.{Event as TheEvent};
 ghost use Rattle.rehearsals.specs.Rehearsals.{HaveArrived, IsFinished, IsRehearsed, TellTheSame, each_once};
-ghost use Rattle.rehearsals.specs.declared.rehearse.Rehearsal.{Rehearsal as TheRehearsal};
+ghost use Rattle.rehearsals.specs.declared.rehearsing.Rehearsal.{Rehearsal as TheRehearsal};
 
 /// The law of rehearsals: over one cut, for one query, by the same schedules, all tell the same. It does
 /// nothing when it runs.

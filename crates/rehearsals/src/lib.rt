@@ -4,12 +4,12 @@
 
 mod joining;
 mod laws;
-mod rehearse;
+mod rehearsing;
 
 pub use answers::Answer;
 pub use day_file::Cut;
 pub use laws::{all_arrived_answers, each_once_answers, one_rehearsal};
 pub use lists::OutOfMemory;
 pub use meaning::Query;
-pub use rehearse::{Rehearsal, rehearse};
+pub use rehearsing::{Rehearsal, rehearse};
 pub use schedules::Event;

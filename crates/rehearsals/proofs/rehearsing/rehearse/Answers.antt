@@ -5,7 +5,7 @@ use Rattle.scanning.specs.Scans.{inputs_of}
 use Rattle.runs.specs.FirstPipeline.{AreRuns}
 use Rattle.runs.proofs.CutAnswers.{messages}
 use Rattle.rehearsals.proofs.Rehearsed.{finished, gathered, given_by, halted, not_arrived}
-use Rattle.rehearsals.proofs.rehearse.rehearse.Goals as goal
+use Rattle.rehearsals.proofs.rehearsing.rehearse.Goals as goal
 
 pub answer_of-requires : goal.answer_of-requires
 answer_of-requires c =
