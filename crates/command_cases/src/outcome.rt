@@ -3,16 +3,17 @@ ghost use Rattle.std.specs.Prelude.{◌≤◌};
 ghost use Rattle.lists.specs.declared.limits.TheConstants.{LONGEST_FILE};
 
 use crate::case::Case;
-use crate::devices::Devices;
+use crate::devices::{append_line, reader_of, writer_of};
 use crate::way::{Reading, Way};
 use command_line::{
-    Counted, CountedSink, Job, Memory, Settings, WordsFault, command, explain, perform,
-    perform_blocks, perform_opened,
+    Counted, CountedSink, Job, Memory, Settings, command, explain, perform, perform_blocks,
+    perform_opened,
 };
 use std::alloc::Global;
 use std::io;
 use std::sync::Wait;
 use std::thread::Threads;
+use tests_support::{Interrupted, InterruptedWriter};
 
 /// Appends the line of a way.
 pub(crate) fn append_outcome<R: Threads + Wait + Sync>(
@@ -22,15 +23,29 @@ pub(crate) fn append_outcome<R: Threads + Wait + Sync>(
     way: Way,
     lines: &mut Vec<u8>,
 ) -> io::Result<()> {
-    let mut devices = Devices::of(alloc, case.day.as_slice(), way);
+    let mut reader = reader_of(case.day.as_slice(), way.source);
+    let mut out = writer_of(alloc, way.out);
+    let mut errors = writer_of(alloc, way.errors);
     let status = match command(alloc, case.words.as_slice()) {
         Ok(job) => {
             let job = limited(job, way.limit);
-            performed(rt, alloc, &job, way.reading, &mut devices)
+            performed(
+                rt,
+                alloc,
+                &job,
+                way.reading,
+                &mut reader,
+                &mut out,
+                &mut errors,
+            )
         }
-        Err(fault) => explained(&fault, &mut devices),
+        Err(fault) => explain(
+            &fault,
+            &mut CountedSink::of(&mut out),
+            &mut CountedSink::of(&mut errors),
+        ),
     };
-    devices.append_line(alloc, status, lines)
+    append_line(alloc, status, reader.calls, &out, &errors, lines)
 }
 
 /// The job with this limit of the day's bytes.
@@ -52,67 +67,67 @@ fn limited(job: Job, limit: u64) -> Job
     Job { settings, ..job }
 }
 
-/// The status of words that ask for no job.
-fn explained(fault: &WordsFault, devices: &mut Devices<'_>) -> u8 {
-    let mut out = CountedSink::of(&mut devices.out);
-    let mut errors = CountedSink::of(&mut devices.errors);
-    explain(fault, &mut out, &mut errors)
-}
-
 /// The status of a job.
 fn performed<R: Threads + Wait + Sync>(
     rt: &R,
     alloc: Global,
     job: &Job,
     reading: Reading,
-    devices: &mut Devices<'_>,
+    reader: &mut Interrupted<'_>,
+    out: &mut InterruptedWriter,
+    errors: &mut InterruptedWriter,
 ) -> u8 {
     match reading {
-        Reading::Stream => performed_in_order(rt, alloc, job, devices),
-        Reading::Blocks => performed_by_blocks(rt, alloc, job, devices),
-        Reading::Opened => performed_opened(rt, alloc, job, devices),
-        Reading::NotOpened => performed_unopened(rt, alloc, job, devices),
+        Reading::Stream => performed_in_order(rt, alloc, job, reader, out, errors),
+        Reading::Blocks => performed_by_blocks(rt, alloc, job, reader.rest, out, errors),
+        Reading::Opened => performed_opened(rt, alloc, job, reader, out, errors),
+        Reading::NotOpened => performed_unopened(rt, alloc, job, out, errors),
     }
 }
 
-/// The status of a job over the reader.
+/// The status of a job over a source.
 fn performed_in_order<R: Threads + Wait + Sync>(
     rt: &R,
     alloc: Global,
     job: &Job,
-    devices: &mut Devices<'_>,
+    reader: &mut Interrupted<'_>,
+    out: &mut InterruptedWriter,
+    errors: &mut InterruptedWriter,
 ) -> u8 {
-    let mut source = Counted::of(&mut devices.reader);
-    let mut out = CountedSink::of(&mut devices.out);
-    let mut errors = CountedSink::of(&mut devices.errors);
+    let mut source = Counted::of(reader);
+    let mut out = CountedSink::of(out);
+    let mut errors = CountedSink::of(errors);
     perform(rt, alloc, job, &mut source, &mut out, &mut errors)
 }
 
-/// The status of a job over the day's bytes.
+/// The status of a job over bytes that are read at places.
 fn performed_by_blocks<R: Threads + Wait + Sync>(
     rt: &R,
     alloc: Global,
     job: &Job,
-    devices: &mut Devices<'_>,
+    bytes: &[u8],
+    out: &mut InterruptedWriter,
+    errors: &mut InterruptedWriter,
 ) -> u8 {
-    let bytes = devices.reader.rest;
     let source = Memory { bytes };
     let length = bytes.len() as u64;
-    let mut out = CountedSink::of(&mut devices.out);
-    let mut errors = CountedSink::of(&mut devices.errors);
+    let mut out = CountedSink::of(out);
+    let mut errors = CountedSink::of(errors);
     perform_blocks(rt, alloc, job, &source, length, &mut out, &mut errors)
 }
 
-/// The status of a job over the reader, as over a file that was opened.
+/// The status of a job over a file that was opened.
 fn performed_opened<R: Threads + Wait + Sync>(
     rt: &R,
     alloc: Global,
     job: &Job,
-    devices: &mut Devices<'_>,
+    reader: &mut Interrupted<'_>,
+    out: &mut InterruptedWriter,
+    errors: &mut InterruptedWriter,
 ) -> u8 {
-    let opened = Some(Counted::of(&mut devices.reader));
-    let mut out = CountedSink::of(&mut devices.out);
-    let mut errors = CountedSink::of(&mut devices.errors);
+    let opened = Some(Counted::of(reader));
+    let mut out = CountedSink::of(out);
+    let mut errors = CountedSink::of(errors);
     perform_opened(rt, alloc, job, opened, &mut out, &mut errors)
 }
 
@@ -121,10 +136,11 @@ fn performed_unopened<R: Threads + Wait + Sync>(
     rt: &R,
     alloc: Global,
     job: &Job,
-    devices: &mut Devices<'_>,
+    out: &mut InterruptedWriter,
+    errors: &mut InterruptedWriter,
 ) -> u8 {
     let absent: Option<Counted<&[u8]>> = None;
-    let mut out = CountedSink::of(&mut devices.out);
-    let mut errors = CountedSink::of(&mut devices.errors);
+    let mut out = CountedSink::of(out);
+    let mut errors = CountedSink::of(errors);
     perform_opened(rt, alloc, job, absent, &mut out, &mut errors)
 }
