@@ -65,7 +65,7 @@ const OPTIONS: [(&str, &str, u64); 4] =
 /// The size of morsels where the words give none.
 const MORSEL: u64 = 1_048_576;
 
-const HELP: &str = include_str!("../.ci/help");
+const HELP: &str = include_str!("../bin/help");
 const VERSION: &str = "itch_bars 0.1.0\n";
 const USAGE: &str = "Usage: itch_bars [OPTIONS] <FILE> \"<QUERY>\"\n\n";
 const SEE_HELP: &str = "For more information, try '--help'.\n";
