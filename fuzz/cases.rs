@@ -36,8 +36,41 @@ pub enum Way {
     Plain,
     /// A letter, C, R or B; workers, gatherers, the morsel, partitions.
     Threads(u8, u8, u8, u32, u16),
+    /// `run_blocks`, where so many bytes are expected: workers, gatherers, the morsel, partitions, the bytes.
+    Expected(u8, u8, u32, u16, u32),
     /// Gatherers, the morsel, partitions, the schedules.
     Rehearsed(u8, u32, u16, Vec<Event>, Vec<Event>),
+    /// Gatherers, partitions, the schedules, and a number for each cut, whose bits say which frames but the first
+    /// begin a morsel.
+    Chosen(u8, u16, Vec<Event>, Vec<Event>, Vec<u16>),
+    /// The query is written.
+    Written,
+    /// A longer one is: the query with its bytes from one up to another so many times.
+    Repeated(u16, u16, u16),
+    /// A way with each of some values of one byte or two.
+    Each(Values, Box<Way>),
+}
+
+/// A place, how many bytes are changed there, the first value and the last, and the step from one to the next.
+#[derive(Clone, Copy)]
+pub struct Values {
+    pub place: u32,
+    pub bytes: u8,
+    pub first: u16,
+    pub last: u16,
+    pub step: u16,
+}
+
+impl Values {
+    /// The files with each of the values.
+    pub fn files<'a>(&self, file: &'a [u8]) -> impl Iterator<Item = Vec<u8>> + 'a {
+        let (at, count) = (self.place as usize, self.bytes as usize);
+        (self.first..=self.last).step_by(self.step.into()).map(move |value| {
+            let mut file = file.to_vec();
+            file[at..at + count].copy_from_slice(&value.to_be_bytes()[2 - count..]);
+            file
+        })
+    }
 }
 
 #[derive(Clone)]
@@ -45,6 +78,8 @@ pub struct Case {
     pub query: Vec<u8>,
     pub file: Vec<u8>,
     pub ways: Vec<Way>,
+    /// What was written by hand as its answer, if anything was; the slow reader must give the same.
+    pub written: Option<Vec<u8>>,
 }
 
 fn put_events(bytes: &mut Vec<u8>, events: &[Event]) {
@@ -52,6 +87,49 @@ fn put_events(bytes: &mut Vec<u8>, events: &[Event]) {
     for (letter, gatherer, other) in events {
         bytes.extend([*letter, *gatherer]);
         bytes.extend(other.to_be_bytes());
+    }
+}
+
+fn put_way(bytes: &mut Vec<u8>, way: &Way) {
+    match way {
+        Way::Plain => bytes.push(b'P'),
+        Way::Threads(letter, workers, gatherers, morsel, parts) => {
+            bytes.extend([*letter, *workers, *gatherers]);
+            bytes.extend(morsel.to_be_bytes());
+            bytes.extend(parts.to_be_bytes());
+        }
+        Way::Expected(workers, gatherers, morsel, parts, expected) => {
+            put_way(bytes, &Way::Threads(b'W', *workers, *gatherers, *morsel, *parts));
+            bytes.extend(expected.to_be_bytes());
+        }
+        Way::Rehearsed(gatherers, morsel, parts, first, second) => {
+            bytes.push(b'H');
+            bytes.extend(morsel.to_be_bytes());
+            bytes.push(*gatherers);
+            bytes.extend(parts.to_be_bytes());
+            put_events(bytes, first);
+            put_events(bytes, second);
+        }
+        Way::Chosen(gatherers, parts, first, second, cuts) => {
+            bytes.extend([b'X', *gatherers]);
+            bytes.extend(parts.to_be_bytes());
+            put_events(bytes, first);
+            put_events(bytes, second);
+            bytes.extend((cuts.len() as u16).to_be_bytes());
+            cuts.iter().for_each(|number| bytes.extend(number.to_be_bytes()));
+        }
+        Way::Written => bytes.push(b'T'),
+        Way::Repeated(from, until, times) => {
+            bytes.push(b'L');
+            [from, until, times].iter().for_each(|number| bytes.extend(number.to_be_bytes()));
+        }
+        Way::Each(values, way) => {
+            bytes.push(b'V');
+            bytes.extend(values.place.to_be_bytes());
+            bytes.push(values.bytes);
+            [values.first, values.last, values.step].iter().for_each(|number| bytes.extend(number.to_be_bytes()));
+            put_way(bytes, way);
+        }
     }
 }
 
@@ -63,23 +141,7 @@ impl Case {
         bytes.extend(&self.query);
         bytes.extend((self.file.len() as u32).to_be_bytes());
         bytes.extend(&self.file);
-        for way in &self.ways {
-            match way {
-                Way::Plain => bytes.push(b'P'),
-                Way::Threads(letter, workers, gatherers, morsel, parts) => {
-                    bytes.extend([*letter, *workers, *gatherers]);
-                    bytes.extend(morsel.to_be_bytes());
-                    bytes.extend(parts.to_be_bytes());
-                }
-                Way::Rehearsed(gatherers, morsel, parts, first, second) => {
-                    bytes.extend([b'H', *gatherers]);
-                    bytes.extend(morsel.to_be_bytes());
-                    bytes.extend(parts.to_be_bytes());
-                    put_events(&mut bytes, first);
-                    put_events(&mut bytes, second);
-                }
-            }
-        }
+        self.ways.iter().for_each(|way| put_way(&mut bytes, way));
         let count = (bytes.len() - 4) as u32;
         bytes[..4].copy_from_slice(&count.to_be_bytes());
         bytes
@@ -331,7 +393,7 @@ pub fn random_case(seed: u64, number: u64) -> Case {
     let file = random_day(&mut dice);
     let query = random_query(&mut dice);
     let ways = random_ways(&mut dice, &file);
-    Case { query, file, ways }
+    Case { query, file, ways, written: None }
 }
 
 // ---- exhaustive kinds
@@ -399,7 +461,7 @@ fn ways_of(number: u64) -> Vec<Way> {
 }
 
 fn case_of(file: Vec<u8>, query: &str, number: u64) -> Case {
-    Case { query: query.as_bytes().to_vec(), file, ways: ways_of(number) }
+    Case { query: query.as_bytes().to_vec(), file, ways: ways_of(number), written: None }
 }
 
 /// How many cases an exhaustive kind has; None of a kind that isn't known.
@@ -424,7 +486,11 @@ pub fn exhaustive_case(kind: &str, number: u64) -> Case {
             let mut file = one;
             let at = [0, 41, 79][(number / 65_536) as usize];
             file[at..at + 2].copy_from_slice(&((number % 65_536) as u16).to_be_bytes());
-            case_of(file, "sales", number)
+            let mut case = case_of(file, "sales", number);
+            if number % 8 != 0 {
+                case.ways.push(Way::Threads(b'R', 2, 1, 1, 3));
+            }
+            case
         }
         "bytes" => {
             let (mut file, at) =

@@ -4,7 +4,11 @@
 //   drive expect KIND SEED FIRST COUNT     writes what is to be told of them
 //   drive show KIND SEED NUMBER            prints a case and what is to be told of it
 mod cases;
+mod rehearsed;
+mod rows;
 mod slow_reader;
+mod stored;
+mod texts;
 
 use cases::{Case, Event, Way};
 use std::io::{BufRead, BufReader, Write};
@@ -19,7 +23,15 @@ const LIMIT: Duration = Duration::from_secs(120);
 const AHEAD: usize = 64;
 
 fn case_of(kind: &str, seed: u64, number: u64) -> Case {
-    if kind == "random" { cases::random_case(seed, number) } else { cases::exhaustive_case(kind, number) }
+    match kind {
+        "random" => cases::random_case(seed, number),
+        "stored" => stored::case_of(number),
+        _ => cases::exhaustive_case(kind, number),
+    }
+}
+
+fn count_of(kind: &str) -> u64 {
+    if kind == "stored" { stored::count() } else { cases::count_of(kind).unwrap_or(0) }
 }
 
 /// The first task that arrives at no gatherer.
@@ -31,30 +43,103 @@ fn first_missing(events: &[Event], gatherers: u8, tasks: u64) -> Option<u64> {
     })
 }
 
-/// What is told instead of an answer where a task is missing.
-fn missing(case: &Case, way: &Way) -> Option<Vec<u8>> {
-    let Way::Rehearsed(gatherers, morsel, parts, first, second) = way else {
-        return None;
-    };
-    if !slow_reader::is_query(&case.query) {
-        return None;
-    }
-    let morsels = slow_reader::count_morsels(&case.file, (*morsel).into())?;
+/// What is told instead of an answer where a task is missing, of so many morsels and partitions.
+fn missing(file: &[u8], gatherers: u8, morsels: u64, parts: u16, first: &[Event], second: &[Event]) -> Option<Vec<u8>> {
     let told = |pipeline, task| format!("missing: pipeline {pipeline}, task {task}").into_bytes();
-    if let Some(task) = first_missing(first, *gatherers, morsels) {
+    if let Some(task) = first_missing(first, gatherers, morsels) {
         return Some(told(1, task));
     }
-    if slow_reader::has_wrong_length(&case.file) {
+    if slow_reader::has_wrong_length(file) {
         return None;
     }
-    first_missing(second, *gatherers, (*parts).into()).map(|task| told(2, task))
+    first_missing(second, gatherers, parts.into()).map(|task| told(2, task))
 }
 
-/// The lines that are to be told of a case.
-fn lines_of(case: &Case) -> Vec<Vec<u8>> {
+/// The answer to a query, in one line.
+fn answer_of(case: &Case) -> Vec<u8> {
     let mut answer = slow_reader::slow_answer(&case.file, &case.query);
     answer.iter_mut().filter(|byte| **byte == b'\n').for_each(|byte| *byte = b'\t');
-    case.ways.iter().map(|way| missing(case, way).unwrap_or_else(|| answer.clone())).collect()
+    answer
+}
+
+/// Adds the lines of a query that is written: what it means, and what its canonical text means.
+fn add_written(lines: &mut Vec<Vec<u8>>, query: &[u8]) {
+    match slow_reader::slow_query(query) {
+        Err(fault) => lines.push(fault.into_bytes()),
+        Ok((text, numbers)) => {
+            lines.push((text.clone() + &numbers).into_bytes());
+            let (again, numbers) = slow_reader::slow_query(text.as_bytes()).expect("no canonical text");
+            lines.push((again + &numbers).into_bytes());
+        }
+    }
+}
+
+/// The line of a longer query, which has its bytes from one up to another so many times.
+fn repeated_line(query: &[u8], from: u16, until: u16, times: u16) -> Vec<u8> {
+    let (from, until) = (from as usize, until as usize);
+    let long = [&query[..from], &query[from..until].repeat(times.into()), &query[until..]].concat();
+    match slow_reader::slow_query(&long) {
+        Err(fault) => fault.into_bytes(),
+        Ok((text, numbers)) if text.as_bytes() == long => ("the very text".to_string() + &numbers).into_bytes(),
+        Ok((text, numbers)) => (text + &numbers).into_bytes(),
+    }
+}
+
+/// Adds the lines of a case in one way; the case has this answer.
+fn add_lines(lines: &mut Vec<Vec<u8>>, case: &Case, way: &Way, answer: &[u8]) {
+    match way {
+        Way::Written => add_written(lines, &case.query),
+        Way::Repeated(from, until, times) => lines.push(repeated_line(&case.query, *from, *until, *times)),
+        Way::Each(values, way) => values.files(&case.file).for_each(|file| {
+            let changed = Case { query: case.query.clone(), file, ways: Vec::new(), written: None };
+            add_lines(lines, &changed, way, &answer_of(&changed));
+        }),
+        Way::Rehearsed(gatherers, morsel, parts, first, second) => {
+            let morsels = slow_reader::count_morsels(&case.file, (*morsel).into());
+            let morsels = morsels.filter(|_| slow_reader::is_query(&case.query));
+            let told = morsels.and_then(|morsels| missing(&case.file, *gatherers, morsels, *parts, first, second));
+            lines.push(told.unwrap_or_else(|| answer.to_vec()));
+        }
+        Way::Chosen(gatherers, parts, first, second, cuts) => cuts.iter().for_each(|number| {
+            let morsels = if case.file.is_empty() { 0 } else { 1 + u64::from(number.count_ones()) };
+            let is_cut = !slow_reader::is_truncated(&case.file);
+            let told =
+                is_cut.then(|| missing(&case.file, *gatherers, morsels, *parts, first, second)).flatten();
+            lines.push(told.unwrap_or_else(|| answer.to_vec()));
+        }),
+        Way::Plain | Way::Threads(..) | Way::Expected(..) => lines.push(answer.to_vec()),
+    }
+}
+
+/// What was written by hand of a case must be what the slow reader gives.
+fn hold_to_what_is_written(case: &Case) {
+    let Some(written) = &case.written else {
+        return;
+    };
+    let found = match case.ways.first() {
+        Some(Way::Written) => match slow_reader::slow_query(&case.query) {
+            Ok((text, numbers)) if written.contains(&b';') => (text + &numbers).into_bytes(),
+            Ok((text, _)) => text.into_bytes(),
+            Err(fault) => fault.into_bytes(),
+        },
+        Some(Way::Repeated(from, until, times)) => repeated_line(&case.query, *from, *until, *times),
+        _ => slow_reader::slow_answer(&case.file, &case.query),
+    };
+    if found != *written {
+        let (query, found) = (String::from_utf8_lossy(&case.query), String::from_utf8_lossy(&found));
+        eprintln!("{query:?} over {}: not {found:?} but {:?}", hex(&case.file), String::from_utf8_lossy(written));
+        exit(1)
+    }
+}
+
+/// The lines that are to be told of a case. Equal ones that follow one another stand once, behind their number.
+fn lines_of(case: &Case) -> Vec<Vec<u8>> {
+    hold_to_what_is_written(case);
+    let mut lines = Vec::new();
+    let answer = answer_of(case);
+    case.ways.iter().for_each(|way| add_lines(&mut lines, case, way, &answer));
+    let counted = |equal: &[Vec<u8>]| [format!("{} ", equal.len()).as_bytes(), &equal[0]].concat();
+    lines.chunk_by(|one, other| one == other).map(counted).collect()
 }
 
 fn hex(bytes: &[u8]) -> String {
@@ -119,7 +204,7 @@ fn compare(program: &str, kind: &str, seed: u64, first: u64, count: u64) {
                 Err(mpsc::RecvTimeoutError::Disconnected) => stop_at(kind, seed, at, "the program has ended"),
             }
             answers += 1;
-            faults += u64::from(wanted.starts_with(b"fault"));
+            faults += u64::from(wanted.windows(7).take(8).any(|text| text == b" fault:"));
         }
     }
     drop(to_writer);
@@ -138,7 +223,7 @@ fn main() {
     let mut out = std::io::stdout().lock();
     match job {
         "show" => show(kind, seed, first),
-        "count" => println!("{}", cases::count_of(kind).unwrap_or(0)),
+        "count" => println!("{}", count_of(kind)),
         "write" => (first..first + number(5)).for_each(|at| out.write_all(&case_of(kind, seed, at).bytes()).unwrap()),
         "expect" => (first..first + number(5)).for_each(|at| {
             lines_of(&case_of(kind, seed, at)).iter().for_each(|line| {

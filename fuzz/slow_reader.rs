@@ -335,6 +335,73 @@ fn read_query(text: &[u8]) -> Result<Query, String> {
     Ok(query)
 }
 
+/// The words of a query's conditions, those that it has.
+fn conditions_of(query: &Query) -> Vec<String> {
+    let mut conditions = Vec::new();
+    if let Some(symbols) = &query.symbols {
+        let names: Vec<String> = symbols.iter().map(|name| String::from_utf8_lossy(name).into_owned()).collect();
+        conditions.push(format!("symbol in {}", names.join(",")));
+    }
+    if let Some((since, until)) = query.span {
+        conditions.push(format!("time from {} until {}", second_text(since), second_text(until)));
+    }
+    let kinds: Vec<&str> = kinds_of(query).into_iter().collect();
+    if kinds.len() < 4 {
+        conditions.push(format!("kind in {}", kinds.join(",")));
+    }
+    conditions
+}
+
+/// The kinds that a query asks for, each once.
+fn kinds_of(query: &Query) -> Vec<&'static str> {
+    let has = |kind: &&str| query.kinds.as_ref().is_none_or(|kinds| kinds.contains(&kind.as_bytes()[0]));
+    ["E", "C", "P", "Q"].into_iter().filter(has).collect()
+}
+
+fn second_text(second: u64) -> String {
+    format!("{:02}:{:02}:{:02}", second / 3600, second / 60 % 60, second % 60)
+}
+
+/// The one text in which a query is written.
+fn canonical(query: &Query) -> String {
+    let mut text = query.width.map_or("sales".to_string(), |width| format!("bars {width} s"));
+    if let Some(moment) = query.as_of {
+        text += &format!(" as of {}", second_text(moment));
+    }
+    for (at, condition) in conditions_of(query).iter().enumerate() {
+        text += &format!(" {} {condition}", if at == 0 { "where" } else { "and" });
+    }
+    text
+}
+
+/// What a query means, in numbers.
+fn numbers_of(query: &Query) -> String {
+    let symbols = query.symbols.as_ref().map(|names| names.len() as u64);
+    let (since, until) = (query.span.map(|span| span.0), query.span.map(|span| span.1));
+    let numbers = [
+        ("width", query.width),
+        ("moment", query.as_of),
+        ("symbols", symbols),
+        ("since", since),
+        ("until", until),
+    ];
+    let mut text = String::new();
+    for (name, number) in numbers {
+        if let Some(number) = number {
+            text += &format!("; {name} {number}");
+        }
+    }
+    text + &format!("; kinds {}", kinds_of(query).concat())
+}
+
+/// The canonical text of the query that a text spells, and its numbers, or the line of the fault.
+pub fn slow_query(text: &[u8]) -> Result<(String, String), String> {
+    match read_query(text) {
+        Ok(query) => Ok((canonical(&query), numbers_of(&query))),
+        Err(fault) => Err(format!("fault: {fault}")),
+    }
+}
+
 // ---- texts
 
 fn price_text(price: u128) -> String {
@@ -468,6 +535,16 @@ pub fn count_morsels(file: &[u8], target: u64) -> Option<u64> {
         }
     }
     Some(count + u64::from(held > 0))
+}
+
+/// The places where the frames of a file stand.
+pub fn places_of(file: &[u8]) -> Vec<u64> {
+    frames_of(file).0.iter().map(|frame| frame.place).collect()
+}
+
+/// Whether a file is truncated.
+pub fn is_truncated(file: &[u8]) -> bool {
+    frames_of(file).1.is_some()
 }
 
 /// Whether a file of whole frames has a wrong length, so that the second pipeline doesn't run.

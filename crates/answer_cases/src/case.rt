@@ -27,20 +27,44 @@ pub(crate) enum Way {
     Run(Settings),
     /// On threads, read by blocks.
     Blocks(Settings),
-    /// On one thread, by schedules.
-    Rehearsed(Schedule),
+    /// The same, where so many bytes are expected.
+    Expected(Settings, u64),
+    /// On one thread, by schedules, over a cut by this morsel.
+    Rehearsed(u64, Schedule),
+    /// The same, over cuts, each by a number whose bits say which frames but the first begin a morsel.
+    Chosen(Schedule, Vec<u32>),
+    /// Not at all: the query is written, and read again.
+    Written,
+    /// Nor here: a longer query is written.
+    Repeated(Repeat),
+}
+
+/// A part of a query's text, in bytes, and how often it stands in a longer one.
+#[derive(Clone, Copy)]
+pub(crate) struct Repeat {
+    pub(crate) from: u32,
+    pub(crate) until: u32,
+    pub(crate) times: u32,
+}
+
+/// Values that one byte or two bytes of a file have by turns, the highest byte first.
+#[derive(Clone, Copy)]
+pub(crate) struct Values {
+    pub(crate) place: u64,
+    pub(crate) is_pair: bool,
+    pub(crate) first: u32,
+    pub(crate) last: u32,
+    pub(crate) step: u32,
 }
 
 /// A rehearsal's shape and its two schedules.
 #[derive(Drop)]
 pub(crate) struct Schedule {
     pub(crate) gatherers: u32,
-    pub(crate) morsel: u64,
     pub(crate) parts: u32,
     pub(crate) first: Vec<Event>,
     pub(crate) second: Vec<Event>,
     ghost gatherers_in_range: { (0 < gatherers) × (gatherers ≤ 64) },
-    ghost morsel_in_range: { 0 < morsel },
     ghost parts_in_range: { (0 < parts) × (parts ≤ MOST_PARTITIONS) },
 }
 
@@ -77,9 +101,47 @@ pub(crate) fn next_way(alloc: Global, left: &mut Left<'_>) -> io::Result<Way> {
         b'C' => Ok(Way::Cut(read_settings(left)?)),
         b'R' => Ok(Way::Run(read_settings(left)?)),
         b'B' => Ok(Way::Blocks(read_settings(left)?)),
-        b'H' => Ok(Way::Rehearsed(read_schedule(alloc, left)?)),
+        b'W' => Ok(Way::Expected(read_settings(left)?, left.number()?)),
+        b'H' => Ok(Way::Rehearsed(left.number()?, read_schedule(alloc, left)?)),
+        b'X' => Ok(Way::Chosen(read_schedule(alloc, left)?, read_pairs(alloc, left)?)),
+        b'T' => Ok(Way::Written),
+        b'L' => Ok(Way::Repeated(read_repeat(left)?)),
         _ => Err(no_case()),
     }
+}
+
+/// The values that the file of the next way has by turns, if it has any.
+pub(crate) fn next_values(left: &mut Left<'_>) -> io::Result<Option<Values>> {
+    if left.bytes.first() != Some(&b'V') {
+        return Ok(None);
+    }
+    left.byte()?;
+    Ok(Some(Values {
+        place: left.number()?,
+        is_pair: left.byte()? == 2,
+        first: left.pair()?,
+        last: left.pair()?,
+        step: left.pair()?,
+    }))
+}
+
+/// Which part of the query is repeated, and how often.
+fn read_repeat(left: &mut Left<'_>) -> io::Result<Repeat> {
+    Ok(Repeat {
+        from: left.pair()?,
+        until: left.pair()?,
+        times: left.pair()?,
+    })
+}
+
+/// How many numbers there are, and these.
+fn read_pairs(alloc: Global, left: &mut Left<'_>) -> io::Result<Vec<u32>> {
+    let count = left.pair()?;
+    let mut numbers = Vec::new(alloc);
+    for _ in 0..count {
+        numbers.push(left.pair()?)?;
+    }
+    Ok(numbers)
 }
 
 /// The settings of a way that has threads.
@@ -106,16 +168,14 @@ fn read_settings(left: &mut Left<'_>) -> io::Result<Settings> {
 /// The shape and the schedules of a rehearsal.
 fn read_schedule(alloc: Global, left: &mut Left<'_>) -> io::Result<Schedule> {
     let gatherers = u32::from(left.byte()?);
-    let morsel = left.number()?;
     let parts = left.pair()?;
     let first = read_events(alloc, left)?;
     let second = read_events(alloc, left)?;
-    if gatherers == 0 || gatherers > 64 || morsel == 0 || parts == 0 || parts > MOST_PARTITIONS {
+    if gatherers == 0 || gatherers > 64 || parts == 0 || parts > MOST_PARTITIONS {
         return Err(no_case());
     }
     Ok(Schedule {
         gatherers,
-        morsel,
         parts,
         first,
         second,

@@ -1,5 +1,6 @@
 //! What is told of a case in one way, in one line without its end.
-use executor::{Answer, RunFault};
+use crate::case::Schedule;
+use executor::{Answer, Cut, Query, Rehearsal, RunFault, rehearse};
 use std::alloc::Global;
 use std::io;
 
@@ -26,12 +27,23 @@ pub(crate) fn append_answer(alloc: Global, out: &mut Vec<u8>, answer: &Answer) -
 }
 
 /// Appends that a task of a pipeline is missing.
-pub(crate) fn append_missing(
-    alloc: Global,
-    out: &mut Vec<u8>,
-    pipeline: u8,
-    task: u32,
-) -> io::Result<()> {
+fn append_missing(alloc: Global, out: &mut Vec<u8>, pipeline: u8, task: u32) -> io::Result<()> {
     let line = format!(in alloc; "missing: pipeline {pipeline}, task {task}")?;
     Ok(out.extend_from_slice(line.as_bytes())?)
+}
+
+/// Appends what a rehearsal over a cut gives.
+pub(crate) fn append_rehearsal(
+    alloc: Global,
+    out: &mut Vec<u8>,
+    cut: &Cut,
+    query: &Query,
+    schedule: &Schedule,
+) -> io::Result<()> {
+    let (parts, gatherers) = (schedule.parts, schedule.gatherers);
+    let (first, second) = (schedule.first.as_slice(), schedule.second.as_slice());
+    match rehearse(alloc, cut, query, parts, gatherers, first, second)? {
+        Rehearsal::Finished(answer) => append_answer(alloc, out, &answer),
+        Rehearsal::Missing { pipeline, task } => append_missing(alloc, out, pipeline, task),
+    }
 }

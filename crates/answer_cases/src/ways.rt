@@ -1,28 +1,53 @@
 //! Each way in which a case is answered.
 use crate::case::{Case, Schedule, Way};
+use crate::chosen::tell_chosen;
 use crate::left::no_case;
-use crate::told::{append_answer, append_fault, append_missing, append_text};
+use crate::lines::Lines;
+use crate::told::{append_answer, append_fault, append_rehearsal, append_text};
+use crate::written::{tell_repeated, tell_written};
 use day_file::{CutFault, cut};
 use executor::{
-    Counted, CountedSink, DayFault, DayFile, FreeGate, LONGEST_FILE, Memory, Query, Rehearsal,
-    RunFault, Settings, answer, parse, plain, rehearse, run, run_blocks,
+    Counted, CountedSink, DayFault, DayFile, FreeGate, LONGEST_FILE, Memory, Query, RunFault,
+    Settings, answer, parse, plain, run, run_blocks,
 };
 use std::alloc::Global;
 use std::io;
 use std::sync::Wait;
 use std::thread::Threads;
 
-/// Appends what is told of a case in one way.
-pub(crate) fn answer_by<R: Threads + Wait + Sync>(
+/// Adds what is told of a case in one way.
+pub(crate) fn tell<R: Threads + Wait + Sync>(
+    rt: &R,
+    alloc: Global,
+    case: &Case<'_>,
+    way: &Way,
+    lines: &mut Lines,
+) -> io::Result<()> {
+    match way {
+        Way::Written => tell_written(alloc, case.query, lines),
+        Way::Repeated(repeat) => tell_repeated(alloc, case.query, *repeat, lines),
+        Way::Chosen(schedule, numbers) => tell_cuts(alloc, case, schedule, numbers, lines),
+        _ => {
+            let mut line = Vec::new(alloc);
+            answer_by(rt, alloc, case, way, &mut line)?;
+            lines.add(alloc, line)
+        }
+    }
+}
+
+/// Appends what is told of a case in a way that has one line.
+fn answer_by<R: Threads + Wait + Sync>(
     rt: &R,
     alloc: Global,
     case: &Case<'_>,
     way: &Way,
     out: &mut Vec<u8>,
 ) -> io::Result<()> {
+    let length = case.file.len() as u64;
     match way {
         Way::Run(settings) => by_run(rt, alloc, case, *settings, out),
-        Way::Blocks(settings) => by_blocks(rt, alloc, case, *settings, out),
+        Way::Blocks(settings) => by_blocks(rt, alloc, case, length, *settings, out),
+        Way::Expected(settings, length) => by_blocks(rt, alloc, case, *length, *settings, out),
         _ => match parse(alloc, case.query) {
             Ok(query) => by_parsed(rt, alloc, case, &query, way, out),
             Err(fault) => append_fault(alloc, out, &RunFault::Query(fault)),
@@ -39,16 +64,38 @@ fn by_parsed<R: Threads + Wait + Sync>(
     way: &Way,
     out: &mut Vec<u8>,
 ) -> io::Result<()> {
-    let bytes = Vec::from_slice(alloc, case.file)?;
+    let file = day_file_of(alloc, case.file)?;
+    match way {
+        Way::Cut(settings) => by_cut(rt, alloc, &file, query, *settings, out),
+        Way::Rehearsed(morsel, schedule) => {
+            by_schedule(alloc, &file, query, *morsel, schedule, out)
+        }
+        _ => append_answer(alloc, out, &plain(alloc, &file, query)?),
+    }
+}
+
+/// The day file of these bytes.
+fn day_file_of(alloc: Global, bytes: &[u8]) -> io::Result<DayFile> {
+    let bytes = Vec::from_slice(alloc, bytes)?;
     if bytes.len() as u64 > LONGEST_FILE {
         return Err(no_case());
     }
-    let file = DayFile::of_bytes(bytes);
-    match way {
-        Way::Cut(settings) => by_cut(rt, alloc, &file, query, *settings, out),
-        Way::Rehearsed(schedule) => by_schedule(alloc, &file, query, schedule, out),
-        _ => append_answer(alloc, out, &plain(alloc, &file, query)?),
-    }
+    Ok(DayFile::of_bytes(bytes))
+}
+
+/// Adds what rehearsals over cuts give. The query has no fault.
+fn tell_cuts(
+    alloc: Global,
+    case: &Case<'_>,
+    schedule: &Schedule,
+    numbers: &[u32],
+    lines: &mut Lines,
+) -> io::Result<()> {
+    let Ok(query) = parse(alloc, case.query) else {
+        return Err(no_case());
+    };
+    let file = day_file_of(alloc, case.file)?;
+    tell_chosen(alloc, &file, &query, schedule, numbers, lines)
 }
 
 /// Appends what threads answer over a cut.
@@ -80,22 +127,18 @@ fn by_schedule(
     alloc: Global,
     file: &DayFile,
     query: &Query,
+    morsel: u64,
     schedule: &Schedule,
     out: &mut Vec<u8>,
 ) -> io::Result<()> {
-    let (parts, gatherers) = (schedule.parts, schedule.gatherers);
-    let (first, second) = (schedule.first.as_slice(), schedule.second.as_slice());
-    match cut(alloc, file, schedule.morsel) {
-        Ok(cut) => match rehearse(alloc, &cut, query, parts, gatherers, first, second)? {
-            Rehearsal::Finished(answer) => append_answer(alloc, out, &answer),
-            Rehearsal::Missing { pipeline, task } => append_missing(alloc, out, pipeline, task),
-        },
+    match cut(alloc, file, morsel.max(1)) {
+        Ok(cut) => append_rehearsal(alloc, out, &cut, query, schedule),
         Err(fault) => append_fault(alloc, out, &run_fault_of(fault)),
     }
 }
 
 /// A cut's fault, as a run tells it.
-fn run_fault_of(fault: CutFault) -> RunFault {
+pub(crate) fn run_fault_of(fault: CutFault) -> RunFault {
     match fault {
         CutFault::Truncated { place } => RunFault::Day(DayFault::Truncated { place }),
         CutFault::TooManyMorsels => RunFault::TooManyMorsels,
@@ -118,17 +161,17 @@ fn by_run<R: Threads + Wait + Sync>(
     append_told(alloc, out, told, written.as_slice())
 }
 
-/// Appends what a whole run by blocks writes, or its fault.
+/// Appends what a whole run by blocks writes, where so many bytes are expected, or its fault.
 fn by_blocks<R: Threads + Wait + Sync>(
     rt: &R,
     alloc: Global,
     case: &Case<'_>,
+    length: u64,
     settings: Settings,
     out: &mut Vec<u8>,
 ) -> io::Result<()> {
     let mut written = Vec::new(alloc);
     let source = Memory { bytes: case.file };
-    let length = case.file.len() as u64;
     let mut sink = CountedSink::of(&mut written);
     let told = run_blocks(rt, alloc, &source, length, case.query, settings, &mut sink);
     append_told(alloc, out, told, written.as_slice())
