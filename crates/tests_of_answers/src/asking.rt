@@ -1,15 +1,12 @@
-//! What `plain` and `run` answer in the tests.
+//! What is asked in the tests, and what `plain` answers.
 ghost use Rattle.std.specs.Prelude.{◌≤◌};
 
 use executor::{
-    Answer, Counted, CountedSink, Crew, DayFault, LONGEST_FILE, Memory, OutOfMemory, Query,
-    QueryFault, RunFault, Settings, parse, plain, run, run_blocks,
+    Answer, Crew, DayFault, LONGEST_FILE, OutOfMemory, Query, QueryFault, Settings, parse, plain,
 };
 use std::alloc::{AllocError, Allocator, Global};
 use std::process::Abort;
-use std::sync::Wait;
 use std::test::Fail;
-use std::thread::Threads;
 use tests_support::file_of;
 
 /// The query that a text means.
@@ -62,42 +59,4 @@ pub fn told_by_plain(
         Answer::Printed(text) => Ok(Ok(text.joined(alloc)?)),
         Answer::Faulty(fault) => Ok(Err(fault)),
     }
-}
-
-/// What `run` answers to a query over the bytes with so many workers, and what was written.
-pub fn told_by_run<R: Threads + Wait + Sync>(
-    rt: &R,
-    alloc: Global,
-    text: &str,
-    bytes: &[u8],
-    workers: u32,
-) -> (Result<(), RunFault>, Vec<u8>) {
-    let mut written = Vec::new(alloc);
-    let mut source = Counted::of(bytes);
-    let mut sink = CountedSink::of(&mut written);
-    let settings = settings_of(workers, 1, LONGEST_FILE);
-    let told = run(rt, alloc, &mut source, text, settings, &mut sink);
-    (told, written)
-}
-
-/// What `run_blocks` answers to `sales` over the bytes, read by two threads, and what was written.
-pub fn told_by_blocks<R: Threads + Wait + Sync>(
-    rt: &R,
-    alloc: Global,
-    bytes: &[u8],
-) -> (Result<(), RunFault>, Vec<u8>) {
-    let mut written = Vec::new(alloc);
-    let mut sink = CountedSink::of(&mut written);
-    let settings = settings(LONGEST_FILE);
-    let length = bytes.len() as u64;
-    let told = run_blocks(
-        rt,
-        alloc,
-        &Memory { bytes },
-        length,
-        "sales",
-        settings,
-        &mut sink,
-    );
-    (told, written)
 }

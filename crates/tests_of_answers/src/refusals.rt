@@ -2,7 +2,6 @@
 //! refused in turn: what comes is the right answer, or want of memory.
 use crate::asking::{asked, settings, told_by_plain};
 use crate::devices::Kept;
-use crate::rows::AskedRow;
 use executor::{
     Answer, Counted, CountedSink, DayFault, DayFile, LONGEST_FILE, OutOfMemory, RunFault, Text,
     plain, run,
@@ -60,7 +59,14 @@ const SOLD: [Form; 7] = [
     Form::E(2, 30, 11),
 ];
 
-/// Queries of symbols, frames, and the whole texts or the fault.
+/// A query, the frames, and the whole text of the answer or the fault.
+type AskedRow = (
+    &'static str,
+    &'static [Form],
+    Result<&'static str, DayFault>,
+);
+
+/// Queries of symbols.
 const ASKED: [AskedRow; 3] = [
     (
         "sales where symbol in MSFT,#9,MSFT",

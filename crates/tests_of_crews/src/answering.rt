@@ -1,11 +1,9 @@
-//! What `answer` and `plain` tell in the tests.
+//! What `answer` tells in the tests.
 ghost use Rattle.std.specs.Prelude.{◌≡◌, ◌<◌, ◌≤◌};
 ghost use Rattle.lists.specs.declared.limits.TheConstants.{MOST_PARTITIONS};
 
 use day_file::cut;
-use executor::{
-    Answer, Crew, Cut, DayFault, DayFile, Gate, OutOfMemory, Query, answer, parse, plain,
-};
+use executor::{Answer, Crew, DayFault, Gate, OutOfMemory, answer, parse};
 use std::alloc::Global;
 use std::sync::Wait;
 use std::test::Fail;
@@ -30,31 +28,11 @@ pub fn text(alloc: Global, text: &str) -> Result<Told, OutOfMemory> {
     Ok(Ok(Vec::from_slice(alloc, text.as_bytes())?))
 }
 
-/// What `plain` tells.
-pub fn told_by_plain(alloc: Global, file: &DayFile, query: &Query) -> Result<Told, OutOfMemory> {
-    told_of(alloc, plain(alloc, file, query)?)
-}
-
 /// Two workers.
 pub const TWO: Crew = Crew {
     workers: 2,
     gatherers: 1,
 };
-
-/// What `answer` tells, with so many partitions.
-pub fn told_by<G: Gate, R: Threads + Wait + Sync>(
-    rt: &R,
-    alloc: Global,
-    cut: &Cut,
-    query: &Query,
-    parts: u32,
-    crew: Crew,
-    gate: &G,
-) -> Result<Told, OutOfMemory>
-    requires { (0 < parts) × (parts ≤ MOST_PARTITIONS) }
-{
-    told_of(alloc, answer(rt, alloc, cut, query, parts, crew, gate)?)
-}
 
 /// What `answer` tells of a query over these frames, with a morsel for each and so many partitions.
 pub fn told_of_day<G: Gate, R: Threads + Wait + Sync>(
@@ -71,5 +49,5 @@ pub fn told_of_day<G: Gate, R: Threads + Wait + Sync>(
     let query = parse(alloc, query)?;
     let file = file_of(Day::of(alloc, forms)?.bytes)?;
     let cut = cut(alloc, &file, 1)?;
-    Ok(told_by(rt, alloc, &cut, &query, parts, crew, gate)?)
+    Ok(told_of(alloc, answer(rt, alloc, &cut, &query, parts, crew, gate)?)?)
 }

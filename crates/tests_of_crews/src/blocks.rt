@@ -1,16 +1,14 @@
 //! Days that are read at places, by several threads at once.
-use crate::answering::{HEADER, Told, told_by_plain};
+use crate::answering::HEADER;
 use executor::{
-    BlockSource, CountedSink, Crew, DeviceFailed, Memory, QueryFault, RunFault, Settings, parse,
+    BlockSource, CountedSink, Crew, DeviceFailed, Memory, QueryFault, RunFault, Settings,
     run_blocks,
 };
 use std::alloc::Global;
-use std::process::Abort;
 use std::sync::Wait;
 use std::test::Fail;
 use std::thread::Threads;
-use tests_of_answers::{ASKED, AskedRow, FAULTY, LISTED, MOMENTS, Row};
-use tests_support::{BROKEN_EARLIER, Day, Form, UNNAMED, file_of};
+use tests_support::{BROKEN_EARLIER, Day, UNNAMED};
 
 /// What `run_blocks` gives with so many workers, and what was written.
 fn told_by_blocks<R: Threads + Wait + Sync, S: BlockSource + Sync>(
@@ -35,71 +33,6 @@ fn told_by_blocks<R: Threads + Wait + Sync, S: BlockSource + Sync>(
     };
     let told = run_blocks(rt, alloc, source, length, text, settings, &mut sink);
     (told, written)
-}
-
-/// Whether this is what a run gives that is told this.
-fn is_told(given: &(Result<(), RunFault>, Vec<u8>), want: &Told) -> bool {
-    let (told, written) = given;
-    match want {
-        Ok(text) => told.is_ok() && written == text,
-        Err(fault) => *told == Err(RunFault::Day(*fault)) && written.is_empty(),
-    }
-}
-
-/// However many workers read the day, and however long it is expected to be, the query is answered as
-/// `plain` answers it.
-fn is_answered<R: Threads + Wait + Abort + Sync>(
-    rt: &R,
-    alloc: Global,
-    text: &str,
-    forms: &[Form],
-) -> Result<(), Fail> {
-    let query = parse(alloc, text)?;
-    let want = told_by_plain(alloc, &file_of(Day::of(alloc, forms)?.bytes)?, &query)?;
-    let bytes = Day::of(alloc, forms)?.bytes;
-    let length = bytes.len() as u64;
-    let source = Memory {
-        bytes: bytes.as_slice(),
-    };
-    for (workers, length) in [(1, length), (7, length), (2, 0)] {
-        let given = told_by_blocks(rt, alloc, &source, length, text, 1_000_000, workers);
-        assert!(rt;
-            is_told(&given, &want),
-            "{text} {forms:?} {workers} {length}"
-        );
-    }
-    Ok(())
-}
-
-#[test]
-fn blocks_of_a_day_have_its_sales_or_its_fault(rt: HostRuntime) -> Result<(), Fail> {
-    let rows: [&[Row]; 2] = [&LISTED, &FAULTY];
-    for (forms, _) in rows.into_iter().flatten() {
-        is_answered(&rt, rt.alloc(), "sales", forms)?;
-    }
-    Ok(())
-}
-
-/// Each query of a day is answered.
-fn are_answered<R: Threads + Wait + Abort + Sync>(
-    rt: &R,
-    alloc: Global,
-    rows: &[AskedRow],
-) -> Result<(), Fail> {
-    for (text, forms, _) in rows {
-        is_answered(rt, alloc, text, forms)?;
-    }
-    Ok(())
-}
-
-#[test]
-fn blocks_of_a_day_answer_a_query(rt: HostRuntime) -> Result<(), Fail> {
-    are_answered(&rt, rt.alloc(), &ASKED)
-}
-
-#[test]
-fn blocks_of_a_day_answer_a_query_as_of_a_moment(rt: HostRuntime) -> Result<(), Fail> {
-    are_answered(&rt, rt.alloc(), &MOMENTS)
 }
 
 /// A device that gives two bytes a call of a day, and fails from a place on.

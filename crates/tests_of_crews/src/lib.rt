@@ -1,12 +1,11 @@
-//! The tests of answers on threads: days that are cut in morsels and answered by several workers.
+//! The tests of answers on threads: which threads there are and what they run, devices that fail, and refused memory.
+//! What every crew answers over many days stands in the stored run of `answer_cases`.
 #![tactic(auto)]
 
 #[cfg(test)]
 mod answering;
 #[cfg(test)]
 mod blocks;
-#[cfg(test)]
-mod days;
 #[cfg(test)]
 mod gatherers;
 #[cfg(test)]

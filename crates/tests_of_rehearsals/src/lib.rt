@@ -1,20 +1,10 @@
-//! The tests of rehearsals: days that are cut in morsels, whose pieces arrive in any order, are repeated,
-//! lost and merged.
+//! The tests of rehearsals: of the scans that their gatherers are given, and of refused memory. What they answer over
+//! days whose pieces arrive in any order, are repeated, lost and merged, stands in the stored run of `answer_cases`.
 #![tactic(auto)]
 
-#[cfg(test)]
-mod cases;
-#[cfg(test)]
-mod days;
-#[cfg(test)]
-mod overlaps;
-#[cfg(test)]
-mod places;
 #[cfg(test)]
 mod refusals;
 #[cfg(test)]
 mod rehearsing;
 #[cfg(test)]
 mod scans;
-#[cfg(test)]
-mod schedules;

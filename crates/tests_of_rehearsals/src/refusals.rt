@@ -1,7 +1,6 @@
 //! Rehearsals that are run also with each allocation of the process refused in turn: what comes is the right
 //! answer, or want of memory.
-use crate::rehearsing::{HEADER, Told, by_two, text, told_of_day};
-use crate::schedules::{MERGE, at};
+use crate::rehearsing::{HEADER, MERGE, Told, at, by_two, text, told_of_day};
 use executor::Event;
 use std::test::Fail;
 use tests_support::{BROKEN_EARLIER, Form, MSFT};

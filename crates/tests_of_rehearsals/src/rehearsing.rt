@@ -1,8 +1,6 @@
-//! What `rehearse` and `plain` tell in the tests.
-use day_file::{cut_at, frames};
-use executor::{
-    Answer, Cut, DayFault, DayFile, Event, OutOfMemory, Query, Rehearsal, parse, plain, rehearse,
-};
+//! What `rehearse` tells in the tests.
+use day_file::cut_at;
+use executor::{Answer, Cut, DayFault, Event, OutOfMemory, Query, Rehearsal, parse, rehearse};
 use lists::limits::MOST_PARTITIONS;
 use std::alloc::Global;
 use std::test::Fail;
@@ -29,6 +27,14 @@ pub fn by_two(parts: u32) -> Shape {
     }
 }
 
+/// A task arrives at a gatherer.
+pub fn at(gatherer: u32, task: u32) -> Event {
+    Event::Arrive { gatherer, task }
+}
+
+/// Gatherer 1 is merged into gatherer 0.
+pub const MERGE: Event = Event::Merge { into: 0, other: 1 };
+
 /// A text as it is told.
 pub fn text(alloc: Global, text: &str) -> Result<Told, Fail> {
     Ok(Ok(Ok(Vec::from_slice(alloc, text.as_bytes())?)))
@@ -39,11 +45,6 @@ fn told_of(alloc: Global, answer: Answer) -> Result<Result<Vec<u8>, DayFault>, O
         Answer::Printed(text) => Ok(Ok(text.joined(alloc)?)),
         Answer::Faulty(fault) => Ok(Err(fault)),
     }
-}
-
-/// What `plain` tells.
-pub fn told_by_plain(alloc: Global, file: &DayFile, query: &Query) -> Result<Told, OutOfMemory> {
-    Ok(Ok(told_of(alloc, plain(alloc, file, query)?)?))
 }
 
 /// What `rehearse` tells.
@@ -79,29 +80,4 @@ pub fn told_of_day(
     let file = file_of(Day::of(alloc, forms)?.bytes)?;
     let cut = cut_at(alloc, &file, ends)?;
     told_by(alloc, &cut, &query, shape, events1, events2)
-}
-
-/// The places where all frames but the first stand.
-pub fn boundaries(alloc: Global, file: &DayFile) -> Result<Vec<u64>, OutOfMemory> {
-    let mut places = Vec::new(alloc);
-    for frame in frames(file) {
-        if frame.place > 0 {
-            places.push(frame.place)?;
-        }
-    }
-    Ok(places)
-}
-
-/// The places that a number's bits choose, the lowest bit the first place; none if the number has bits
-/// for further places.
-pub fn chosen(alloc: Global, places: &[u64], number: u32) -> Result<Option<Vec<u64>>, OutOfMemory> {
-    let mut ends = Vec::new(alloc);
-    let mut left = number;
-    for place in places {
-        if left % 2 == 1 {
-            ends.push(*place)?;
-        }
-        left /= 2;
-    }
-    Ok((left == 0).then_some(ends))
 }
