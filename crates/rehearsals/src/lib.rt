@@ -2,7 +2,7 @@
 //! answer it in whatever order they finish. Laws say that the order decides nothing.
 #![tactic(auto)]
 
-mod joining;
+mod joined;
 mod laws;
 mod rehearsing;
 

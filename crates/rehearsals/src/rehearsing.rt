@@ -4,7 +4,7 @@ ghost use Rattle.lists.specs.declared.limits.TheConstants.{MOST_PARTITIONS};
 ghost use Rattle.rehearsals.specs.Rehearsals.{IsRehearsed};
 
 use crate::OutOfMemory;
-use crate::joining::answer_of;
+use crate::joined::answer_of;
 use answers::Answer;
 use day_file::Cut;
 use planning::PlanLink;

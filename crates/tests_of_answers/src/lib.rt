@@ -9,4 +9,4 @@ mod devices;
 #[cfg(test)]
 mod refusals;
 #[cfg(test)]
-mod runs;
+mod whole_runs;

@@ -7,6 +7,8 @@ mod additions;
 #[cfg(test)]
 mod ahead;
 #[cfg(test)]
+mod event_lists;
+#[cfg(test)]
 mod gatherers;
 #[cfg(test)]
 mod link;
@@ -14,8 +16,6 @@ mod link;
 mod points;
 #[cfg(test)]
 mod refusals;
-#[cfg(test)]
-mod schedules;
 #[cfg(test)]
 mod threads;
 #[cfg(test)]

@@ -8,7 +8,7 @@ use Rattle.joining.specs.Gathered.{IsTextOfAll}
 use Rattle.joining.proofs.AnswerOfBuckets.{fault_answers, none_from, text_gathered}
 use Rattle.joining.proofs.BucketsOfMessages.{lists_in}
 use Rattle.joining.proofs.ProductsJoined.{gathered_products}
-use Rattle.rehearsals.proofs.joining.answer_of.Goals as goal
+use Rattle.rehearsals.proofs.joined.answer_of.Goals as goal
 
 pub returns-in-Some : goal.returns-in-Some
 returns-in-Some c messages of =

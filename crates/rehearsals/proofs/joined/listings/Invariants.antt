@@ -2,7 +2,7 @@ use Rattle.std.proofs.Common.{◌≡◌, ◌++◌, filter_map, map}
 use Rattle.std.specs.Arc.{arc_value}
 use Rattle.std.specs.Vec.Iter.{into_iter_items}
 use Rattle.joining.specs.Gathered.{listing_of}
-use Rattle.rehearsals.proofs.joining.listings.Given as goal
+use Rattle.rehearsals.proofs.joined.listings.Given as goal
 
 -- the listings so far, and those of what is left
 abbrev pub invariant-loop-product : goal.invariant-loop-product

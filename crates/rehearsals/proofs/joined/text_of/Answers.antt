@@ -1,5 +1,5 @@
 use Rattle.std.proofs.Common.{rules}
-use Rattle.rehearsals.proofs.joining.text_of.Goals as goal
+use Rattle.rehearsals.proofs.joined.text_of.Goals as goal
 
 pub returns-in-Sales : goal.returns-in-Sales
 returns-in-Sales c = search rules

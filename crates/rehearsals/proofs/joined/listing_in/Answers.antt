@@ -1,5 +1,5 @@
 use Rattle.std.proofs.Common.{rules}
-use Rattle.rehearsals.proofs.joining.listing_in.Goals as goal
+use Rattle.rehearsals.proofs.joined.listing_in.Goals as goal
 
 pub returns-in-Ok-Listed : goal.returns-in-Ok-Listed
 returns-in-Ok-Listed c = search rules

@@ -6,7 +6,7 @@ use Rattle.row_types.specs.declared.trade.Sale.{Sale}
 use Rattle.time_and_sales.specs.Names.{last_row, name_text}
 use Rattle.time_and_sales.specs.Texts.{listing_text}
 use Rattle.joining.proofs.ProductsJoined.{listing_fits, listings_apart, listings_are, on_ok}
-use Rattle.rehearsals.proofs.joining.text_of_listings.Goals as goal
+use Rattle.rehearsals.proofs.joined.text_of_listings.Goals as goal
 
 pub merge_all-requires : goal.merge_all-requires
 merge_all-requires c = listings_apart c.requires.0 (map arc_value c.args.products.items) c.in_ok-listings.field-0.items c.requires.1 c.in_ok-listings.ensures

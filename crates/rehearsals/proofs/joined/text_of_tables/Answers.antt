@@ -7,7 +7,7 @@ use Rattle.bars.specs.declared.bar.Bar.{Bar}
 use Rattle.bars.proofs.SumsAreBounded.{table_is_writable}
 use Rattle.joining.specs.Gathered.{table_of}
 use Rattle.joining.proofs.ProductsJoined.{on_ok, tables_are, tables_sums, times_fit}
-use Rattle.rehearsals.proofs.joining.text_of_tables.Goals as goal
+use Rattle.rehearsals.proofs.joined.text_of_tables.Goals as goal
 
 pub merge_all-requires : goal.merge_all-requires
 merge_all-requires c =

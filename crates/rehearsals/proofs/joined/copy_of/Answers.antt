@@ -5,7 +5,7 @@ use Rattle.row_types.specs.declared.trade.Sale.{Sale}
 use Rattle.row_types.specs.SalesByPlace.{IsByPlace}
 use Rattle.time_and_sales.proofs.SortedByPlace.{one_listing}
 use Rattle.answers.proofs.SelectedSales.{listing_places}
-use Rattle.rehearsals.proofs.joining.copy_of.Goals as goal
+use Rattle.rehearsals.proofs.joined.copy_of.Goals as goal
 
 pub of_sales-requires : goal.of_sales-requires
 of_sales-requires c =
