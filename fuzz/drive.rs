@@ -161,6 +161,14 @@ fn stop_at(kind: &str, seed: u64, number: u64, what: &str) -> ! {
     exit(1)
 }
 
+/// How many answers a line tells, and whether they are a fault.
+fn counted_in(line: &[u8]) -> (u64, bool) {
+    let digits = line.iter().take_while(|byte| byte.is_ascii_digit());
+    let number = digits.fold(0, |number, digit| number * 10 + u64::from(digit - b'0'));
+    let is_fault = line.split(|byte| *byte == b' ').nth(1).is_some_and(|word| word == b"fault:");
+    (number, is_fault)
+}
+
 fn compare(program: &str, kind: &str, seed: u64, first: u64, count: u64) {
     let mut child = Command::new(program).stdin(Stdio::piped()).stdout(Stdio::piped()).spawn().expect("no program");
     let mut input = child.stdin.take().unwrap();
@@ -203,8 +211,9 @@ fn compare(program: &str, kind: &str, seed: u64, first: u64, count: u64) {
                 }
                 Err(mpsc::RecvTimeoutError::Disconnected) => stop_at(kind, seed, at, "the program has ended"),
             }
-            answers += 1;
-            faults += u64::from(wanted.windows(7).take(8).any(|text| text == b" fault:"));
+            let (alike, is_fault) = counted_in(&wanted);
+            answers += alike;
+            faults += if is_fault { alike } else { 0 };
         }
     }
     drop(to_writer);
