@@ -7,12 +7,12 @@ use crate::told::{append_answer, append_fault, append_rehearsal, append_text};
 use crate::written::{tell_repeated, tell_written};
 use day_file::{CutFault, cut};
 use executor::{
-    Counted, CountedSink, DayFault, DayFile, FreeGate, LONGEST_FILE, Memory, Query, RunFault,
-    Settings, answer, parse, plain, run, run_blocks,
+    Counted, CountedSink, DayFault, DayFile, Division, FreeGate, LONGEST_FILE, Memory, Query,
+    RunFault, Settings, answer, answer_blocks, parse, plain, run, run_blocks,
 };
 use std::alloc::Global;
 use std::io;
-use std::sync::Wait;
+use std::sync::{Arc, Wait};
 use std::thread::Threads;
 
 /// Adds what is told of a case in one way.
@@ -43,11 +43,9 @@ fn answer_by<R: Threads + Wait + Sync>(
     way: &Way,
     out: &mut Vec<u8>,
 ) -> io::Result<()> {
-    let length = case.file.len() as u64;
     match way {
         Way::Run(settings) => by_run(rt, alloc, case, *settings, out),
-        Way::Blocks(settings) => by_blocks(rt, alloc, case, length, *settings, out),
-        Way::Expected(settings, length) => by_blocks(rt, alloc, case, *length, *settings, out),
+        Way::Expected(settings, length) => by_length(rt, alloc, case, *length, *settings, out),
         _ => match parse(alloc, case.query) {
             Ok(query) => by_parsed(rt, alloc, case, &query, way, out),
             Err(fault) => append_fault(alloc, out, &RunFault::Query(fault)),
@@ -67,6 +65,7 @@ fn by_parsed<R: Threads + Wait + Sync>(
     let file = day_file_of(alloc, case.file)?;
     match way {
         Way::Cut(settings) => by_cut(rt, alloc, &file, query, *settings, out),
+        Way::Blocks(settings) => by_blocks(rt, alloc, case, query, *settings, out),
         Way::Rehearsed(morsel, schedule) => {
             by_schedule(alloc, &file, query, *morsel, schedule, out)
         }
@@ -161,8 +160,27 @@ fn by_run<R: Threads + Wait + Sync>(
     append_told(alloc, out, told, written.as_slice())
 }
 
-/// Appends what a whole run by blocks writes, where so many bytes are expected, or its fault.
+/// Appends what threads answer over blocks of as many bytes as a morsel has.
 fn by_blocks<R: Threads + Wait + Sync>(
+    rt: &R,
+    alloc: Global,
+    case: &Case<'_>,
+    query: &Query,
+    settings: Settings,
+    out: &mut Vec<u8>,
+) -> io::Result<()> {
+    let source = Arc::new(alloc, Memory { bytes: case.file })?;
+    let bytes = settings.morsel.max(1);
+    let blocks = (case.file.len() as u64 / bytes).clamp(1, 65_536) as u32;
+    let division = Division { bytes, blocks };
+    match answer_blocks(rt, alloc, &source, division, query, settings, &FreeGate) {
+        Ok(answer) => append_answer(alloc, out, &answer),
+        Err(fault) => append_fault(alloc, out, &fault),
+    }
+}
+
+/// Appends what a whole run by blocks writes, where so many bytes are expected, or its fault.
+fn by_length<R: Threads + Wait + Sync>(
     rt: &R,
     alloc: Global,
     case: &Case<'_>,
@@ -173,7 +191,7 @@ fn by_blocks<R: Threads + Wait + Sync>(
     let mut written = Vec::new(alloc);
     let source = Memory { bytes: case.file };
     let mut sink = CountedSink::of(&mut written);
-    let told = run_blocks(rt, alloc, &source, length, case.query, settings, &mut sink);
+    let told = run_blocks(rt, alloc, source, length, case.query, settings, &mut sink);
     append_told(alloc, out, told, written.as_slice())
 }
 

@@ -1,6 +1,6 @@
 -- Pieces that follow each other.
 use Rattle.std.proofs.Common.{◌≡◌, ℕ, ◌+◌, ◌<◌, ◌≤◌, List, [], ◌∷◌, ◌++◌, length, take_at, drop_at, refl, sym, ap, ap₂, ◌∙◌, subst, arith}
-use Rattle.std.proofs.Common.{append-nil, Bool, true, false, map, nat_lt, ◌⊎◌, inl, inr, ⊎_elim, Err, Ok, OnOk, Result, Ok, OnOk, Result}
+use Rattle.std.proofs.Common.{append-nil, Bool, true, false, map, nat_lt, ◌⊎◌, inl, inr, ⊎_elim, Err, Ok, Option, None, Some, Result}
 use Rattle.std.specs.List.{concat}
 use Rattle.std.proofs.lemmas.Bool.Decides.{nat_tests}
 use Rattle.std.proofs.lemmas.List.{length-append}
@@ -19,7 +19,7 @@ use Rattle.day_file.proofs.Walks.{walk_whole}
 use Rattle.scanning.specs.Scans.{ScanInputView, ScanTotalView, inputs_of, scan_of, total_of, with_scan}
 use Rattle.scanning.proofs.TotalOfScans.{total_more}
 use Rattle.block_scan.specs.Blocks.{GaveWhole, IsBlocksFault}
-use Rattle.block_scan.specs.Pieces.{IsChained, IsFollowedBy, IsJoined, IsPiece, EndsBy}
+use Rattle.block_scan.specs.Pieces.{IsChained, IsFollowedBy, IsGoneOn, IsJoined, IsPiece, IsTried, EndsBy}
 use Rattle.block_scan.specs.ScannedBlocks.{IsScannedWhole}
 use Rattle.block_scan.specs.declared.fault.BlocksFault.{BlocksFault}
 use Rattle.block_scan.specs.declared.fault.BlocksFault.TheVariants.{ReadFailed, TooLong, Truncated, OutOfMemory}
@@ -105,7 +105,7 @@ module _ {S : Type 0} (GaveAt : S → ℕ → List ℕ → Type 0) (EndsAt : S �
       }
 
   -- either
-  pub chain_more : (source : S) (request : Request) (at : ℕ) (old new : ScanTotalView) (piece : Piece) → IsChained GaveAt EndsAt source request at old
+  chain_more : (source : S) (request : Request) (at : ℕ) (old new : ScanTotalView) (piece : Piece) → IsChained GaveAt EndsAt source request at old
       → IsPiece GaveAt EndsAt source request piece → piece.start ≡ at → IsJoined piece old new → IsChained GaveAt EndsAt source request piece.end new
   chain_more source request at old new piece chained is begins joined =
       ⊎_elim
@@ -114,7 +114,7 @@ module _ {S : Type 0} (GaveAt : S → ℕ → List ℕ → Type 0) (EndsAt : S �
       (less_or_same piece.start piece.end (omega (arith, is.end_is)))
 
   -- where a piece ends with the source, the chain is the whole
-  pub chain_whole : (source : S) (request : Request) (at : ℕ) (old new : ScanTotalView) (piece : Piece) → IsChained GaveAt EndsAt source request at old
+  chain_whole : (source : S) (request : Request) (at : ℕ) (old new : ScanTotalView) (piece : Piece) → IsChained GaveAt EndsAt source request at old
       → IsPiece GaveAt EndsAt source request piece → piece.start ≡ at → (piece.tail ≡ Whole) × IsJoined piece old new
       → IsScannedWhole GaveAt EndsAt source request.limit request.as_of request.parts new
   chain_whole source request at old new piece chained is begins joined =
@@ -162,7 +162,7 @@ module _ {S : Type 0} (GaveAt : S → ℕ → List ℕ → Type 0) (EndsAt : S �
       )
 
   -- what a refusal behind a piece says
-  pub chain_fault : (FailsAt : S → ℕ → Type 0) (source : S) (request : Request) (at : ℕ) (old new : ScanTotalView) (piece : Piece)
+  chain_fault : (FailsAt : S → ℕ → Type 0) (source : S) (request : Request) (at : ℕ) (old new : ScanTotalView) (piece : Piece)
       → IsChained GaveAt EndsAt source request at old → IsPiece GaveAt EndsAt source request piece → piece.start ≡ at
       → (fault : BlocksFault) → IsFollowedBy piece old new (Err fault) → IsBlocksFault GaveAt EndsAt FailsAt source request.limit fault
   chain_fault FailsAt source request at old new piece chained is begins ReadFailed told = absurd told
@@ -172,8 +172,19 @@ module _ {S : Type 0} (GaveAt : S → ℕ → List ℕ → Type 0) (EndsAt : S �
       (cut.0, cut.1, subst (IsTruncatedAt cut.0) (sym told.1) cut.2)
   chain_fault FailsAt source request at old new piece chained is begins OutOfMemory told = tt
 
--- ---- a fact that doesn't hang on the result
+  -- what follows from a piece that begins where the chain ends
+  pub gone_on : (FailsAt : S → ℕ → Type 0) (source : S) (request : Request) (at : ℕ) (old new : ScanTotalView) (piece : Piece)
+      → IsPiece GaveAt EndsAt source request piece → piece.start ≡ at → (next : Result (Option ℕ) BlocksFault) → IsFollowedBy piece old new next
+      → IsChained GaveAt EndsAt source request at old → IsGoneOn GaveAt EndsAt FailsAt source request new next
+  gone_on FailsAt source request at old new piece is begins (Ok (Some end)) told chained =
+      subst (λ at. IsChained GaveAt EndsAt source request at new) (sym told.1) (chain_more source request at old new piece chained is begins told.2)
+  gone_on FailsAt source request at old new piece is begins (Ok None) told chained = chain_whole source request at old new piece chained is begins told
+  gone_on FailsAt source request at old new piece is begins (Err fault) told chained =
+      chain_fault FailsAt source request at old new piece chained is begins fault told
 
-pub known_on_ok : {T E P : Type 0} (r : Result T E) → P → OnOk r P
-known_on_ok (Ok x) p = p
-known_on_ok (Err y) p = tt
+-- the same of another source, request and result
+pub tried_of : {S : Type 0} (GaveAt : S → ℕ → List ℕ → Type 0) (EndsAt FailsAt : S → ℕ → Type 0) {s t : S} {q r : Request} {f g : Result Piece BlocksFault}
+    → s ≡ t → q ≡ r → f ≡ g → IsTried GaveAt EndsAt FailsAt s q f → IsTried GaveAt EndsAt FailsAt t r g
+tried_of GaveAt EndsAt FailsAt {s} {t} {q} {r} {f} {g} sources requests results tried =
+    subst (λ x. IsTried GaveAt EndsAt FailsAt x r g) sources
+    (subst (λ x. IsTried GaveAt EndsAt FailsAt s x g) requests (subst (IsTried GaveAt EndsAt FailsAt s q) results tried))

@@ -1,3 +1,4 @@
 pub mod Walked
 pub mod Filled
 pub mod Chained
+pub mod BlocksAndAttempts

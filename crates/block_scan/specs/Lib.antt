@@ -1,4 +1,8 @@
+pub mod Attempts
 pub mod Blocks
+pub mod EqualBlocks
+pub mod Known
+pub mod KnownLaws
 pub mod Pieces
 pub mod ScannedBlocks
 pub mod Slices

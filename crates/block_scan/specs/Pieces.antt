@@ -8,6 +8,7 @@ use Rattle.day_file.specs.Cuts.{AreBytes, IsRun}
 use Rattle.day_file.specs.Frames.{IsStuck, PlacedBody, StandsFrom}
 use Rattle.scanning.specs.Scans.{ScanTotalView, ScanView, TakesIn, inputs_of, scan_of, total_of, with_scan}
 use Rattle.block_scan.specs.Blocks.{IsBlocksFault}
+use Rattle.block_scan.specs.ScannedBlocks.{IsScannedWhole}
 use Rattle.block_scan.specs.declared.fault.BlocksFault.{BlocksFault}
 use Rattle.block_scan.specs.declared.fault.BlocksFault.TheVariants.{ReadFailed, TooLong, Truncated, OutOfMemory}
 use Rattle.block_scan.specs.declared.piece.Piece.{Piece}
@@ -83,3 +84,10 @@ module _ {S : Type 0} (GaveAt : S → ℕ → List ℕ → Type 0) (EndsAt : S �
     pub at_is : at ≡ length (concat runs)
     pub within : at ≤ request.limit
     pub are : total ≡ total_of (inputs_of request.as_of request.parts runs)
+
+  -- what follows from a piece, of the total with it: it is chained to its end, or whole, or a refusal says what it does
+  abbrev pub IsGoneOn : (S → ℕ → Type 0) → S → Request → ScanTotalView → Result (Option ℕ) BlocksFault → Type 0
+  IsGoneOn FailsAt source request total (Ok (Some end)) = IsChained source request end total
+  IsGoneOn FailsAt source request total (Ok None) =
+      IsScannedWhole GaveAt EndsAt source request.limit request.as_of request.parts total
+  IsGoneOn FailsAt source request total (Err fault) = IsBlocksFault GaveAt EndsAt FailsAt source request.limit fault

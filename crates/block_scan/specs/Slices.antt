@@ -1,6 +1,7 @@
 -- What stands at a place of a list.
 -- Derived: the laws of `Memory` cite it, and it defines nothing.
-use Rattle.std.proofs.Common.{◌≡◌, ℕ, ◌+◌, ◌≤◌, List, ◌++◌, length, take, drop, sym, ap, ◌∙◌, subst}
+use Rattle.std.proofs.Common.{◌≡◌, ℕ, ◌+◌, ◌≤◌, true, nat_eq, List, ◌++◌, length, take, drop, sym, ap, ◌∙◌, subst}
+use Rattle.std.specs.Cmp.Lexicographic.{pointwise, same_text}
 use native.Mathlib.Nat.{le-add_right}
 use Rattle.std.proofs.Math.Seq.{take-add, take-append_seam, drop-append_seam}
 use Rattle.std.proofs.lemmas.List.{length-append, take-take, drop-drop, drop-take}
@@ -29,3 +30,7 @@ module _ (bytes : List ℕ) (place : ℕ) (xs ys : List ℕ) where
       ∙ sym (drop-take (length xs) (length ys) (drop place bytes))
       ∙ ap (λ n. drop (length xs) (take n (drop place bytes))) (sym (length-append xs ys))
       ∙ ap (drop (length xs)) p ∙ drop-append_seam xs ys
+
+-- lists that compare as equal are one
+pub one_list : (xs ys : List ℕ) → pointwise nat_eq xs ys ≡ true → xs ≡ ys
+one_list xs ys same = same_text xs ys (sym same)

@@ -1,101 +1,94 @@
-//! A source whose blocks are read and scanned side by side.
-ghost use Rattle.std.specs.Prelude.{◌≡◌, ◌<◌, ◌≤◌, IfErr, IfOk, OnOk, vec_len};
+//! The blocks of a source.
+ghost use Rattle.std.specs.Prelude.{◌≡◌, ◌<◌, ◌≤◌, map, IfErr, IfOk, OnOk};
+ghost use Rattle.std.specs.Arc.{arc_value};
 ghost use Rattle.lists.specs.declared.limits.TheConstants.{LONGEST_FILE, MOST_PARTITIONS};
+ghost use Rattle.block_scan.specs.Attempts.{block_at, blocks_of};
 ghost use Rattle.block_scan.specs.Blocks.{IsBlocksFault};
-ghost use Rattle.block_scan.specs.Pieces.{IsAskable, IsTried};
-ghost use Rattle.block_scan.specs.ScannedBlocks.{IsScannedWhole};
+ghost use Rattle.block_scan.specs.Pieces.{IsAskable};
 
 use crate::OutOfMemory;
-use crate::chaining::chain;
+use crate::block::Block;
+use crate::division::Division;
 use crate::fault::BlocksFault;
-use crate::guessing::guess;
-use crate::piece::Piece;
-use crate::reading::{refuse_longer, scan_piece};
+use crate::reading::refuse_longer;
 use crate::request::Request;
 use crate::source::BlockSource;
+use crate::work::BlockWork;
+use gathering::Inputs;
 use lists::limits::{LONGEST_FILE, MOST_PARTITIONS};
-use scanning::ScanTotal;
 use std::alloc::Global;
-use std::thread;
-use std::thread::Threads;
+use std::sync::Arc;
 
-/// The bytes of a thread's buffer.
-const BUFFER: usize = 262_144;
-
-/// Reads a source of at most `limit` bytes to its end, and scans what it reads while it reads. It gives the
-/// rows of the messages that count up to this moment, in seconds since midnight, in so many partitions, and
-/// the wrong length of least place. It reads in so many blocks, each on a thread of its own where one can be
-/// made; `length` is how many bytes are expected, and only tells where blocks begin and for how many rows room
-/// is taken at once. Of the bytes that were read it holds no more than 256 KiB a block.
+/// The blocks of a source of at most `limit` bytes, in order: so many as the division has. What counts up
+/// to this moment, in seconds since midnight, is found in them, in so many partitions.
 ///
-/// The byte at `limit` is asked for first, so a source that is too long is refused before it is read.
-pub fn scan_blocks<R: Threads + Sync, S: BlockSource + Sync>(
-    rt: &R,
+/// The byte at `limit` is asked for here, so a source that is too long is refused before it is read.
+pub fn block_inputs<S: BlockSource + Send + Sync>(
     alloc: Global,
-    source: &S,
+    source: &Arc<S, Global>,
     as_of: Option<u32>,
     parts: u32,
     limit: u64,
-    length: u64,
-    blocks: u32,
-) -> Result<ScanTotal, BlocksFault>
+    division: Division,
+) -> Result<Inputs<BlockWork<S>>, BlocksFault>
     requires parts { (0 < parts) × (parts ≤ MOST_PARTITIONS) }
     requires limit { limit ≤ LONGEST_FILE }
-    ensures scanned { IfOk result (IsScannedWhole S.GaveAt S.EndsAt source.now limit as_of parts) }
+    ensures inputs { IfOk result (λ inputs. inputs ≡ blocks_of (arc_value source.now)
+        (record { limit = limit; as_of = as_of; parts = parts; block = division.bytes }) division.blocks) }
 
     // A reading at the limit found no byte there.
-    ensures asked { OnOk result (S.EndsAt source.now limit) }
+    ensures asked { OnOk result (S.EndsAt (arc_value source.now) limit) }
 
-    ensures fault { IfErr result (IsBlocksFault S.GaveAt S.EndsAt S.FailsAt source.now limit) }
+    ensures fault { IfErr result (IsBlocksFault S.GaveAt S.EndsAt S.FailsAt (arc_value source.now) limit) }
 {
-    refuse_longer(source, limit)?;
-    let block = (length / u64::from(blocks.max(1))).saturating_add(1);
+    refuse_longer(&**source, limit)?;
     let request = Request {
         limit,
         as_of,
         parts,
-        block,
+        block: division.bytes,
     };
-    let last = u64::from(blocks.saturating_sub(1));
-    let pieces = thread::map_indices(
-        rt,
-        alloc,
-        blocks as usize,
-        &|i| -> Result<Piece, BlocksFault>
-            requires { IsAskable request }
-            ensures { IsTried S.GaveAt S.EndsAt S.FailsAt source.entry.now request result }
-        { scan_block(alloc, source, request, i as u64, last) },
-    )?;
-    let mut buffer = zeros(alloc, BUFFER)?;
-    chain(alloc, source, request, pieces, &mut buffer)
+    Ok(Inputs::of(blocks(alloc, source, request, division)?))
 }
 
-/// The piece of the block of this number, from the place on where a frame seems to begin. The last block
-/// goes on to the source's end.
-fn scan_block<S: BlockSource>(
+/// All blocks, in order.
+fn blocks<S: BlockSource>(
     alloc: Global,
-    source: &S,
+    source: &Arc<S, Global>,
     request: Request,
-    number: u64,
-    last: u64,
-) -> Result<Piece, BlocksFault>
-    requires { IsAskable request }
-    ensures { IsTried S.GaveAt S.EndsAt S.FailsAt source.now request result }
+    division: Division,
+) -> Result<Vec<Arc<Block<S>, Global>>, OutOfMemory>
+    requires request { IsAskable request }
+    requires division { request.block ≡ division.bytes }
+    ensures { IfOk result (λ blocks. map arc_value blocks.items
+        ≡ blocks_of (arc_value source.now) request division.blocks) }
 {
-    let from = request.limit.min(number.saturating_mul(request.block));
-    let target = if number >= last {
+    let mut blocks = Vec::with_capacity(alloc, division.blocks as usize)?;
+    for number in 0..division.blocks {
+        let block = block(Arc::try_clone(source)?, request, division, number);
+        blocks.push(Arc::new(alloc, block)?)?;
+    }
+    Ok(blocks)
+}
+
+/// The block of this number.
+fn block<S: BlockSource>(
+    source: Arc<S, Global>,
+    request: Request,
+    division: Division,
+    number: u32,
+) -> Block<S>
+    requires request { IsAskable request }
+    requires division { request.block ≡ division.bytes }
+    requires number { number < division.blocks }
+    ensures { result ≡ block_at (arc_value source) request division.blocks number }
+{
+    let number = u64::from(number);
+    let from = request.limit.min(number * division.bytes);
+    let to = if number + 1 == u64::from(division.blocks) {
         request.limit + 1
     } else {
-        from.saturating_add(request.block)
+        (number + 1) * division.bytes
     };
-    let mut buffer = zeros(alloc, BUFFER)?;
-    let start = guess(source, from, request.limit, &mut buffer);
-    scan_piece(alloc, source, request, start, target, &mut buffer)
-}
-
-/// So many bytes.
-fn zeros(alloc: Global, count: usize) -> Result<Vec<u8>, OutOfMemory>
-    ensures { IfOk result (λ zeros. vec_len zeros ≡ count) }
-{
-    vec![in alloc; 0u8; count]
+    Block::of(source, request, from, to)
 }

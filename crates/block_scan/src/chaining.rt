@@ -1,73 +1,143 @@
 //! Pieces put together to the whole of a source.
-ghost use Rattle.std.specs.Prelude.{◌≡◌, ◌≤◌, ◌<◌, All, length, IfErr, IfOk, OnOk};
+ghost use Rattle.std.specs.Prelude.{◌≡◌, ◌≤◌, ◌<◌, All, Any, Err, MatchOption, map, length, IfErr, IfOk, IfSome, IsErr, IsOk, OnOk};
+ghost use Rattle.std.specs.Arc.{arc_value};
+ghost use Rattle.block_scan.specs.Attempts.{AreAttemptsOf};
 ghost use Rattle.block_scan.specs.Blocks.{IsBlocksFault};
 ghost use Rattle.block_scan.specs.ScannedBlocks.{IsScannedWhole};
-ghost use Rattle.block_scan.specs.Pieces.{IsAskable, IsFollowedBy, IsJoined, IsTried};
+ghost use Rattle.block_scan.specs.Pieces.{IsAskable, IsChained, IsFollowedBy, IsGoneOn, IsJoined};
 
 use crate::OutOfMemory;
+use crate::attempt::{Attempt, Attempts};
 use crate::fault::BlocksFault;
 use crate::piece::{Piece, Tail};
-use crate::reading::scan_piece;
+use crate::reading::{scan_piece, zeros};
 use crate::request::Request;
 use crate::source::BlockSource;
 use scanning::ScanTotal;
 use std::alloc::Global;
+use std::sync::Arc;
 
-/// Puts the pieces together: in place of one that doesn't begin where the one before it ends stands one
-/// that is read from there, and what is left behind the last one is read here.
-pub(crate) fn chain<S: BlockSource>(
+impl<S: BlockSource> Attempts<S> {
+    /// What the whole source gives: its pieces put together, the first fault of a reading, or the place
+    /// where all that was read is truncated. In place of a piece that doesn't begin where the one before
+    /// it ends stands one that is read from there, and what is left behind the last one is read here.
+    pub fn join(&self, alloc: Global) -> Result<ScanTotal, BlocksFault>
+        requires { (source : S) × (request : Request) × AreAttemptsOf source request self.now }
+        ensures scanned { IfOk result (λ total. (source : S) (request : Request) →
+            AreAttemptsOf source request self.now →
+            IsScannedWhole S.GaveAt S.EndsAt source request.limit request.as_of request.parts total) }
+        ensures fault { IfErr result (λ fault. (source : S) (request : Request) →
+            AreAttemptsOf source request self.now →
+            IsBlocksFault S.GaveAt S.EndsAt S.FailsAt source request.limit fault) }
+        ensures unread { Any (λ attempt. IsErr attempt.found) self.now → IsErr result }
+    {
+        if let Some(fault) = self.first_fault() {
+            return Err(fault);
+        }
+        let first = &self.items[0];
+        chain(alloc, &*first.source, first.request, self.items.as_slice())
+    }
+
+    /// Why there is no piece of the first block that has none.
+    fn first_fault(&self) -> Option<BlocksFault>
+        ensures { MatchOption result (All (λ attempt. IsOk attempt.found) self.now)
+            (λ fault. Any (λ attempt. (attempt.found ≡ Err fault)
+            × IsBlocksFault S.GaveAt S.EndsAt S.FailsAt attempt.source attempt.request.limit fault) self.now) }
+    {
+        for attempt in &self.items {
+            if let Err(fault) = attempt.found {
+                return Some(fault);
+            }
+        }
+        None
+    }
+}
+
+/// Puts the pieces together.
+fn chain<S: BlockSource>(
     alloc: Global,
     source: &S,
     request: Request,
-    mut pieces: Vec<Result<Piece, BlocksFault>>,
-    buffer: &mut [u8],
+    attempts: &[Arc<Attempt<S>, Global>],
 ) -> Result<ScanTotal, BlocksFault>
     requires request { IsAskable request }
-    requires pieces { All (IsTried S.GaveAt S.EndsAt S.FailsAt source.now request) pieces.items }
-    requires room { 65537 < length buffer.old }
+    requires attempts { All (λ attempt. (attempt.source ≡ source.now) × (attempt.request ≡ request))
+        (map arc_value attempts.now) }
     ensures scanned { IfOk result
         (IsScannedWhole S.GaveAt S.EndsAt source.now request.limit request.as_of request.parts) }
     ensures fault { IfErr result (IsBlocksFault S.GaveAt S.EndsAt S.FailsAt source.now request.limit) }
 {
+    let mut buffer = zeros(alloc)?;
     let mut total = ScanTotal::empty(alloc);
     let mut at = 0;
-    pieces.reverse();
-    while let Some(piece) = pieces.pop() {
-        let piece = settle(alloc, source, request, at, piece, buffer)?;
-        match follow(&mut total, &piece)? {
+    for attempt in attempts {
+        match go_on(alloc, source, request, at, attempt, &mut total, &mut buffer)? {
             Some(end) => at = end,
             None => return Ok(total),
         }
     }
-    let last = scan_piece(alloc, source, request, at, request.limit + 1, buffer)?;
-    match follow(&mut total, &last)? {
+    match read_on(
+        alloc,
+        source,
+        request,
+        at,
+        request.limit + 1,
+        &mut total,
+        &mut buffer,
+    )? {
         None => Ok(total),
         // A piece whose target is behind the limit ends where the source does.
         Some(_) => unreachable!(),
     }
 }
 
-/// The piece that begins here: this one, or one that is read from here.
-fn settle<S: BlockSource>(
+/// Takes in the piece that begins here, and says where the next one does, if there is more to come. It is the
+/// attempt's piece, or one that is read from here to where that ends.
+fn go_on<S: BlockSource>(
     alloc: Global,
     source: &S,
     request: Request,
     at: u64,
-    piece: Result<Piece, BlocksFault>,
+    attempt: &Attempt<S>,
+    total: &mut ScanTotal,
     buffer: &mut [u8],
-) -> Result<Piece, BlocksFault>
+) -> Result<Option<u64>, BlocksFault>
     requires request { IsAskable request }
     requires at { at ≤ request.limit }
     requires room { 65537 < length buffer.old }
-    requires piece { IsTried S.GaveAt S.EndsAt S.FailsAt source.now request piece }
-    ensures tried { IsTried S.GaveAt S.EndsAt S.FailsAt source.now request result }
-    ensures start { IfOk result (λ piece. piece.start ≡ at) }
+    requires attempt { (attempt.now.source ≡ source.now) × (attempt.now.request ≡ request) }
+    ensures gone_on { IsChained S.GaveAt S.EndsAt source.now request at total.old →
+        IsGoneOn S.GaveAt S.EndsAt S.FailsAt source.now request total.new result }
+    ensures len { length buffer.new ≡ length buffer.old }
 {
-    let piece = piece?;
-    if piece.start == at {
-        return Ok(piece);
+    match &attempt.found {
+        Err(fault) => Err(*fault),
+        Ok(piece) if piece.start == at => follow(total, piece),
+        Ok(piece) => read_on(alloc, source, request, at, piece.end, total, buffer),
     }
-    scan_piece(alloc, source, request, at, piece.end, buffer)
+}
+
+/// Reads a piece from here on up to the target, takes it in, and says where the next one begins, if there is
+/// more to come.
+fn read_on<S: BlockSource>(
+    alloc: Global,
+    source: &S,
+    request: Request,
+    at: u64,
+    target: u64,
+    total: &mut ScanTotal,
+    buffer: &mut [u8],
+) -> Result<Option<u64>, BlocksFault>
+    requires request { IsAskable request }
+    requires at { at ≤ request.limit }
+    requires room { 65537 < length buffer.old }
+    ensures gone_on { IsChained S.GaveAt S.EndsAt source.now request at total.old →
+        IsGoneOn S.GaveAt S.EndsAt S.FailsAt source.now request total.new result }
+    ensures past { IfOk result (λ next. IfSome next (λ end. (target ≤ end) × (end ≤ request.limit))) }
+    ensures len { length buffer.new ≡ length buffer.old }
+{
+    let piece = scan_piece(alloc, source, request, at, target, buffer)?;
+    follow(total, &piece)
 }
 
 /// Takes in the piece that begins where the total ends, and says where the next one begins, if there is

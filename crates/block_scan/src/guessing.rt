@@ -1,7 +1,8 @@
 //! Guesses of where a frame begins.
-ghost use Rattle.std.specs.Prelude.{◌≤◌, ◌<◌, length};
+ghost use Rattle.std.specs.Prelude.{◌≤◌, ◌<◌, length, IfErr, IfOk};
 
 use crate::source::BlockSource;
+use day_file::DeviceFailed;
 use itch_messages::read;
 
 /// How many frames in a row must look like messages.
@@ -14,23 +15,27 @@ const LONGEST: usize = 50;
 
 /// A place at or behind this one where a frame seems to begin, within the limit. Nothing more is promised
 /// of it: what is found from there on counts only where the piece before it ends there.
-pub(crate) fn guess<S: BlockSource>(source: &S, from: u64, limit: u64, buffer: &mut [u8]) -> u64
+pub(crate) fn guess<S: BlockSource>(
+    source: &S,
+    from: u64,
+    limit: u64,
+    buffer: &mut [u8],
+) -> Result<u64, DeviceFailed>
     requires room { 0 < length buffer.old }
     requires from { from ≤ limit }
-    ensures { result ≤ limit }
+    ensures within { IfOk result (λ place. place ≤ limit) }
+    ensures failed { IfErr result (λ _. S.FailsAt source.now from) }
 {
     if from == 0 {
-        return 0;
+        return Ok(0);
     }
-    let Ok(count) = source.read_at(from, buffer) else {
-        return from;
-    };
+    let count = source.read_at(from, buffer)?;
     for offset in 0..count {
         if is_likely(&buffer[..count], offset) {
-            return limit.min(from.saturating_add(offset as u64));
+            return Ok(limit.min(from.saturating_add(offset as u64)));
         }
     }
-    from
+    Ok(from)
 }
 
 /// Whether so many frames that look like messages stand one after the other from here.

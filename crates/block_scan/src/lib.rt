@@ -2,8 +2,11 @@
 //! small buffer and keeps what the messages of the block give, not its bytes.
 #![tactic(auto)]
 
+mod attempt;
+mod block;
 mod blocks;
 mod chaining;
+mod division;
 mod fault;
 mod file_blocks;
 mod guessing;
@@ -13,10 +16,16 @@ mod reading;
 mod request;
 mod source;
 mod walking;
+mod work;
 
-pub use blocks::scan_blocks;
+pub use attempt::{Attempt, Attempts};
+pub use block::Block;
+pub use blocks::block_inputs;
+pub use day_file::DeviceFailed;
+pub use division::Division;
 pub use fault::BlocksFault;
-pub use file_blocks::FileBlocks;
+pub use file_blocks::{FileBlocks, ReadsAt};
 pub use lists::OutOfMemory;
 pub use memory::Memory;
 pub use source::BlockSource;
+pub use work::BlockWork;

@@ -4,7 +4,7 @@ use scanning::Scanned;
 
 /// How a piece ended.
 #[derive(Clone, Copy, Debug, PartialEq, Eq)]
-pub(crate) enum Tail {
+pub enum Tail {
     /// At the first frame at or behind its target.
     More,
     /// At the end of the source, behind whole frames.
@@ -15,7 +15,7 @@ pub(crate) enum Tail {
 
 /// The scan of the whole frames between two places.
 #[derive(Drop)]
-pub(crate) struct Piece {
+pub struct Piece {
     pub(crate) start: u64,
     pub(crate) end: u64,
     pub(crate) scanned: Scanned,

@@ -1,10 +1,13 @@
 //! Pieces that are read and scanned through one buffer.
-ghost use Rattle.std.specs.Prelude.{◌≡◌, ◌≤◌, ◌<◌, ◌+◌, ◌-◌, length, take, drop, IfErr, IfOk, OnOk};
+ghost use Rattle.std.specs.Prelude.{◌≡◌, ◌≤◌, ◌<◌, ◌+◌, ◌-◌, length, take, drop, vec_len, IfErr, IfOk, OnOk};
 ghost use Rattle.lists.specs.declared.limits.TheConstants.{LONGEST_FILE};
 ghost use Rattle.block_scan.specs.Blocks.{IsBlocksFault};
 ghost use Rattle.block_scan.specs.Pieces.{IsAskable, IsTried};
 
+use crate::OutOfMemory;
+use crate::block::Block;
 use crate::fault::BlocksFault;
+use crate::guessing::guess;
 use crate::piece::{Piece, Tail};
 use crate::request::Request;
 use crate::source::BlockSource;
@@ -12,6 +15,36 @@ use crate::walking::walk;
 use lists::limits::LONGEST_FILE;
 use scanning::OpenScan;
 use std::alloc::Global;
+
+/// The bytes of the buffer that a block is read through: a little less than 128 KiB, as which the C library takes
+/// it of its heap. A larger one would be mapped, and when it is freed lists of its size come of the heap, too, and
+/// leave gaps there.
+const BUFFER: usize = 126_976;
+
+/// How many bytes are looked at for where a frame begins, and how many behind its target a piece reads at a
+/// time, since its last frame mostly ends there.
+const SEEN: usize = 4_096;
+
+/// The piece of a block, from the place on where a frame seems to begin.
+pub(crate) fn scan_block<S: BlockSource>(
+    alloc: Global,
+    block: &Block<S>,
+) -> Result<Piece, BlocksFault>
+    ensures { IsTried S.GaveAt S.EndsAt S.FailsAt block.now.source block.now.request result }
+{
+    let (source, request) = (&**block.source(), block.request());
+    let mut seen = [0u8; SEEN];
+    let start = guess(source, block.from(), request.limit, &mut seen)?;
+    let mut buffer = zeros(alloc)?;
+    scan_piece(alloc, source, request, start, block.to(), &mut buffer)
+}
+
+/// A buffer.
+pub(crate) fn zeros(alloc: Global) -> Result<Vec<u8>, OutOfMemory>
+    ensures { IfOk result (λ zeros. vec_len zeros ≡ BUFFER) }
+{
+    vec![in alloc; 0u8; BUFFER]
+}
 
 /// Refuses a source that has a byte behind the limit.
 pub(crate) fn refuse_longer<S: BlockSource>(source: &S, limit: u64) -> Result<(), BlocksFault>
@@ -48,7 +81,8 @@ pub(crate) fn scan_piece<S: BlockSource>(
     let mut filled = 0;
     while place < target {
         let read = place + filled as u64;
-        let count = read_some(source, request.limit, read, &mut buffer[filled..])?;
+        let most = target.saturating_sub(read).saturating_add(SEEN as u64);
+        let count = read_some(source, request.limit, read, most, &mut buffer[filled..])?;
         if count == 0 {
             let tail = if filled == 0 { Tail::Whole } else { Tail::Cut };
             let scanned = scan.finish(alloc)?;
@@ -74,16 +108,18 @@ pub(crate) fn scan_piece<S: BlockSource>(
     })
 }
 
-/// Reads at this place what there is room for, and says how many bytes those are. A byte behind the limit
-/// is a refusal, and none behind that is asked for.
+/// Reads at this place at most so many bytes as there is room for, and says how many those are. A byte behind
+/// the limit is a refusal, and none behind that is asked for.
 fn read_some<S: BlockSource>(
     source: &S,
     limit: u64,
     place: u64,
+    most: u64,
     into: &mut [u8],
 ) -> Result<usize, BlocksFault>
     requires limit { limit ≤ LONGEST_FILE }
     requires place { place ≤ limit }
+    requires most { 0 < most }
     requires room { 0 < length into.old }
     ensures count { IfOk result (λ n. n ≤ length into.new) }
     ensures gave { IfOk result (λ n. S.GaveAt source.now place (take n into.new)) }
@@ -91,7 +127,7 @@ fn read_some<S: BlockSource>(
     ensures end { IfOk result (λ n. n ≡ 0 → S.EndsAt source.now place) }
     ensures fault { IfErr result (IsBlocksFault S.GaveAt S.EndsAt S.FailsAt source.now limit) }
 {
-    let room = (into.len() as u64).min(limit + 1 - place) as usize;
+    let room = (into.len() as u64).min(limit + 1 - place).min(most) as usize;
     let count = source.read_at(place, &mut into[..room])?;
     if place + count as u64 > limit {
         return Err(BlocksFault::TooLong);

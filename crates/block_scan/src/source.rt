@@ -1,11 +1,13 @@
 //! Devices that are read at places.
-ghost use Rattle.std.specs.Prelude.{◌≡◌, ◌≤◌, ◌<◌, ◌+◌, ◌++◌, ℕ, List, [], length, take, IfOk, IfErr};
+ghost use Rattle.std.specs.Prelude.{◌≡◌, ◌≤◌, ◌<◌, ◌+◌, ◌++◌, ℕ, List, [], true, length, take, IfOk, IfErr};
 
 use day_file::DeviceFailed;
 
 /// A device that gives the bytes at a place, as often and to as many threads as one likes. Places are
 /// in bytes from its start. Two readings of one place may give different bytes: a file may change.
-pub trait BlockSource {
+///
+/// Threads tell by `==` whether a piece of work is theirs: it holds of a source and itself.
+pub trait BlockSource: Eq + Drop {
     // Readings from this place on, one or more, gave these bytes.
     ghost GaveAt: { Self → ℕ → List ℕ → Type 0 };
 
@@ -36,4 +38,7 @@ pub trait BlockSource {
 
     ghost gave_back: { (s : Self) (place : ℕ) (xs ys : List ℕ) →
         GaveAt s place (xs ++ ys) → GaveAt s (place + length xs) ys };
+
+    // Sources that compare as equal are one, as far as contracts see them.
+    ghost one_source: { (a b : Self) → Self.eq a b ≡ true → a ≡ b };
 }

@@ -3,7 +3,7 @@
 use Rattle.std.specs.Prelude.{◌≡◌, Bool, true, ◌==◌, ◌&&◌, List, All, length, map, nat_eq}
 use Rattle.std.specs.Cmp.{IsEquivalence}
 use Rattle.std.specs.Cmp.Lexicographic.{lists_equiv, pointwise, same_text}
-use Rattle.std.proofs.Common.{ap, sym}
+use Rattle.std.proofs.Common.{ap, sym, ◌∙◌}
 use Rattle.std.proofs.lemmas.Cmp.{and_equiv, nat_eq_equiv, nat_list_eq_equiv}
 use Rattle.gathering.specs.Adding.{same_inputs}
 use Rattle.gathering.proofs.EqualInputs.{map_alike}
@@ -51,9 +51,8 @@ is_same_bucket a b =
 
 -- ---- the laws of a work
 
--- equal buckets have one value
-pub same_found : (a b : BucketView) → is_same_bucket a b ≡ true → found a ≡ found b
-same_found a b same =
+one_found : (a b : BucketView) → is_same_bucket a b ≡ true → found a ≡ found b
+one_found a b same =
     let h2 = and_right _ _ same in
     let h3 = and_right _ _ h2 in
     let h4 = and_right _ _ h3 in
@@ -63,10 +62,15 @@ same_found a b same =
     let what = same_what a.what b.what (and_right _ _ h4) in
     λ i. found_of (what i) (breaks i) (admits (selection i)) (joined_partitions (rows i))
 
+-- equal buckets have one value
+pub same_found : (a b : BucketView) (output : FoundView) → is_same_bucket a b ≡ true → output ≡ found a
+    → output ≡ found b
+same_found a b output same is = is ∙ one_found a b same
+
 -- lists of equal buckets have one total
 pub same_total_found : (xs ys : List BucketView) → same_inputs is_same_bucket xs ys ≡ true
-    → total_found xs ≡ total_found ys
-same_total_found xs ys same = ap all_found (map_alike is_same_bucket found same_found xs ys same)
+    → (total : TotalView) → total ≡ total_found ys → total ≡ total_found xs
+same_total_found xs ys same total is = is ∙ sym (ap all_found (map_alike is_same_bucket found one_found xs ys same))
 
 pub bucket_equiv : IsEquivalence is_same_bucket
 bucket_equiv =

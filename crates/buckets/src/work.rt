@@ -25,9 +25,9 @@ impl Work for BucketWork {
 
     type Total = BucketTotal;
 
-    ghost value_of = { found };
+    ghost Gives = { λ input output. output ≡ found input };
 
-    ghost total_of = { total_found };
+    ghost IsTotalOf = { λ inputs total. total ≡ total_found inputs };
 
     ghost IsAdmissible = { AreNumbered };
 

@@ -113,7 +113,7 @@ fn performed_by_blocks<R: Threads + Wait + Sync>(
     let length = bytes.len() as u64;
     let mut out = CountedSink::of(out);
     let mut errors = CountedSink::of(errors);
-    perform_blocks(rt, alloc, job, &source, length, &mut out, &mut errors)
+    perform_blocks(rt, alloc, job, source, length, &mut out, &mut errors)
 }
 
 /// The status of a job over a file that was opened.

@@ -38,18 +38,18 @@ pub fn perform<R: Threads + Wait + Sync, S: Source, K: Sink, L: Sink>(
 /// Does a job on a source that is read at places, by several threads at once: `length` is how many
 /// bytes it is expected to have, and no answer depends on it. Else as `perform`; the size of morsels
 /// has no part in it.
-pub fn perform_blocks<R: Threads + Wait + Sync, S: BlockSource + Sync, K: Sink, L: Sink>(
+pub fn perform_blocks<R: Threads + Wait + Sync, S: BlockSource + Send + Sync, K: Sink, L: Sink>(
     rt: &R,
     alloc: Global,
     job: &Job,
-    source: &S,
+    source: S,
     length: u64,
     out: &mut K,
     errors: &mut L,
 ) -> u8
     requires out { K.has_failed out.old ≡ false }
     requires errors { L.has_failed errors.old ≡ false }
-    ensures did { Did (of_blocks S.GaveAt S.EndsAt S.FailsAt job.now.settings.limit source.now)
+    ensures did { Did (of_blocks S.GaveAt S.EndsAt S.FailsAt job.now.settings.limit source)
         K.Took K.HasFlushed K.has_failed L.Took L.HasFlushed L.has_failed
         job.now out.old out.new errors.old errors.new result }
     ensures quiet { result ≡ 0 → errors.new ≡ errors.old }

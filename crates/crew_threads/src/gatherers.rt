@@ -82,7 +82,7 @@ pub fn gather_until_covered<W: Work, R: Wait>(
 )
     ensures { gathering.new.inputs ≡ gathering.old.inputs }
 {
-    let mut missing = tasks;
+    let mut missing = (0..tasks).filter(|task| !gathering.covers(*task)).count();
     for _ in rt.forever() {
         if missing == 0 {
             break;

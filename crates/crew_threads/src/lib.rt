@@ -5,7 +5,7 @@
 //! schedule of its threads changes the total.
 //!
 //! Where inputs become known one after another, workers can run their tasks before all are there
-//! (`run_ahead`); `total_of_pieces` then gives the total.
+//! (`run_ahead`). The pipeline then begins with their pieces.
 #![tactic(auto)]
 
 mod ahead;
@@ -24,7 +24,7 @@ pub use gatherers::{
 };
 pub use gathering::{Gathering, Inputs, OutOfMemory, Piece, Work};
 pub use outcomes::Crew;
-pub use pipeline::{run_pipeline, total_of_pieces};
+pub use pipeline::run_pipeline;
 pub use port::{ChannelPort, KeepingPort, Port};
 pub use runs::{run_missing, run_task};
 pub use worker::work;

@@ -12,10 +12,14 @@ use std::alloc::{AllocError, Global};
 use std::sync::{Arc, Wait};
 use std::thread::{Scope, Threads};
 
-/// The total of all inputs of one pipeline, with the crew's workers on threads of their own. The crew's
-/// gatherers gather: the caller's thread, and if there are more each on a thread of its own. A worker
-/// sends its pieces to the gatherer of its number modulo theirs. The caller's thread runs itself the
-/// tasks whose pieces no worker brought.
+/// The total of all inputs of one pipeline, which begins with the pieces of tasks that were run ahead, in
+/// whatever order, repeated or not; one of other work is dropped. If a task is missing then, it starts
+/// the crew's workers on threads of their own. The crew's gatherers gather: the caller's thread, and if
+/// there are more each on a thread of its own. A worker sends its pieces to the gatherer of its number
+/// modulo theirs. The caller's thread runs itself the tasks whose pieces no worker brought.
+///
+/// Where there are pieces, a task's first giving was its run ahead, whether or not that brought a piece:
+/// workers are given the missing tasks once, and otherwise each task twice.
 ///
 /// With one gatherer the pipeline is done as soon as all tasks are covered, whatever a slow worker still
 /// holds. With several it waits until all workers have ended, and then merges what was gathered.
@@ -28,15 +32,20 @@ pub fn run_pipeline<'s, E, W: Work + 's, G: Gate, R: Threads + Wait + Sync>(
     rt: &'s R,
     alloc: Global,
     inputs: Arc<Inputs<W>, Global>,
+    pieces: Vec<Piece<W>>,
     crew: Crew,
     gate: &'s G,
     pipeline: u8,
 ) -> Result<W::Total, OutOfMemory>
-    ensures total { IfOk result (λ total. total ≡ W.total_of (arc_value inputs)) }
+    ensures total { IfOk result (λ total. W.IsTotalOf (arc_value inputs) total) }
     ensures admissible { OnOk result (W.IsAdmissible (arc_value inputs)) }
 {
     let mut gathering = Gathering::new(alloc, Arc::try_clone(&inputs)?)?;
-    if inputs.count() > 0 {
+    let is_begun = !pieces.is_empty();
+    for piece in pieces {
+        let _ = gathering.file(piece);
+    }
+    if gathering.first_missing().is_some() {
         gather(
             scope,
             rt,
@@ -44,33 +53,12 @@ pub fn run_pipeline<'s, E, W: Work + 's, G: Gate, R: Threads + Wait + Sync>(
             &inputs,
             crew,
             &mut gathering,
+            is_begun,
             gate,
             pipeline,
         );
     }
     complete(alloc, gathering, &inputs, gate, pipeline)
-}
-
-/// The total of all inputs of one pipeline, some of whose tasks were run ahead: these are their pieces,
-/// in whatever order, repeated or not. One of other work is dropped. The caller's thread runs itself the
-/// tasks that no piece covers.
-///
-/// It is refused if memory was refused to it.
-pub fn total_of_pieces<W: Work, G: Gate>(
-    alloc: Global,
-    inputs: &Arc<Inputs<W>, Global>,
-    pieces: Vec<Piece<W>>,
-    gate: &G,
-    pipeline: u8,
-) -> Result<W::Total, OutOfMemory>
-    ensures total { IfOk result (λ total. total ≡ W.total_of (arc_value inputs.now)) }
-    ensures admissible { OnOk result (W.IsAdmissible (arc_value inputs.now)) }
-{
-    let mut gathering = Gathering::new(alloc, Arc::try_clone(inputs)?)?;
-    for piece in pieces {
-        let _ = gathering.file(piece);
-    }
-    complete(alloc, gathering, inputs, gate, pipeline)
 }
 
 /// Runs the tasks that are not covered, and gives the total of all inputs.
@@ -82,7 +70,7 @@ fn complete<W: Work, G: Gate>(
     pipeline: u8,
 ) -> Result<W::Total, OutOfMemory>
     requires own { gathering.inputs ≡ arc_value inputs.now }
-    ensures total { IfOk result (λ total. total ≡ W.total_of (arc_value inputs.now)) }
+    ensures total { IfOk result (λ total. W.IsTotalOf (arc_value inputs.now) total) }
     ensures admissible { OnOk result (W.IsAdmissible (arc_value inputs.now)) }
 {
     run_missing(alloc, &mut gathering, inputs, pipeline, gate)?;
@@ -94,7 +82,7 @@ fn complete<W: Work, G: Gate>(
     }
 }
 
-/// Gathers what the crew's workers bring.
+/// Gathers what the crew's workers bring. The pipeline may have begun with the pieces that are gathered.
 fn gather<'s, E, W: Work + 's, G: Gate, R: Threads + Wait + Sync>(
     scope: &Scope<'s, E>,
     rt: &'s R,
@@ -102,6 +90,7 @@ fn gather<'s, E, W: Work + 's, G: Gate, R: Threads + Wait + Sync>(
     inputs: &Arc<Inputs<W>, Global>,
     crew: Crew,
     gathering: &mut Gathering<W>,
+    is_begun: bool,
     gate: &'s G,
     pipeline: u8,
 )
@@ -118,6 +107,7 @@ fn gather<'s, E, W: Work + 's, G: Gate, R: Threads + Wait + Sync>(
         alloc,
         inputs,
         crew.workers,
+        if is_begun { Some(&*gathering) } else { None },
         to,
         &others,
         gate,

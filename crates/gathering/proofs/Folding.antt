@@ -1,6 +1,6 @@
 -- The steps of a gathering that keeps a total of its first inputs.
 use Rattle.std.proofs.Common.{◌≡◌, ℕ, ◌+◌, ◌<◌, ◌≤◌, Bool, true, false, ◌||◌, nat_lt, List, Option, Some, None, length, take, get_or, set, is_some, sym}
-use Rattle.std.proofs.Common.{◌∙◌, ap, arith, inl, inr, ⊎_elim}
+use Rattle.std.proofs.Common.{◌∙◌, ap, arith, inl, inr, ⊎_elim, subst}
 use Rattle.std.proofs.lemmas.Grind.{get_or-set_at}
 use Rattle.std.proofs.lemmas.List.{get_or-set_other, take_all}
 use Rattle.std.proofs.lemmas.Bool.{cases_lt}
@@ -16,15 +16,18 @@ use Rattle.gathering.proofs.EqualInputs.{same-take}
 use Rattle.gathering.proofs.FirstMissing.{view, complete_from}
 use Rattle.gathering.proofs.KeptPieces.{IsKept-file, IsKept-drop, IsKept-merge, is_some-either}
 
+subst2 : {X Y : Type 0} (P : X → Y → Type 0) {a b : X} {c d : Y} → a ≡ b → c ≡ d → P a c → P b d
+subst2 P {a} {b} {c} {d} e h p = subst (λ y. P b y) h (subst (λ x. P x c) e p)
+
 -- the greater of two numbers p and q is r, and c is what goes with it
 pub record IsLonger {C : Type 0} (p q r : ℕ) (a b c : C) : Type 0 where
   pub longer : p < q → (r ≡ q) × (c ≡ b)
   pub own : q ≤ p → (r ≡ p) × (c ≡ a)
 
-module _ {A C : Type 0} (eq : A → A → Bool) (total_of : List A → C) (inputs : List A) where
+module _ {A C : Type 0} (eq : A → A → Bool) (IsTotalOf : List A → C → Type 0) (inputs : List A) where
   -- the piece of the place p is added and dropped
-  pub IsFolded-step : (p : ℕ) (total new : C) (places : List (Option (PieceView A))) → IsFolded eq total_of inputs p total places
-      → p < length inputs → new ≡ total_of (take (p + 1) inputs) → IsFolded eq total_of inputs (p + 1) new (set places p None)
+  pub IsFolded-step : (p : ℕ) (total new : C) (places : List (Option (PieceView A))) → IsFolded eq IsTotalOf inputs p total places
+      → p < length inputs → IsTotalOf (take (p + 1) inputs) new → IsFolded eq IsTotalOf inputs (p + 1) new (set places p None)
   IsFolded-step p total new places folded h new_is =
       let here : p < length places = let e = folded.kept.one_each in omega arith in
       record {
@@ -41,8 +44,8 @@ module _ {A C : Type 0} (eq : A → A → Bool) (total_of : List A → C) (input
 
   -- a piece is filed from p on
   pub IsFolded-file : (p : ℕ) (total : C) (places : List (Option (PieceView A))) (piece : PieceView A)
-      → IsFolded eq total_of inputs p total places → p ≤ piece.number → belongs eq inputs piece ≡ true
-      → IsFolded eq total_of inputs p total (set places piece.number (Some piece))
+      → IsFolded eq IsTotalOf inputs p total places → p ≤ piece.number → belongs eq inputs piece ≡ true
+      → IsFolded eq IsTotalOf inputs p total (set places piece.number (Some piece))
   IsFolded-file p total places piece folded from own = record {
     kept = IsKept-file eq inputs places piece folded.kept own;
     within = folded.within;
@@ -55,21 +58,21 @@ module _ {A C : Type 0} (eq : A → A → Bool) (total_of : List A → C) (input
   no_some (Some x) some gap = cc
 
   -- where no task is missing and the place p is empty, the total is whole
-  pub whole : (p : ℕ) (total : C) (places : List (Option (PieceView A))) (folded : IsFolded eq total_of inputs p total places)
-      → IsComplete (view inputs p places folded.kept.one_each folded.within) → get_or places p None ≡ None → total ≡ total_of inputs
+  pub whole : (p : ℕ) (total : C) (places : List (Option (PieceView A))) (folded : IsFolded eq IsTotalOf inputs p total places)
+      → IsComplete (view inputs p places folded.kept.one_each folded.within) → get_or places p None ≡ None → IsTotalOf inputs total
   whole p total places folded all gap =
       ⊎_elim
       (λ below.
       let some = complete_from inputs p places folded.kept.one_each folded.within all p (omega arith) below in
       absurd (no_some _ some gap))
-      (λ past. folded.total_is ∙ ap total_of (take_all p inputs past))
+      (λ past. subst (λ xs. IsTotalOf xs total) (take_all p inputs past) folded.total_is)
       (cases_lt p (length inputs))
 
 -- two are merged: `r` is the longer prefix of `p` and `q`, and `both` are the pieces of either from there on
 module _
-    {A C : Type 0} (eq : A → A → Bool) (total_of : List A → C) (inputs others : List A) (same : same_inputs eq inputs others ≡ true)
+    {A C : Type 0} (eq : A → A → Bool) (IsTotalOf : List A → C → Type 0) (inputs others : List A) (same : same_inputs eq inputs others ≡ true)
     (p q r : ℕ) (a b c : C) (own their both : List (Option (PieceView A)))
-    (folded : IsFolded eq total_of inputs p a own) (theirs : IsFolded eq total_of others q b their)
+    (folded : IsFolded eq IsTotalOf inputs p a own) (theirs : IsFolded eq IsTotalOf others q b their)
     (chosen : IsLonger p q r a b c) (count : length both ≡ length own)
     (united : (k : ℕ) → get_or both k None ≡ unless (nat_lt k r) (either (get_or own k None) (get_or their k None)))
   where
@@ -80,8 +83,8 @@ module _
         (λ more. let e = (chosen.own more).0 in (omega arith, omega arith))
         (cases_lt p q)
 
-    pub IsFolded-merge : IsEquivalence eq → ((xs ys : List A) → same_inputs eq xs ys ≡ true → total_of xs ≡ total_of ys)
-        → IsFolded eq total_of inputs r c both
+    pub IsFolded-merge : IsEquivalence eq → ((xs ys : List A) → same_inputs eq xs ys ≡ true → (t : C) → IsTotalOf ys t → IsTotalOf xs t)
+        → IsFolded eq IsTotalOf inputs r c both
     IsFolded-merge laws equal_totals = record {
       kept = IsKept-merge eq laws inputs others r own their both folded.kept theirs.kept same count united;
       within = ⊎_elim
@@ -90,9 +93,9 @@ module _
           (cases_lt p q);
       total_is = ⊎_elim
           (λ less.
-          (chosen.longer less).1 ∙ theirs.total_is ∙ sym (equal_totals (take q inputs) (take q others) (same-take eq q inputs others same))
-          ∙ ap (λ n. total_of (take n inputs)) (sym (chosen.longer less).0))
-          (λ more. (chosen.own more).1 ∙ folded.total_is ∙ ap (λ n. total_of (take n inputs)) (sym (chosen.own more).0))
+          subst2 (λ n t. IsTotalOf (take n inputs) t) (sym (chosen.longer less).0) (sym (chosen.longer less).1)
+          (equal_totals (take q inputs) (take q others) (same-take eq q inputs others same) b theirs.total_is))
+          (λ more. subst2 (λ n t. IsTotalOf (take n inputs) t) (sym (chosen.own more).0) (sym (chosen.own more).1) folded.total_is)
           (cases_lt p q);
       dropped = λ k below. united k ∙ ap (λ t. unless t (either (get_or own k None) (get_or their k None))) (lt_within k r below);
     }

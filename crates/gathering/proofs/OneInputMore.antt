@@ -17,11 +17,11 @@ around (y ∷ xs) zero x h = let e : y ≡ x = cc in ap (λ z. z ∷ xs) (sym e)
 around (y ∷ xs) (suc k) x h = ap (λ z. y ∷ z) (around xs k x h)
 
 module _
-    {A B C : Type 0} (value_of : A → B) (total_of : List A → C) (IsAdmissible : List A → Type 0) (eq : A → A → Bool)
-    (equal_values : (a b : A) → eq a b ≡ true → value_of a ≡ value_of b)
+    {A B C : Type 0} (Gives : A → B → Type 0) (IsTotalOf : List A → C → Type 0) (IsAdmissible : List A → Type 0) (eq : A → A → Bool)
+    (equal_values : (a b : A) (output : B) → eq a b ≡ true → Gives a output → Gives b output)
     (inputs : List A) (places : List (Option (PieceView A))) (kept : IsKept eq inputs places) (admissible : IsAdmissible inputs)
     (k : ℕ) (p : PieceView A) (here : get_or places k None ≡ Some p) (total : C) (output : B)
-    (total_is : total ≡ total_of (take k inputs)) (output_is : output ≡ value_of p.input)
+    (total_is : IsTotalOf (take k inputs) total) (output_is : Gives p.input output)
   where
     -- the input of the place, equal to the piece's
     next : (x : A) × (slice_get inputs k ≡ Some x) × (eq p.input x ≡ true)
@@ -32,16 +32,16 @@ module _
     starts = (drop (suc k) inputs, subst IsAdmissible (sym (around inputs k next.0 next.1)) admissible)
 
     -- the output may be added to the total of the inputs before it
-    pub can_add : CanAdd value_of total_of IsAdmissible total output
+    pub can_add : CanAdd Gives IsTotalOf IsAdmissible total output
     can_add = record {
       before = take k inputs;
       next = next.0;
       total_is = total_is;
-      output_is = output_is ∙ equal_values p.input next.0 next.2;
+      output_is = equal_values p.input next.0 output next.2 output_is;
       admissible = starts;
     }
 
     -- and then the total is that of the inputs up to it
-    pub added : (new : C) → AddsOutput value_of total_of IsAdmissible total output new → new ≡ total_of (take (k + 1) inputs)
-    added new adds = adds (take k inputs) next.0 total_is (output_is ∙ equal_values p.input next.0 next.2) starts
-        ∙ ap total_of (sym (take_next inputs k next.0 next.1) ∙ ap (λ n. take n inputs) (sym (add-one k)))
+    pub added : (new : C) → AddsOutput Gives IsTotalOf IsAdmissible total output new → IsTotalOf (take (k + 1) inputs) new
+    added new adds = subst (λ xs. IsTotalOf xs new) (sym (take_next inputs k next.0 next.1) ∙ ap (λ n. take n inputs) (sym (add-one k)))
+        (adds (take k inputs) next.0 total_is (equal_values p.input next.0 output next.2 output_is) starts)

@@ -1,20 +1,21 @@
 -- Adding an output to a total, over any work. Its inputs are `A`, its outputs `B`, its totals `C`.
 -- To be believed.
-use Rattle.std.specs.Prelude.{◌≡◌, List, [], ◌∷◌, ◌++◌, Bool}
+use Rattle.std.specs.Prelude.{List, [], ◌∷◌, ◌++◌, Bool}
 use Rattle.std.specs.Cmp.Lexicographic.{pointwise}
 
 -- some admissible list begins with these inputs
 abbrev pub StartsAdmissible : {A : Type 0} → (List A → Type 0) → List A → Type 0
 StartsAdmissible {A} IsAdmissible xs = (rest : List A) × IsAdmissible (xs ++ rest)
 
-module _ {A B C : Type 0} (value_of : A → B) (total_of : List A → C) (IsAdmissible : List A → Type 0) where
+module _ {A B C : Type 0} (Gives : A → B → Type 0) (IsTotalOf : List A → C → Type 0)
+    (IsAdmissible : List A → Type 0) where
   -- the output may be added to the total: they are those of some inputs that an admissible list
   -- begins with
   pub record CanAdd (total : C) (output : B) : Type 0 where
     pub before : List A
     pub next : A
-    pub total_is : total ≡ total_of before
-    pub output_is : output ≡ value_of next
+    pub total_is : IsTotalOf before total
+    pub output_is : Gives next output
     pub admissible : StartsAdmissible IsAdmissible (before ++ next ∷ [])
 
   -- whichever inputs these are the total and the output of, the new total is that of the inputs
@@ -22,10 +23,10 @@ module _ {A B C : Type 0} (value_of : A → B) (total_of : List A → C) (IsAdmi
   abbrev pub AddsOutput : C → B → C → Type 0
   AddsOutput old output new =
       (before : List A) (next : A)
-      → old ≡ total_of before
-      → output ≡ value_of next
+      → IsTotalOf before old
+      → Gives next output
       → StartsAdmissible IsAdmissible (before ++ next ∷ [])
-      → new ≡ total_of (before ++ next ∷ [])
+      → IsTotalOf (before ++ next ∷ []) new
 
 -- two lists of inputs are as long and equal one by one
 abbrev pub same_inputs : {A : Type 0} → (A → A → Bool) → List A → List A → Bool

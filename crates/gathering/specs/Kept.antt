@@ -24,11 +24,11 @@ module _ {A : Type 0} (eq : A → A → Bool) where
     pub own : (k : ℕ) (p : PieceView A) → get_or places k None ≡ Some p → belongs eq inputs p ≡ true
 
   -- besides, the total is that of the first p inputs, whose places are empty
-  pub record IsFolded {C : Type 0} (total_of : List A → C) (inputs : List A) (p : ℕ) (total : C)
+  pub record IsFolded {C : Type 0} (IsTotalOf : List A → C → Type 0) (inputs : List A) (p : ℕ) (total : C)
       (places : List (Option (PieceView A))) : Type 0 where
     pub kept : IsKept inputs places
     pub within : p ≤ length inputs
-    pub total_is : total ≡ total_of (take p inputs)
+    pub total_is : IsTotalOf (take p inputs) total
     pub dropped : (k : ℕ) → k < p → get_or places k None ≡ None
 
 -- what one of two places holds, the first before the second

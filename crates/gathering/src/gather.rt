@@ -49,7 +49,7 @@ impl<W: Work, A: Allocator> Model for Gathering<W, A> {
     } };
 
     ghost invariant = { λ a.
-        IsFolded W.Input.eq W.total_of (arc_value a.inputs) a.folded a.total a.places.items };
+        IsFolded W.Input.eq W.IsTotalOf (arc_value a.inputs) a.folded a.total a.places.items };
 }
 
 /// How a piece was filed.
@@ -193,7 +193,7 @@ impl<W: Work, A: Allocator> Gathering<W, A> {
     /// handed back.
     pub fn total(self) -> Result<W::Total, TotalRefused<W, A>>
         ensures complete { OnOk result (IsComplete self) }
-        ensures total { IfOk result (λ total. total ≡ W.total_of self.inputs) }
+        ensures total { IfOk result (λ total. W.IsTotalOf self.inputs total) }
         ensures admissible { OnOk result (W.IsAdmissible self.inputs) }
         ensures refused { IfErr result (λ refused. IsRefusedFor self refused) }
         ensures handed_back { IfErr result (λ refused. handed_back refused ≡ self) }

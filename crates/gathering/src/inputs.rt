@@ -76,8 +76,8 @@ impl<W: Work> Inputs<W> {
         total: &mut W::Total,
         places: &mut Vec<Option<Piece<W>>, A>,
     ) -> Result<(), OutOfMemory>
-        requires { IsFolded W.Input.eq W.total_of self.now folded.old total.old places.old.items }
-        ensures folded { IsFolded W.Input.eq W.total_of self.now folded.new total.new places.new.items }
+        requires { IsFolded W.Input.eq W.IsTotalOf self.now folded.old total.old places.old.items }
+        ensures folded { IsFolded W.Input.eq W.IsTotalOf self.now folded.new total.new places.new.items }
         ensures covered { covered_tasks folded.new places.new.items
             ≡ covered_tasks folded.old places.old.items }
         ensures gap { OnOk result (get_or places.new.items folded.new None ≡ None) }

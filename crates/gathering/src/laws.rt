@@ -10,7 +10,7 @@ use crate::work::Work;
 /// Merging is commutative, associative and idempotent, over what `merge` leaves.
 ///
 /// If inputs are equal and not identical, what is left in either order is alike: the inputs are
-/// equal one by one, and the same tasks are covered. Gatherings that are alike have one total and
+/// equal one by one, and the same tasks are covered. Gatherings that are alike have the same totals and
 /// one first missing task, refuse the same pieces and the same gatherings, and are complete
 /// together.
 pub fn merge_is_a_join<W: Work>()
@@ -24,7 +24,7 @@ pub fn merge_is_a_join<W: Work>()
         → same_inputs W.Input.eq a.inputs b.inputs ≡ true
         → AreAlike W.Input.eq (merged a b) (merged b a) }
     ensures one_total { (a b : GatheringView W.Input) → AreAlike W.Input.eq a b
-        → W.total_of a.inputs ≡ W.total_of b.inputs }
+        → (total : W.Total) → W.IsTotalOf b.inputs total → W.IsTotalOf a.inputs total }
     ensures one_first_missing { (a b : GatheringView W.Input) (t u : ℕ) → AreAlike W.Input.eq a b
         → IsFirstMissing a t → IsFirstMissing b u → t ≡ u }
     ensures same_strangers { (a b : GatheringView W.Input) (p : PieceView W.Input)
@@ -51,13 +51,13 @@ pub fn alike_stay_alike<W: Work>()
         → same_inputs W.Input.eq xs a.inputs ≡ same_inputs W.Input.eq xs b.inputs }
 {}
 
-/// A list of inputs is the same as itself, its own pieces belong to it, and equal inputs have equal
-/// values.
+/// A list of inputs is the same as itself, its own pieces belong to it, and equal inputs have the
+/// same values.
 pub fn own_inputs_belong<W: Work>()
     ensures itself { (xs : List W.Input) → same_inputs W.Input.eq xs xs ≡ true }
     ensures own { (xs : List W.Input) (number : ℕ) (input : W.Input)
         → slice_get xs number ≡ Some input
         → belongs W.Input.eq xs (record { number = number; input = input }) ≡ true }
-    ensures values { (xs ys : List W.Input) → same_inputs W.Input.eq xs ys ≡ true
-        → map W.value_of xs ≡ map W.value_of ys }
+    ensures values { (x y : W.Input) (output : W.Output) → W.Input.eq x y ≡ true
+        → W.Gives x output → W.Gives y output }
 {}

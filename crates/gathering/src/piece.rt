@@ -8,9 +8,9 @@ use std::alloc::Global;
 use std::marker::Model;
 use std::sync::Arc;
 
-/// What one task gave: its number, the input that it was run on, and the value of that input.
+/// What one task gave: its number, the input that it was run on, and a value of that input.
 ///
-/// That its output is that value is kept by the type, so a piece that crossed a channel proves it.
+/// That its output is one is kept by the type, so a piece that crossed a channel proves it.
 /// Contracts see the number and the input.
 #[derive(Drop)]
 pub struct Piece<W: Work> {
@@ -28,7 +28,7 @@ impl<W: Work> Model for Piece<W> {
 
     ghost view = { λ a. record { number = a.number; input = arc_value a.input } };
 
-    ghost invariant = { λ a. a.output ≡ W.value_of (arc_value a.input) };
+    ghost invariant = { λ a. W.Gives (arc_value a.input) a.output };
 }
 
 impl<W: Work> Piece<W> {
@@ -63,9 +63,9 @@ impl<W: Work> Piece<W> {
         &self.input
     }
 
-    /// The value of that input.
+    /// A value of that input, as the run gave it.
     pub fn output(&self) -> &W::Output
-        ensures { result.now ≡ W.value_of self.now.input }
+        ensures { W.Gives self.now.input result.now }
     {
         &self.output
     }

@@ -5,49 +5,52 @@ ghost use Rattle.gathering.specs.Adding.{CanAdd, AddsOutput, same_inputs};
 use lists::OutOfMemory;
 use std::alloc::Global;
 
-/// Work that is done task by task: each input has a value, and each list of inputs a total.
+/// Work that is done task by task: a run of an input gives a value, and the values of a list of inputs add up to a
+/// total. What a run may give and what a list may add up to are relations, since a run may read what changes
+/// meanwhile, as a file; of most works they leave one value and one total.
 ///
 /// Threads share inputs, and send outputs and totals to one another.
 pub trait Work: Drop + Send {
-    /// What one task reads. Equal inputs have equal values.
+    /// What one task reads. A run of an input may give what one of an equal input may.
     type Input: Eq + Drop + Send + Sync;
 
-    /// The value of one input.
+    /// What a run of one input gives.
     type Output: Drop + Send;
 
     /// What the values of a list of inputs add up to.
     type Total: Drop + Send;
 
-    /// The value of an input.
-    ghost value_of: { Self.Input → Self.Output };
+    /// What a run of an input may give.
+    ghost Gives: { Self.Input → Self.Output → Type 0 };
 
-    /// The total of a list of inputs.
-    ghost total_of: { List Self.Input → Self.Total };
+    /// What a list of inputs may add up to.
+    ghost IsTotalOf: { List Self.Input → Self.Total → Type 0 };
 
     /// The lists of inputs that may be worked on.
     ghost IsAdmissible: { List Self.Input → Type 0 };
 
-    /// The value of an input. It may be run more than once on one input, on any thread.
+    /// A value of an input. It may be run more than once on one input, on any thread.
     fn run(alloc: Global, input: &Self::Input) -> Result<Self::Output, OutOfMemory>
-        ensures { IfOk result (λ output. output ≡ value_of input.now) };
+        ensures { IfOk result (λ output. Gives input.now output) };
 
-    /// The total of no inputs.
+    /// A total of no inputs.
     fn empty(alloc: Global) -> Self::Total
-        ensures { result ≡ total_of [] };
+        ensures { IsTotalOf [] result };
 
-    /// Makes the total of a list into that of the list with one input more; without memory it
+    /// Makes a total of a list into one of the list with one input more; without memory it
     /// leaves it.
     ///
     /// The longer list has to begin some admissible list.
     fn add(total: &mut Self::Total, output: &Self::Output) -> Result<(), OutOfMemory>
-        requires { CanAdd value_of total_of IsAdmissible total.old output.now }
-        ensures ok { OnOk result (AddsOutput value_of total_of IsAdmissible total.old output.now total.new) }
+        requires { CanAdd Gives IsTotalOf IsAdmissible total.old output.now }
+        ensures ok { OnOk result (AddsOutput Gives IsTotalOf IsAdmissible total.old output.now total.new) }
         ensures err { OnErr result (total.new ≡ total.old) };
 
-    /// Equal inputs have equal values.
-    ghost equal_values: { (a b : Self.Input) → Self.Input.eq a b ≡ true → value_of a ≡ value_of b };
+    /// What a run of an input may give, one of an equal input may.
+    ghost equal_values: { (a b : Self.Input) (output : Self.Output) → Self.Input.eq a b ≡ true
+        → Gives a output → Gives b output };
 
-    /// Lists of equal inputs have equal totals.
+    /// What a list of inputs may add up to, a list of equal inputs may.
     ghost equal_totals: { (xs ys : List Self.Input) → same_inputs Self.Input.eq xs ys ≡ true
-        → total_of xs ≡ total_of ys };
+        → (total : Self.Total) → IsTotalOf ys total → IsTotalOf xs total };
 }

@@ -61,7 +61,7 @@ fn start<R: Threads + Wait + Sync, K: Sink, L: Sink>(
     match (file, by_blocks) {
         (Some(file), Some(length)) => {
             let source = FileBlocks::of(file);
-            perform_blocks(threads, rt.alloc(), job, &source, length, out, errors)
+            perform_blocks(threads, rt.alloc(), job, source, length, out, errors)
         }
         (file, _) => perform_opened(threads, rt.alloc(), job, file.map(Counted::of), out, errors),
     }

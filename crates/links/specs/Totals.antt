@@ -1,8 +1,8 @@
 -- What a link may be given.
 -- To be believed.
-use Rattle.std.specs.Prelude.{◌≡◌, List}
+use Rattle.std.specs.Prelude.{List}
 
--- it is the total of some admissible list of inputs
-abbrev pub IsTotal : {A T : Type 0} → (List A → T) → (List A → Type 0) → T → Type 0
-IsTotal {A} total_of IsAdmissible total =
-    (inputs : List A) × IsAdmissible inputs × (total ≡ total_of inputs)
+-- it is a total of some admissible list of inputs
+abbrev pub IsTotal : {A T : Type 0} → (List A → T → Type 0) → (List A → Type 0) → T → Type 0
+IsTotal {A} IsTotalOf IsAdmissible total =
+    (inputs : List A) × IsAdmissible inputs × IsTotalOf inputs total

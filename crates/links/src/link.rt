@@ -1,5 +1,5 @@
 //! From the total of the first pipeline to the inputs of the second.
-ghost use Rattle.std.specs.Prelude.{◌≡◌, IfOk, List};
+ghost use Rattle.std.specs.Prelude.{IfOk, List};
 ghost use Rattle.links.specs.declared.linked.Linked.{Linked};
 ghost use Rattle.links.specs.Totals.{IsTotal};
 
@@ -15,8 +15,8 @@ pub trait Link<A: Work, B: Work> {
     /// What it halts with.
     type Stop: Drop;
 
-    /// What a total is linked to.
-    ghost linked: { Self → A.Total → Linked (List B.Input) Self.Kept Self.Stop };
+    /// What a total may be linked to.
+    ghost Links: { Self → A.Total → Linked (List B.Input) Self.Kept Self.Stop → Type 0 };
 
     /// What the total is linked to. Without memory it gives nothing, and the total is gone.
     fn link(
@@ -24,6 +24,6 @@ pub trait Link<A: Work, B: Work> {
         alloc: Global,
         total: A::Total,
     ) -> Result<Linked<Inputs<B>, Self::Kept, Self::Stop>, OutOfMemory>
-        requires { IsTotal A.total_of A.IsAdmissible total }
-        ensures { IfOk result (λ l. l ≡ linked self.now total) };
+        requires { IsTotal A.IsTotalOf A.IsAdmissible total }
+        ensures { IfOk result (Links self.now total) };
 }

@@ -5,14 +5,13 @@
 //! its threads changes the answer.
 #![tactic(auto)]
 
+pub mod laws;
 mod outcome;
 mod pair;
 
-pub use crew_threads::{
-    Crew, FreeGate, Gate, KeepingPort, Port, Task, run_ahead, total_of_pieces, work,
-};
+pub use crew_threads::{Crew, FreeGate, Gate, KeepingPort, Port, Task, run_ahead, work};
 pub use dispatcher::{Dispatcher, Seat};
 pub use gathering::{Gathering, Inputs, OutOfMemory, Piece, Work};
 pub use links::{Link, Linked};
 pub use outcome::Outcome;
-pub use pair::{run_pair, run_second};
+pub use pair::{run_pair, run_second, total_of_pieces};

@@ -1,12 +1,12 @@
-//! Two pipelines on threads.
-ghost use Rattle.std.specs.Prelude.{◌≡◌, IfOk};
+//! Two pipelines on threads, and each of them alone.
+ghost use Rattle.std.specs.Prelude.{◌≡◌, IfOk, OnOk};
 ghost use Rattle.std.specs.Arc.{arc_value};
 ghost use Rattle.links.specs.Totals.{IsTotal};
-ghost use Rattle.pipelines.specs.Outcomes.{outcome_of};
+ghost use Rattle.pipelines.specs.Outcomes.{IsOutcome};
 
 use crate::outcome::Outcome;
 use crew_threads::{Crew, Gate, run_pipeline};
-use gathering::{Inputs, OutOfMemory, Work};
+use gathering::{Inputs, OutOfMemory, Piece, Work};
 use links::{Link, Linked};
 use std::alloc::Global;
 use std::sync::{Arc, Wait};
@@ -33,19 +33,46 @@ pub fn run_pair<A: Work, B: Work, L: Link<A, B>, G: Gate, R: Threads + Wait + Sy
     crew: Crew,
     gate: &G,
 ) -> Result<Outcome<B::Total, L::Kept, L::Stop>, OutOfMemory>
-    ensures { IfOk result (λ outcome. outcome
-        ≡ outcome_of B.total_of (L.linked link.now (A.total_of (arc_value inputs)))) }
+    ensures { IfOk result (IsOutcome (A.IsTotalOf (arc_value inputs)) (L.Links link.now) B.IsTotalOf) }
 {
     thread::scope(
         thread::scope_env(),
         rt,
         move |scope| -> Result<Outcome<B::Total, L::Kept, L::Stop>, OutOfMemory>
-            ensures { IfOk result (λ outcome. outcome
-                ≡ outcome_of B.total_of
-                (L.linked link.entry.now (A.total_of (arc_value inputs)))) }
+            ensures { IfOk result
+                (IsOutcome (A.IsTotalOf (arc_value inputs)) (L.Links link.entry.now) B.IsTotalOf) }
         {
-            let total = run_pipeline(scope, rt, alloc, inputs, crew, gate, 1)?;
+            let total = run_pipeline(scope, rt, alloc, inputs, Vec::new(alloc), crew, gate, 1)?;
             go_on(scope, rt, alloc, total, link, crew, gate)
+        },
+    )
+}
+
+/// The total of all inputs of one pipeline, some of whose tasks were run ahead: these are their pieces,
+/// in whatever order, repeated or not. One of other work is dropped. The tasks that no piece covers are
+/// run by the crew, as `run_pair` runs those of a pipeline, but each is given to a worker once: its first
+/// giving was its run ahead. If there is no piece at all, it is given twice.
+pub fn total_of_pieces<W: Work, G: Gate, R: Threads + Wait + Sync>(
+    rt: &R,
+    alloc: Global,
+    inputs: &Arc<Inputs<W>, Global>,
+    pieces: Vec<Piece<W>>,
+    crew: Crew,
+    gate: &G,
+    pipeline: u8,
+) -> Result<W::Total, OutOfMemory>
+    ensures total { IfOk result (λ total. W.IsTotalOf (arc_value inputs.now) total) }
+    ensures admissible { OnOk result (W.IsAdmissible (arc_value inputs.now)) }
+{
+    thread::scope(
+        thread::scope_env(),
+        rt,
+        move |scope| -> Result<W::Total, OutOfMemory>
+            ensures total { IfOk result (λ total. W.IsTotalOf (arc_value inputs.entry.now) total) }
+            ensures admissible { OnOk result (W.IsAdmissible (arc_value inputs.entry.now)) }
+        {
+            let inputs = Arc::try_clone(inputs)?;
+            run_pipeline(scope, rt, alloc, inputs, pieces, crew, gate, pipeline)
         },
     )
 }
@@ -60,16 +87,15 @@ pub fn run_second<A: Work, B: Work, L: Link<A, B>, G: Gate, R: Threads + Wait + 
     crew: Crew,
     gate: &G,
 ) -> Result<Outcome<B::Total, L::Kept, L::Stop>, OutOfMemory>
-    requires total { IsTotal A.total_of A.IsAdmissible total }
-    ensures outcome { IfOk result (λ outcome. outcome ≡ outcome_of B.total_of (L.linked link.now total)) }
+    requires total { IsTotal A.IsTotalOf A.IsAdmissible total }
+    ensures outcome { IfOk result (IsOutcome (λ first. first ≡ total) (L.Links link.now) B.IsTotalOf) }
 {
     thread::scope(
         thread::scope_env(),
         rt,
         move |scope| -> Result<Outcome<B::Total, L::Kept, L::Stop>, OutOfMemory>
-            requires { IsTotal A.total_of A.IsAdmissible total }
-            ensures { IfOk result (λ outcome. outcome
-                ≡ outcome_of B.total_of (L.linked link.entry.now total)) }
+            requires { IsTotal A.IsTotalOf A.IsAdmissible total }
+            ensures { IfOk result (IsOutcome (λ first. first ≡ total) (L.Links link.entry.now) B.IsTotalOf) }
         { go_on(scope, rt, alloc, total, link, crew, gate) },
     )
 }
@@ -84,14 +110,14 @@ fn go_on<'s, E, A: Work, B: Work + 's, L: Link<A, B>, G: Gate, R: Threads + Wait
     crew: Crew,
     gate: &'s G,
 ) -> Result<Outcome<B::Total, L::Kept, L::Stop>, OutOfMemory>
-    requires { IsTotal A.total_of A.IsAdmissible total }
-    ensures { IfOk result (λ outcome. outcome ≡ outcome_of B.total_of (L.linked link.now total)) }
+    requires { IsTotal A.IsTotalOf A.IsAdmissible total }
+    ensures { IfOk result (IsOutcome (λ first. first ≡ total) (L.Links link.now) B.IsTotalOf) }
 {
     match link.link(alloc, total)? {
         Linked::Halt { stop } => Ok(Outcome::Stopped { stop }),
         Linked::Next { inputs, kept } => {
             let inputs = Arc::new(alloc, inputs)?;
-            let total = run_pipeline(scope, rt, alloc, inputs, crew, gate, 2)?;
+            let total = run_pipeline(scope, rt, alloc, inputs, Vec::new(alloc), crew, gate, 2)?;
             Ok(Outcome::Finished { total, kept })
         }
     }

@@ -128,7 +128,7 @@ total_by_place inputs number cut =
         (few_trades cut.as_of (concat cut.runs) frames stands cut.within)
 
 -- so has that of a total of one cut
-pub rows_by_place : (total : ScanTotalView) (number : ℕ) → IsTotal total_of AreOfOneCut total
+pub rows_by_place : (total : ScanTotalView) (number : ℕ) → IsTotal (λ inputs total. total ≡ total_of inputs) AreOfOneCut total
     → AreRowsByPlace (joined_partitions (map (partition_at number) total.morsels))
 rows_by_place total number (inputs, cut, is) =
     subst (λ (t : ScanTotalView). AreRowsByPlace (joined_partitions (map (partition_at number) t.morsels))) (sym is) (total_by_place inputs number cut)

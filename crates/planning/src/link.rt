@@ -76,7 +76,7 @@ impl<'a> Link<ScanWork, BucketWork> for PlanLink<'a> {
 
     type Stop = WrongLength;
 
-    ghost linked = { linked_to };
+    ghost Links = { λ link total l. l ≡ linked_to link total };
 
     fn link(
         &self,

@@ -9,11 +9,12 @@ use Rattle.day_file.specs.Kept.{numbered}
 use Rattle.meaning.specs.Meaning.{Meaning}
 use Rattle.answers.specs.Answers.{IsAnswerToMessages, told_by}
 use Rattle.answers.specs.declared.answer.Answer.{Answer}
-use Rattle.schedules.specs.Rehearsals.{after_link, unless_missing}
+use Rattle.schedules.specs.Rehearsals.{IsRehearsed as IsRehearsedPair, after_link, unless_missing}
 use Rattle.schedules.specs.Schedules.{first_left}
 use Rattle.schedules.specs.declared.event.Event.{Event}
 use Rattle.schedules.specs.declared.rehearsed.Rehearsed.{Rehearsed}
 use Rattle.schedules.specs.declared.rehearsed.Rehearsed.TheVariants as pair
+use Rattle.schedules.proofs.OneRehearsed.{one_rehearsed}
 use Rattle.scanning.specs.Scans.{ScanInputView, ScanTotalView, inputs_of, total_of}
 use Rattle.scanning.specs.declared.wrong.WrongLength.{WrongLength}
 use Rattle.scanning.proofs.MorselInputs.{length-numbered}
@@ -21,7 +22,7 @@ use Rattle.buckets.specs.BucketRows.{BucketView}
 use Rattle.buckets.specs.Buckets.{total_found}
 use Rattle.buckets.specs.FoundRows.{TotalView}
 use Rattle.joining.specs.Gathered.{AreGatheredOf}
-use Rattle.planning.specs.Planned.{LinkView, all_directory, linked_to, planned_bucket}
+use Rattle.planning.specs.Planned.{LinkView, ToBuckets, all_directory, linked_to, planned_bucket}
 use Rattle.rehearsals.specs.Rehearsals.{IsRehearsed}
 use Rattle.runs.specs.FirstPipeline.{AreRuns, wrong_fault}
 use Rattle.rehearsals.specs.declared.rehearsing.Rehearsal.TheVariants as rehearsal
@@ -106,10 +107,14 @@ module _ (runs : List (List ℕ)) (query : Meaning) (parts gatherers : ℕ) (eve
       (after_link total_found gatherers events2 (linked_to (link runs query parts) (total_of (inputs_of query.as_of parts runs))))
 
   pub given_by : (inputs : List ScanInputView) (to : LinkView) (r : Pair) → inputs ≡ inputs_of query.as_of parts runs → to ≡ link runs query parts
-      → r ≡ unless_missing 1 (first_left gatherers (length inputs) events1) (after_link total_found gatherers events2 (linked_to to (total_of inputs)))
+      → IsRehearsedPair (length inputs) (λ (first : ScanTotalView). first ≡ total_of inputs)
+      (λ (first : ScanTotalView) (l : ToBuckets). l ≡ linked_to to first) (λ (seconds : List BucketView) (t : TotalView). t ≡ total_found seconds)
+      gatherers events1 events2 r
       → r ≡ given
   given_by inputs to r same linked is =
-      is ∙ (λ i. unless_missing 1 (first_left gatherers (length (same i)) events1)
+      one_rehearsed (length inputs) _ _ _ gatherers events1 events2 (total_of inputs) (linked_to to) total_found
+      (λ f e. e) (λ f l e. e) (λ seconds t e. e) r is
+      ∙ (λ i. unless_missing 1 (first_left gatherers (length (same i)) events1)
       (after_link total_found gatherers events2 (linked_to (linked i) (total_of (same i)))))
 
   tasks : length (inputs_of query.as_of parts runs) ≡ length runs

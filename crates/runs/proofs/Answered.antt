@@ -5,20 +5,28 @@ use Rattle.row_types.specs.declared.directory.DirectoryRow.{DirectoryRow}
 use Rattle.meaning.specs.Meaning.{Meaning}
 use Rattle.answers.specs.Answers.{IsAnswer, IsAnswerToMessages}
 use Rattle.outcomes.specs.declared.day_fault.DayFault.{DayFault}
-use Rattle.pipelines.specs.Outcomes.{outcome_of}
+use Rattle.pipelines.specs.Outcomes.{IsOutcome, outcome_of}
 use Rattle.pipelines.specs.declared.outcome.Outcome.{Outcome}
 use Rattle.pipelines.specs.declared.outcome.Outcome.TheVariants as pair
+use Rattle.pipelines.proofs.OneOutcome.{one_outcome}
 use Rattle.scanning.specs.Scans.{ScanInputView, ScanTotalView, inputs_of, total_of}
 use Rattle.scanning.specs.declared.wrong.WrongLength.{WrongLength}
+use Rattle.buckets.specs.BucketRows.{BucketView}
 use Rattle.buckets.specs.Buckets.{total_found}
 use Rattle.buckets.specs.FoundRows.{TotalView}
 use Rattle.joining.specs.Gathered.{AreGatheredOf}
-use Rattle.planning.specs.Planned.{LinkView, all_directory, linked_to}
+use Rattle.planning.specs.Planned.{LinkView, ToBuckets, all_directory, linked_to}
 use Rattle.runs.specs.FirstPipeline.{AreRuns, wrong_fault}
 use Rattle.runs.proofs.CutAnswers.{answered_by, buckets, gathered_by, halted_by, link, messages, scan}
 
 abbrev Pair : Type 0
 Pair = Outcome TotalView (List DirectoryRow) WrongLength
+
+-- by this link a pair may give this for this total
+abbrev pub IsGiven : LinkView → ScanTotalView → Pair → Type 0
+IsGiven to total =
+    IsOutcome (λ (first : ScanTotalView). first ≡ total) (λ (first : ScanTotalView) (l : ToBuckets). l ≡ linked_to to first)
+    (λ (inputs : List BucketView) (t : TotalView). t ≡ total_found inputs)
 
 -- what comes after the first pipeline: its stop, or the second
 abbrev stopped_or : Option WrongLength → Pair → Pair
@@ -52,11 +60,13 @@ module _ (runs : List (List ℕ)) (query : Meaning) (parts : ℕ) (are : AreRuns
   given = outcome_of total_found (linked_to (link runs query parts) (total_of (inputs_of query.as_of parts runs)))
 
   pub given_of : (total : ScanTotalView) (to : LinkView) (r : Pair) → total ≡ total_of (inputs_of query.as_of parts runs) → to ≡ link runs query parts
-      → r ≡ outcome_of total_found (linked_to to total) → r ≡ given
-  given_of total to r same linked is = is ∙ (λ i. outcome_of total_found (linked_to (linked i) (same i)))
+      → IsGiven to total r → r ≡ given
+  given_of total to r same linked is =
+      one_outcome _ _ _ total (linked_to to) total_found (λ f e. e) (λ f l e. e) (λ inputs t e. e) r is
+      ∙ (λ i. outcome_of total_found (linked_to (linked i) (same i)))
 
   pub given_by : (inputs : List ScanInputView) (to : LinkView) (r : Pair) → inputs ≡ inputs_of query.as_of parts runs → to ≡ link runs query parts
-      → r ≡ outcome_of total_found (linked_to to (total_of inputs)) → r ≡ given
+      → IsGiven to (total_of inputs) r → r ≡ given
   given_by inputs to r same linked is = given_of (total_of inputs) to r (ap total_of same) linked is
 
   abbrev found : Pair

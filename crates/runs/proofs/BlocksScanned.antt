@@ -1,14 +1,80 @@
 -- What the blocks of a source give is what the scans of a cut of its bytes do.
-use Rattle.std.proofs.Common.{ℕ, ◌≤◌, List, Option, arith}
+use Rattle.std.proofs.Common.{◌≡◌, ℕ, ◌<◌, ◌≤◌, List, Option, arith, ap, ◌∙◌, refl}
 use Rattle.lists.specs.declared.limits.TheConstants.{LONGEST_FILE}
-use Rattle.scanning.specs.Scans.{ScanTotalView}
+use Rattle.row_types.specs.declared.directory.DirectoryRow.{DirectoryRow}
+use Rattle.meaning.specs.Meaning.{Meaning}
+use Rattle.links.specs.declared.linked.Linked.TheVariants.{Next, Halt}
+use Rattle.pipelines.specs.Outcomes.{IsOutcome, outcome_of}
+use Rattle.pipelines.specs.declared.outcome.Outcome.{Outcome}
+use Rattle.pipelines.specs.declared.outcome.Outcome.TheVariants as pair
+use Rattle.links.specs.Totals.{IsTotal}
+use Rattle.scanning.specs.Scans.{AreOfOneCut, ScanTotalView, inputs_of, total_of}
+use Rattle.scanning.specs.declared.wrong.WrongLength.{WrongLength as FoundWrong}
+use Rattle.buckets.specs.Buckets.{total_found}
+use Rattle.buckets.specs.FoundRows.{TotalView}
+use Rattle.planning.specs.Planned.{ToBuckets, linked_to}
+use Rattle.block_scan.specs.Attempts.{AreOf, blocks_of}
+use Rattle.block_scan.specs.Pieces.{IsAskable}
 use Rattle.block_scan.specs.ScannedBlocks.{IsScannedWhole}
-use Rattle.runs.specs.FirstPipeline.{IsScanOf}
+use Rattle.block_scan.specs.declared.request.Request.{Request}
+use Rattle.block_scan.proofs.BlocksAndAttempts.{attempts_of_blocks}
+use Rattle.runs.specs.FirstPipeline.{AreRuns}
+use Rattle.runs.specs.LinkedBlocks.{IsLinkedWhole, IsOutcomeOfBlocks, IsOutcomeOfWhole, LinksAttempts}
+use Rattle.runs.specs.declared.calls.block_link.BlocksStop.{BlocksStop}
+use Rattle.runs.specs.declared.calls.block_link.BlocksStop.TheVariants.{Refused, WrongLength}
 
-pub scan_of : {S : Type 0} (GaveAt : S → ℕ → List ℕ → Type 0) (EndsAt : S → ℕ → Type 0) (source : S) (limit : ℕ) (as_of : Option ℕ) (parts : ℕ)
-    (total : ScanTotalView) (scanned : IsScannedWhole GaveAt EndsAt source limit as_of parts total) → limit ≤ LONGEST_FILE
-    → IsScanOf as_of parts total scanned.runs
-scan_of GaveAt EndsAt source limit as_of parts total scanned most = record {
-  cut = record { each = scanned.each; bytes = scanned.bytes; within = omega (arith, scanned.gave.within, most) };
-  is = scanned.are;
-}
+module _ {S : Type 0} (GaveAt : S → ℕ → List ℕ → Type 0) (EndsAt : S → ℕ → Type 0) where
+  are_runs : (source : S) (limit : ℕ) (as_of : Option ℕ) (parts : ℕ) (total : ScanTotalView)
+      (scanned : IsScannedWhole GaveAt EndsAt source limit as_of parts total) → limit ≤ LONGEST_FILE → AreRuns scanned.runs
+  are_runs source limit as_of parts total scanned most =
+      record { each = scanned.each; bytes = scanned.bytes; within = omega (arith, scanned.gave.within, most) }
+
+  module _ (FailsAt : S → ℕ → Type 0) (source : S) (request : Request) (query : Meaning) (same : request.as_of ≡ query.as_of)
+      (asks : IsAskable request) where
+    -- what a total of all that the source gave is linked to, and what comes of that
+    whole : (linked : ToBuckets) (outcome : Outcome TotalView (List DirectoryRow) FoundWrong)
+        → IsLinkedWhole GaveAt EndsAt FailsAt source request (record { query = query; parts = request.parts }) linked
+        → outcome ≡ outcome_of total_found linked → IsOutcomeOfWhole GaveAt EndsAt FailsAt source request.limit query outcome
+    whole linked outcome w is =
+        let to = linked_to (record { query = query; parts = request.parts }) in
+        record {
+          runs = w.whole.runs;
+          gave = w.whole.gave;
+          is = record {
+            parts = request.parts;
+            some = asks.some;
+            cut = are_runs source request.limit request.as_of request.parts w.total w.whole asks.limit;
+            is = is ∙ ap (outcome_of total_found) (w.is ∙ ap to (rw (← same) w.whole.are));
+          };
+        }
+
+    pub outcome_is : (count : ℕ) → 0 < count → (outcome : Outcome TotalView (List DirectoryRow) BlocksStop)
+        → IsOutcome (AreOf (blocks_of source request count)) (LinksAttempts GaveAt EndsAt FailsAt (record { query = query; parts = request.parts }))
+        (λ inputs total. total ≡ total_found inputs) outcome
+        → IsOutcomeOfBlocks GaveAt EndsAt FailsAt source request.limit query outcome
+    outcome_is count n (pair.Finished total kept) (first, inputs, are, links, found) =
+        let of = attempts_of_blocks source request count first n are in
+        whole (Next inputs kept) (pair.Finished total kept) (links source request of) (ap (λ t. pair.Finished t kept) found)
+    outcome_is count n (pair.Stopped (WrongLength wrong)) (first, are, links) =
+        let of = attempts_of_blocks source request count first n are in
+        whole (Halt wrong) (pair.Stopped wrong) (links source request of) refl
+    outcome_is count n (pair.Stopped (Refused fault)) (first, are, links) =
+        links source request (attempts_of_blocks source request count first n are)
+
+  -- a total of all that a source gave is that of the scans of some cut
+  pub of_one_cut : (source : S) (request : Request) → IsAskable request → (total : ScanTotalView)
+      → IsScannedWhole GaveAt EndsAt source request.limit request.as_of request.parts total
+      → IsTotal (λ inputs t. t ≡ total_of inputs) AreOfOneCut total
+  of_one_cut source request asks total scanned = (
+    inputs_of request.as_of request.parts scanned.runs,
+    record {
+      runs = scanned.runs;
+      each = scanned.each;
+      within = omega (arith, scanned.gave.within, asks.limit);
+      as_of = request.as_of;
+      parts = request.parts;
+      some = asks.some;
+      are = refl;
+    },
+    scanned.are,
+  )

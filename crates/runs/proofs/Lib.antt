@@ -3,3 +3,4 @@ pub mod CutAnswers
 pub mod Answered
 pub mod BlocksScanned
 pub mod HandedOver
+pub mod OneRun

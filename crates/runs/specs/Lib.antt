@@ -1,5 +1,6 @@
 pub mod Readings
 pub mod Runs
 pub mod FirstPipeline
+pub mod LinkedBlocks
 pub mod Sources
 pub mod CutRead

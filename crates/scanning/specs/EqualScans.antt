@@ -11,13 +11,13 @@ use Rattle.std.proofs.lemmas.List.{map-id}
 use Rattle.day_file.specs.Cuts.{MorselView, is_same_morsel}
 use Rattle.gathering.proofs.EqualInputs.{map_alike}
 use Rattle.gathering.specs.Adding.{same_inputs}
-use Rattle.scanning.specs.Scans.{ScanInputView, is_same_input, scanned, total_of}
+use Rattle.scanning.specs.Scans.{ScanInputView, ScanTotalView, ScanView, is_same_input, scanned, total_of}
 
-and_left : (a b : Bool) → (a && b) ≡ true → a ≡ true
+pub and_left : (a b : Bool) → (a && b) ≡ true → a ≡ true
 and_left true b h = refl
 and_left false b h = h
 
-and_right : (a b : Bool) → (a && b) ≡ true → b ≡ true
+pub and_right : (a b : Bool) → (a && b) ≡ true → b ≡ true
 and_right true b h = h
 and_right false b h = cc
 
@@ -29,7 +29,7 @@ same_morsel a b same =
     let bytes = same_text a.bytes b.bytes (sym (and_right _ _ same)) in
     λ i. record { number = number i; start = start i; bytes = bytes i }
 
-same_moment : (a b : Option ℕ) → option_eq nat_eq a b ≡ true → a ≡ b
+pub same_moment : (a b : Option ℕ) → option_eq nat_eq a b ≡ true → a ≡ b
 same_moment None None same = refl
 same_moment None (Some b) same = absurd (cc)
 same_moment (Some a) None same = absurd (cc)
@@ -43,14 +43,15 @@ same_input a b same =
     let parts = eqb-true a.parts b.parts (and_right _ _ same) in
     λ i. record { morsel = morsel i; as_of = as_of i; parts = parts i }
 
-pub equal_scans : (a b : ScanInputView) → is_same_input a b ≡ true → scanned a ≡ scanned b
-equal_scans a b same = ap scanned (same_input a b same)
+pub equal_scans : (a b : ScanInputView) (output : ScanView) → is_same_input a b ≡ true → output ≡ scanned a
+    → output ≡ scanned b
+equal_scans a b output same is = is ∙ ap scanned (same_input a b same)
 
 pub equal_totals : (xs ys : List ScanInputView) → same_inputs is_same_input xs ys ≡ true
-    → total_of xs ≡ total_of ys
-equal_totals xs ys same =
+    → (total : ScanTotalView) → total ≡ total_of ys → total ≡ total_of xs
+equal_totals xs ys same total is =
     let one_by_one = map_alike is_same_input (λ x. x) same_input xs ys same in
-    ap total_of (sym (map-id xs) ∙ one_by_one ∙ map-id ys)
+    is ∙ sym (ap total_of (sym (map-id xs) ∙ one_by_one ∙ map-id ys))
 
 morsel_equiv : IsEquivalence is_same_morsel
 morsel_equiv =

@@ -20,7 +20,7 @@ use std::marker::Model;
 const BYTES_AN_ORDER: u64 = 54;
 
 /// The most bytes that room is taken for at once, so that a long block takes no more.
-const MOST_AT_ONCE: u64 = 4 << 20;
+const MOST_AT_ONCE: u64 = 32 << 20;
 
 /// What the frames that were taken in so far give: the rows of their messages that count, and the least
 /// wrong length.
@@ -41,7 +41,7 @@ impl Model for OpenScan {
 impl OpenScan {
     /// The scan of no frames, whose rows will stand in so many partitions. `bytes` is how many bytes the
     /// frames are expected to have, and only tells for how many order rows room is taken at once: about as
-    /// many as so many bytes of a day give, and no more than 4 MiB do.
+    /// many as so many bytes of a day give, and no more than 32 MiB do.
     pub fn new(alloc: Global, parts: u32, bytes: u64) -> Result<Self, OutOfMemory>
         requires { (0 < parts) × (parts ≤ MOST_PARTITIONS) }
         ensures { IfOk result (λ scan. (as_of : Option ℕ) → scan ≡ scan_of parts as_of []) }

@@ -23,9 +23,9 @@ impl Work for ScanWork {
 
     type Total = ScanTotal;
 
-    ghost value_of = { scanned };
+    ghost Gives = { λ input output. output ≡ scanned input };
 
-    ghost total_of = { total_of };
+    ghost IsTotalOf = { λ inputs total. total ≡ total_of inputs };
 
     ghost IsAdmissible = { AreOfOneCut };
 

@@ -1,2 +1,3 @@
--- Lemmas that several proofs share.
+-- Lemmas that several proofs share, those of crates above among them.
+pub mod OneRehearsed
 pub mod Schedules

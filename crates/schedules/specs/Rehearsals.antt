@@ -1,6 +1,6 @@
 -- What a pair of pipelines gives by two schedules.
 -- To be believed.
-use Rattle.std.specs.Prelude.{ℕ, List, Option, Some, None, length}
+use Rattle.std.specs.Prelude.{◌≡◌, ◌⊎◌, ℕ, List, Option, Some, None, length}
 use Rattle.schedules.specs.Schedules.{first_left}
 use Rattle.schedules.specs.declared.event.Event.{Event}
 use Rattle.links.specs.declared.linked.Linked.{Linked}
@@ -8,6 +8,25 @@ use Rattle.links.specs.declared.linked.Linked.TheVariants.{Next, Halt}
 use Rattle.schedules.specs.declared.rehearsed.Rehearsed.{Rehearsed}
 use Rattle.schedules.specs.declared.rehearsed.Rehearsed.TheVariants.{Finished, Stopped, Missing}
 
+-- Which answers two schedules may have. The first pipeline has so many tasks. `IsFirst` says which totals of it there
+-- may be, `Links` what one may be linked to, and `IsTotalOf` what a list of inputs of the second may add up to.
+module _ {F I T K S : Type 0} (tasks : ℕ) (IsFirst : F → Type 0) (Links : F → Linked (List I) K S → Type 0)
+    (IsTotalOf : List I → T → Type 0) (gatherers : ℕ) (events1 events2 : List Event) where
+  -- the first task that has not arrived, of the first pipeline, or else of the second; or else what comes of both
+  abbrev pub IsRehearsed : Rehearsed T K S → Type 0
+  IsRehearsed (Missing pipeline task) =
+      ((pipeline ≡ 1) × (first_left gatherers tasks events1 ≡ Some task))
+      ⊎ ((pipeline ≡ 2) × (first_left gatherers tasks events1 ≡ None)
+      × ((first : F) × (inputs : List I) × (kept : K) × IsFirst first × Links first (Next inputs kept)
+      × (first_left gatherers (length inputs) events2 ≡ Some task)))
+  IsRehearsed (Finished total kept) =
+      (first_left gatherers tasks events1 ≡ None)
+      × ((first : F) × (inputs : List I) × IsFirst first × Links first (Next inputs kept)
+      × (first_left gatherers (length inputs) events2 ≡ None) × IsTotalOf inputs total)
+  IsRehearsed (Stopped stop) =
+      (first_left gatherers tasks events1 ≡ None) × ((first : F) × IsFirst first × Links first (Halt stop))
+
+-- What follows is of works and a link that are functions.
 module _ {T K S : Type 0} where
   -- a task of the pipeline is missing, or else it goes on
   abbrev pub unless_missing : ℕ → Option ℕ → Rehearsed T K S → Rehearsed T K S

@@ -1,12 +1,32 @@
-//! A law of schedules. It is the contract of a function that does nothing.
-ghost use Rattle.std.specs.Prelude.{◌≡◌, ℕ, ◌&&◌, nat_lt, List, replicate};
+//! Laws of schedules. Each is the contract of a function that does nothing.
+ghost use Rattle.std.specs.Prelude.{◌≡◌, ℕ, ◌&&◌, nat_lt, List, length, replicate};
 ghost use Rattle.std.specs.FinSet.{empty};
-ghost use Rattle.schedules.specs.Schedules.{after_all, has_arrived, some_covers};
+ghost use Rattle.links.specs.declared.linked.Linked.{Linked as TheLinked};
+ghost use Rattle.schedules.specs.Rehearsals.{IsRehearsed, after_link, unless_missing};
+ghost use Rattle.schedules.specs.Schedules.{after_all, first_left, has_arrived, some_covers};
 ghost use Rattle.schedules.specs.declared.event.Event.{Event};
+ghost use Rattle.schedules.specs.declared.rehearsed.Rehearsed.{Rehearsed as TheRehearsed};
+
+use gathering::Work;
+use links::Link;
 
 /// The tasks that have arrived are always those that some gatherer covers, from empty gatherers on.
 pub fn arrived_tasks_are_covered()
     ensures { (gatherers tasks : ℕ) (events : List Event) (task : ℕ)
         → some_covers (after_all tasks events (replicate gatherers empty)) task
         ≡ (nat_lt task tasks && has_arrived gatherers events task) }
+{}
+
+/// Where each list of inputs has one total and each total is linked to one thing, two schedules have one answer.
+pub fn functions_have_one_rehearsal<A: Work, B: Work, L: Link<A, B>>()
+    ensures { (link : L) (inputs : List A.Input) (total_of_first : List A.Input → A.Total)
+        (linked : A.Total → TheLinked (List B.Input) L.Kept L.Stop) (total_of : List B.Input → B.Total)
+        (gatherers : ℕ) (events1 events2 : List Event) (rehearsed : TheRehearsed B.Total L.Kept L.Stop) →
+        ((first : A.Total) → A.IsTotalOf inputs first → first ≡ total_of_first inputs) →
+        ((first : A.Total) (l : TheLinked (List B.Input) L.Kept L.Stop) → L.Links link first l → l ≡ linked first) →
+        ((seconds : List B.Input) (total : B.Total) → B.IsTotalOf seconds total → total ≡ total_of seconds) →
+        IsRehearsed (length inputs) (A.IsTotalOf inputs) (L.Links link) B.IsTotalOf
+        gatherers events1 events2 rehearsed →
+        rehearsed ≡ unless_missing 1 (first_left gatherers (length inputs) events1)
+        (after_link total_of gatherers events2 (linked (total_of_first inputs))) }
 {}

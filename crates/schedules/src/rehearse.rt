@@ -3,7 +3,7 @@ ghost use Rattle.std.specs.Prelude.{◌≡◌, ℕ, ◌<◌, ◌≤◌, ◌&&◌
 ghost use Rattle.std.specs.Prelude.{length};
 ghost use Rattle.std.specs.Arc.{arc_value};
 ghost use Rattle.std.specs.FinSet.{contains};
-ghost use Rattle.schedules.specs.Rehearsals.{after_link, unless_missing};
+ghost use Rattle.schedules.specs.Rehearsals.{IsRehearsed};
 ghost use Rattle.schedules.specs.Schedules.{covered_sets, first_left, has_arrived, some_covers};
 
 use crate::event::{Event, apply_all};
@@ -29,10 +29,8 @@ pub fn rehearse_pair<A: Work, B: Work, L: Link<A, B>>(
     events2: &[Event],
 ) -> Result<Rehearsed<B::Total, L::Kept, L::Stop>, OutOfMemory>
     requires { (0 < gatherers) × (gatherers ≤ 64) }
-    ensures { IfOk result (λ rehearsed. rehearsed
-        ≡ unless_missing 1 (first_left gatherers (length (arc_value inputs)) events1.now)
-        (after_link B.total_of gatherers events2.now
-        (L.linked link.now (A.total_of (arc_value inputs))))) }
+    ensures { IfOk result (IsRehearsed (length (arc_value inputs)) (A.IsTotalOf (arc_value inputs))
+        (L.Links link.now) B.IsTotalOf gatherers events1.now events2.now) }
 {
     let total = match rehearse_pipeline(alloc, alloc, inputs, gatherers, events1)? {
         Ok(total) => total,
@@ -63,7 +61,7 @@ pub fn rehearse_pipeline<W: Work, M: Allocator + Clone>(
     requires { (0 < gatherers) × (gatherers ≤ 64) }
     ensures answer { IfOk result (λ answer. MatchResult answer
         (λ total. (first_left gatherers (length (arc_value inputs)) events.now ≡ None)
-        × (total ≡ W.total_of (arc_value inputs)))
+        × W.IsTotalOf (arc_value inputs) total)
         (λ task. first_left gatherers (length (arc_value inputs)) events.now ≡ Some task)) }
     ensures admissible { IfOk result (λ answer. OnOk answer (W.IsAdmissible (arc_value inputs))) }
 {

@@ -1,8 +1,6 @@
 //! Blocks of a file that gives few bytes a call, and fails at some places.
-use crate::digests::told_by_blocks;
-use block_scan::{BlocksFault, FileBlocks, Memory};
-use std::io;
-use std::os::unix::fs::FileExt;
+use crate::digests::{division_of, told_by_blocks};
+use block_scan::{BlocksFault, DeviceFailed, FileBlocks, Memory, ReadsAt};
 use std::test::Fail;
 use tests_support::{BROKEN_EARLIER, Day};
 
@@ -14,19 +12,26 @@ struct Disk<'a> {
     bad: u64,
 }
 
-impl<'a> FileExt for Disk<'a> {
-    fn read_at(&self, buf: &mut [u8], offset: u64) -> io::Result<usize> {
-        if offset >= self.bad {
-            return Err(io::Error::from(io::ErrorKind::Interrupted));
+impl<'a> ReadsAt for Disk<'a> {
+    ghost use Rattle.std.specs.Prelude.{Some};
+
+    ghost contents = { λ disk. Some disk.bytes.now };
+
+    fn get(&self, place: u64, into: &mut [u8]) -> Result<usize, DeviceFailed> {
+        if place >= self.bad {
+            return Err(DeviceFailed);
         }
-        let rest = self.bytes.get(offset as usize..).unwrap_or(&[]);
-        let count = self.step.min(buf.len()).min(rest.len());
-        buf[..count].copy_from_slice(&rest[..count]);
+        if place >= self.bytes.len() as u64 {
+            return Ok(0);
+        }
+        let rest = &self.bytes[place as usize..];
+        let count = self.step.max(1).min(into.len()).min(rest.len());
+        into[..count].copy_from_slice(&rest[..count]);
         Ok(count)
     }
 
-    fn write_at(&self, _buf: &[u8], _offset: u64) -> io::Result<usize> {
-        Err(io::Error::from(io::ErrorKind::Interrupted))
+    fn is_same(&self, other: &Self) -> bool {
+        self.bytes == other.bytes
     }
 }
 
@@ -34,7 +39,13 @@ impl<'a> FileExt for Disk<'a> {
 fn a_file_that_gives_few_bytes_a_call(rt: HostRuntime) -> Result<(), Fail> {
     let alloc = rt.alloc();
     let bytes = Day::of(alloc, &BROKEN_EARLIER)?.bytes;
-    let want = told_by_blocks(&rt, alloc, &Memory { bytes: &bytes }, 1_000, 133, 1)?;
+    let want = told_by_blocks(
+        &rt,
+        alloc,
+        Memory { bytes: &bytes },
+        1_000,
+        division_of(1, 133),
+    )?;
     for step in [1, 5, 60] {
         for blocks in [1, 3] {
             let source = FileBlocks::of(Disk {
@@ -42,7 +53,7 @@ fn a_file_that_gives_few_bytes_a_call(rt: HostRuntime) -> Result<(), Fail> {
                 step,
                 bad: u64::MAX,
             });
-            let told = told_by_blocks(&rt, alloc, &source, 1_000, 133, blocks);
+            let told = told_by_blocks(&rt, alloc, source, 1_000, division_of(blocks, 133));
             assert!(rt; told == Ok(want), "{step} in {blocks}");
         }
     }
@@ -61,7 +72,7 @@ fn a_reading_that_fails(rt: HostRuntime) -> Result<(), Fail> {
                 step: 10,
                 bad,
             });
-            let told = told_by_blocks(&rt, alloc, &source, 1_000, 133, blocks);
+            let told = told_by_blocks(&rt, alloc, source, 1_000, division_of(blocks, 133));
             assert!(rt; told == Err(BlocksFault::ReadFailed), "{bad} in {blocks}");
         }
     }

@@ -2,12 +2,13 @@
 ghost use Rattle.std.specs.Prelude.{◌≤◌};
 ghost use Rattle.lists.specs.declared.limits.TheConstants.{LONGEST_FILE};
 
-use block_scan::{BlockSource, BlocksFault, OutOfMemory, scan_blocks};
+use block_scan::{BlockSource, BlocksFault, Division, OutOfMemory, block_inputs};
 use lists::limits::LONGEST_FILE;
 use morsel_rows::{MorselRows, Partition};
+use pipelines::{Crew, FreeGate, total_of_pieces};
 use scanning::ScanTotal;
 use std::alloc::Global;
-use std::sync::Arc;
+use std::sync::{Arc, Wait};
 use std::thread::Threads;
 
 /// In how many partitions the tests keep rows.
@@ -95,17 +96,36 @@ pub fn digest_of_total(alloc: Global, total: ScanTotal) -> Result<Digest, OutOfM
     digest_of(alloc, &total.into_rows(), wrong)
 }
 
-/// What so many blocks of a source give, of which this length is told.
-pub fn told_by_blocks<R: Threads + Sync, S: BlockSource + Sync>(
+/// So many blocks, by which a source of this length would be divided evenly.
+pub fn division_of(blocks: u32, length: u64) -> Division {
+    let blocks = blocks.clamp(1, 64);
+    let bytes = (length / u64::from(blocks)).min(LONGEST_FILE - 1) + 1;
+    Division { bytes, blocks }
+}
+
+/// What the blocks of a source give, with as many workers as there are blocks.
+pub fn told_by_blocks<R: Threads + Wait + Sync, S: BlockSource + Send + Sync>(
     rt: &R,
     alloc: Global,
-    source: &S,
+    source: S,
     limit: u64,
-    length: u64,
-    blocks: u32,
+    division: Division,
 ) -> Result<Digest, BlocksFault>
     requires { limit ≤ LONGEST_FILE }
 {
-    let total = scan_blocks(rt, alloc, source, None, PARTS, limit, length, blocks)?;
+    let Ok(source) = Arc::new(alloc, source) else {
+        return Err(BlocksFault::OutOfMemory);
+    };
+    let inputs = block_inputs(alloc, &source, None, PARTS, limit, division)?;
+    let Ok(inputs) = Arc::new(alloc, inputs) else {
+        return Err(BlocksFault::OutOfMemory);
+    };
+    let crew = Crew {
+        workers: division.blocks.clamp(1, 64),
+        gatherers: 1,
+    };
+    let pieces = Vec::new(alloc);
+    let attempts = total_of_pieces(rt, alloc, &inputs, pieces, crew, &FreeGate, 1)?;
+    let total = attempts.join(alloc)?;
     Ok(digest_of_total(alloc, total)?)
 }

@@ -1,5 +1,5 @@
 //! Blocks of bytes in memory.
-use crate::digests::{Digest, PARTS, digest_of, told_by_blocks};
+use crate::digests::{Digest, PARTS, digest_of, division_of, told_by_blocks};
 use block_scan::{BlocksFault, Memory, OutOfMemory};
 use day_file::{LONGEST_FILE, cut};
 use gathering::Work;
@@ -69,9 +69,15 @@ fn blocks_give_what_morsels_give(rt: HostRuntime) -> Result<(), Fail> {
     ] {
         let bytes = day_of(alloc, forms, times)?;
         let want = told_by_morsels(alloc, day_of(alloc, forms, times)?)?;
-        let source = Memory { bytes: &bytes };
         for (blocks, length) in DIVISIONS {
-            let told = told_by_blocks(&rt, alloc, &source, LONGEST_FILE, length, blocks);
+            let source = Memory { bytes: &bytes };
+            let told = told_by_blocks(
+                &rt,
+                alloc,
+                source,
+                LONGEST_FILE,
+                division_of(blocks, length),
+            );
             assert!(rt; told == Ok(want), "{blocks} of {length}");
         }
     }
@@ -99,7 +105,8 @@ fn a_day_is_read_to_its_end_within_the_limit(rt: HostRuntime) -> Result<(), Fail
         ),
     ] {
         for blocks in [0, 1, 2, 7] {
-            let told = told_by_blocks(&rt, rt.alloc(), &Memory { bytes }, limit, 3, blocks);
+            let source = Memory { bytes };
+            let told = told_by_blocks(&rt, rt.alloc(), source, limit, division_of(blocks, 3));
             assert!(rt; told == want, "{blocks} up to {limit}");
         }
     }

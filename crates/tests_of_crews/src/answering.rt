@@ -1,11 +1,14 @@
-//! What `answer` tells in the tests.
+//! What `answer` and `answer_blocks` tell in the tests.
 ghost use Rattle.std.specs.Prelude.{◌≡◌, ◌<◌, ◌≤◌};
 ghost use Rattle.lists.specs.declared.limits.TheConstants.{MOST_PARTITIONS};
 
 use day_file::cut;
-use executor::{Answer, Crew, DayFault, Gate, OutOfMemory, answer, parse};
+use executor::{
+    Answer, Crew, DayFault, Division, Gate, LONGEST_FILE, Memory, OutOfMemory, Settings, answer,
+    answer_blocks, parse,
+};
 use std::alloc::Global;
-use std::sync::Wait;
+use std::sync::{Arc, Wait};
 use std::test::Fail;
 use std::thread::Threads;
 use tests_support::{Day, Form, file_of};
@@ -34,10 +37,27 @@ pub const TWO: Crew = Crew {
     gatherers: 1,
 };
 
-/// What `answer` tells of a query over these frames, with a morsel for each and so many partitions.
+/// What the tasks of the first pipeline are.
+#[derive(Clone, Copy, Debug, PartialEq, Eq)]
+pub enum Way {
+    /// Morsels of a cut, one for each frame.
+    Morsels,
+    /// Blocks of 34 bytes of a source that is read at places, as many as there are frames.
+    Blocks,
+}
+
+pub const WAYS: [Way; 2] = [Way::Morsels, Way::Blocks];
+
+/// A source of these bytes, to be shared.
+fn shared(alloc: Global, bytes: &[u8]) -> Result<Arc<Memory<'_>, Global>, OutOfMemory> {
+    Ok(Arc::new(alloc, Memory { bytes })?)
+}
+
+/// What is told of a query over these frames, with so many partitions.
 pub fn told_of_day<G: Gate, R: Threads + Wait + Sync>(
     rt: &R,
     alloc: Global,
+    way: Way,
     query: &str,
     forms: &[Form],
     parts: u32,
@@ -47,7 +67,26 @@ pub fn told_of_day<G: Gate, R: Threads + Wait + Sync>(
     requires { (0 < parts) × (parts ≤ MOST_PARTITIONS) }
 {
     let query = parse(alloc, query)?;
-    let file = file_of(Day::of(alloc, forms)?.bytes)?;
-    let cut = cut(alloc, &file, 1)?;
-    Ok(told_of(alloc, answer(rt, alloc, &cut, &query, parts, crew, gate)?)?)
+    let bytes = Day::of(alloc, forms)?.bytes;
+    let found = match way {
+        Way::Morsels => {
+            let cut = cut(alloc, &file_of(bytes)?, 1)?;
+            answer(rt, alloc, &cut, &query, parts, crew, gate)?
+        }
+        Way::Blocks => {
+            let source = shared(alloc, bytes.as_slice())?;
+            let division = Division {
+                bytes: 34,
+                blocks: forms.len().clamp(1, 64) as u32,
+            };
+            let settings = Settings {
+                crew,
+                morsel: 1,
+                parts,
+                limit: LONGEST_FILE,
+            };
+            answer_blocks(rt, alloc, &source, division, &query, settings, gate)?
+        }
+    };
+    Ok(told_of(alloc, found)?)
 }

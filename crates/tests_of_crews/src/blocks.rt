@@ -1,20 +1,24 @@
 //! Days that are read at places, by several threads at once.
+ghost use Rattle.std.specs.Prelude.{◌≡◌, ◌≤◌, length};
+
 use crate::answering::HEADER;
 use executor::{
-    BlockSource, CountedSink, Crew, DeviceFailed, Memory, QueryFault, RunFault, Settings,
-    run_blocks,
+    Answer, BlockSource, CountedSink, Crew, DeviceFailed, Division, FileBlocks, FreeGate, Memory,
+    OutOfMemory, Query, QueryFault, ReadsAt, RunFault, Settings, answer_blocks, parse, run_blocks,
 };
 use std::alloc::Global;
-use std::sync::Wait;
+use std::sync::atomic::{AtomicBool, AtomicU64, Ordering};
+use std::sync::{Arc, Wait};
 use std::test::Fail;
 use std::thread::Threads;
-use tests_support::{BROKEN_EARLIER, Day, UNNAMED};
+use tests_support::{BROKEN_EARLIER, Day, Form, UNNAMED};
+use tests_works::hold;
 
 /// What `run_blocks` gives with so many workers, and what was written.
-fn told_by_blocks<R: Threads + Wait + Sync, S: BlockSource + Sync>(
+fn told_by_blocks<R: Threads + Wait + Sync, S: BlockSource + Send + Sync>(
     rt: &R,
     alloc: Global,
-    source: &S,
+    source: S,
     length: u64,
     text: &str,
     limit: u32,
@@ -35,35 +39,36 @@ fn told_by_blocks<R: Threads + Wait + Sync, S: BlockSource + Sync>(
     (told, written)
 }
 
-/// A device that gives two bytes a call of a day, and fails from a place on.
+/// A file that gives two bytes a call of a day, and fails from a place on.
 #[derive(Drop)]
 struct Frail<'a> {
     bytes: &'a [u8],
     fails_at: u64,
 }
 
-impl<'a> BlockSource for Frail<'a> {
-    ghost GaveAt = { λ s place bytes. Unit {0} };
-
-    ghost EndsAt = { λ s place. Unit {0} };
-
-    ghost FailsAt = { λ s place. Unit {0} };
-
-    ghost gave_nothing = { λ s place. tt };
-
-    ghost gave_more = { λ s place xs ys p q. tt };
-
-    ghost gave_front = { λ s place xs ys p. tt };
-
-    ghost gave_back = { λ s place xs ys p. tt };
-
-    fn read_at(&self, place: u64, into: &mut [u8]) -> Result<usize, DeviceFailed> {
+impl<'a> ReadsAt for Frail<'a> {
+    fn get(&self, place: u64, into: &mut [u8]) -> Result<usize, DeviceFailed> {
         if place >= self.fails_at {
             return Err(DeviceFailed);
         }
         let most = into.len().min(2);
-        Memory { bytes: self.bytes }.read_at(place, &mut into[..most])
+        Ok(copied(self.bytes, place, &mut into[..most]))
     }
+
+    fn is_same(&self, _other: &Self) -> bool {
+        true
+    }
+}
+
+/// Copies what stands at a place, and says how many bytes that is.
+fn copied(bytes: &[u8], place: u64, into: &mut [u8]) -> usize
+    ensures len { length into.new ≡ length into.old }
+    ensures count { result ≤ length into.new }
+{
+    let rest = bytes.get(place as usize..).unwrap_or(&[]);
+    let count = rest.len().min(into.len());
+    into[..count].copy_from_slice(&rest[..count]);
+    count
 }
 
 /// The limit, from which place on the device fails, the query, and what is told of 71 bytes.
@@ -82,11 +87,11 @@ fn a_device_that_fails_or_is_too_long_leaves_the_sink_alone(rt: HostRuntime) -> 
         (71, 0, "sale", unknown),
     ];
     for (limit, fails_at, text, want) in table {
-        let source = Frail {
+        let source = FileBlocks::of(Frail {
             bytes: bytes.as_slice(),
             fails_at,
-        };
-        let (told, written) = told_by_blocks(&rt, rt.alloc(), &source, 71, text, limit, 3);
+        });
+        let (told, written) = told_by_blocks(&rt, rt.alloc(), source, 71, text, limit, 3);
         assert!(rt;
             told == want && written.is_empty() == want.is_err(),
             "{limit} {fails_at}"
@@ -102,9 +107,169 @@ fn blocks_answer_or_want_memory(rt: HostRuntime) -> Result<(), Fail> {
     let source = Memory {
         bytes: bytes.as_slice(),
     };
-    let (told, written) = told_by_blocks(&rt, rt.alloc(), &source, u64::MAX, "sales", 1_000, 2);
+    let (told, written) = told_by_blocks(&rt, rt.alloc(), source, 3 * HALF, "sales", 1_000, 2);
     let want = if told.is_ok() { HEADER } else { "" };
     assert!(rt; written.as_slice() == want.as_bytes());
     told?;
+    Ok(())
+}
+
+/// Where the second of two blocks begins.
+const HALF: u64 = 1 << 20;
+
+/// A file of two blocks, the first readings of which wait for one another, if `meets` is set. It counts the
+/// bytes that are read.
+#[derive(Drop)]
+struct Meeting<'a> {
+    bytes: &'a [u8],
+    meets: bool,
+    first: AtomicBool,
+    second: AtomicBool,
+    gave_up: AtomicBool,
+    count: AtomicU64,
+}
+
+impl<'a> Meeting<'a> {
+    fn of(bytes: &'a [u8], meets: bool) -> Self {
+        Meeting {
+            bytes,
+            meets,
+            first: AtomicBool::new(false),
+            second: AtomicBool::new(false),
+            gave_up: AtomicBool::new(false),
+            count: AtomicU64::new(0),
+        }
+    }
+}
+
+impl<'a> ReadsAt for &Meeting<'a> {
+    fn get(&self, place: u64, into: &mut [u8]) -> Result<usize, DeviceFailed> {
+        let count = copied(self.bytes, place, into);
+        if count > 0 {
+            self.count.fetch_add(count as u64, Ordering::SeqCst);
+            let (own, other) = if place < HALF {
+                (&self.first, &self.second)
+            } else {
+                (&self.second, &self.first)
+            };
+            own.store(true, Ordering::SeqCst);
+            if self.meets {
+                hold(other, &self.gave_up);
+            }
+        }
+        Ok(count)
+    }
+
+    fn is_same(&self, _other: &Self) -> bool {
+        true
+    }
+}
+
+/// A day of a little more than two blocks, all of one trade.
+fn long_day(alloc: Global) -> Result<Vec<u8>, OutOfMemory> {
+    let trade = Day::of(alloc, &[Form::P(1, 10_000, 9)])?.bytes;
+    let mut bytes = Vec::new(alloc);
+    for _ in 0..2 * HALF / 46 + 1 {
+        bytes.extend_from_slice(&trade)?;
+    }
+    Ok(bytes)
+}
+
+/// A query that no trade of the day answers.
+const NONE: &str = "sales where symbol in NONE";
+
+#[test]
+fn two_threads_read_at_once(rt: HostRuntime) -> Result<(), Fail> {
+    let bytes = long_day(rt.alloc())?;
+    let meeting = Meeting::of(bytes.as_slice(), true);
+    let source = FileBlocks::of(&meeting);
+    let (told, written) = told_by_blocks(&rt, rt.alloc(), source, 2 * HALF, NONE, u32::MAX, 2);
+    assert!(rt; told == Ok(()) && written.as_slice() == HEADER.as_bytes());
+    assert!(rt; !meeting.gave_up.load(Ordering::SeqCst));
+    Ok(())
+}
+
+/// One worker is given no block twice. A guess looks at 4,096 bytes of the second block, and for the last frame of
+/// the first one as many are read behind its target.
+#[test]
+fn no_byte_is_read_twice_but_for_guesses(rt: HostRuntime) -> Result<(), Fail> {
+    let bytes = long_day(rt.alloc())?;
+    let meeting = Meeting::of(bytes.as_slice(), false);
+    let source = FileBlocks::of(&meeting);
+    let (told, _) = told_by_blocks(&rt, rt.alloc(), source, 2 * HALF, NONE, u32::MAX, 1);
+    assert!(rt; told == Ok(()));
+    let count = meeting.count.load(Ordering::SeqCst);
+    assert!(rt; count <= bytes.len() as u64 + 8_192, "{count}");
+    Ok(())
+}
+
+/// A file of which the reading of this number fails.
+#[derive(Drop)]
+struct Failing<'a> {
+    bytes: &'a [u8],
+    bad: u64,
+    readings: AtomicU64,
+}
+
+impl<'a> ReadsAt for Failing<'a> {
+    fn get(&self, place: u64, into: &mut [u8]) -> Result<usize, DeviceFailed> {
+        if self.readings.fetch_add(1, Ordering::SeqCst) == self.bad {
+            return Err(DeviceFailed);
+        }
+        Ok(copied(self.bytes, place, into))
+    }
+
+    fn is_same(&self, _other: &Self) -> bool {
+        true
+    }
+}
+
+/// What one worker answers by four blocks, where this reading fails.
+fn answered_but_for<R: Threads + Wait + Sync>(
+    rt: &R,
+    alloc: Global,
+    bytes: &[u8],
+    query: &Query,
+    bad: u64,
+) -> Result<Answer, RunFault> {
+    let failing = Failing {
+        bytes,
+        bad,
+        readings: AtomicU64::new(0),
+    };
+    let Ok(source) = Arc::new(alloc, FileBlocks::of(failing)) else {
+        return Err(RunFault::OutOfMemory);
+    };
+    let division = Division {
+        bytes: 34,
+        blocks: 4,
+    };
+    let settings = Settings {
+        crew: Crew {
+            workers: 1,
+            gatherers: 1,
+        },
+        morsel: 1,
+        parts: 3,
+        limit: 1_000,
+    };
+    answer_blocks(rt, alloc, &source, division, query, settings, &FreeGate)
+}
+
+/// The byte at the limit is asked for, each block but the first is guessed at, and each is read once or more.
+#[test]
+fn each_reading_that_fails_is_reported(rt: HostRuntime) -> Result<(), Fail> {
+    let alloc = rt.alloc();
+    let bytes = Day::of(alloc, &BROKEN_EARLIER)?.bytes;
+    let query = parse(alloc, "sales")?;
+    let mut failed = 0;
+    for bad in 0..100 {
+        let told = answered_but_for(&rt, alloc, bytes.as_slice(), &query, bad);
+        if matches!(told, Err(RunFault::ReadFailed)) {
+            assert!(rt; failed == bad);
+            failed += 1;
+        }
+    }
+    assert!(rt; failed >= 8 && failed < 100, "{failed}");
     Ok(())
 }

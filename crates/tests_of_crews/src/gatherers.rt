@@ -1,16 +1,24 @@
 //! Days that are answered by several gatherers.
-use crate::answering::{text, told_of_day};
+use crate::answering::{WAYS, text, told_of_day};
 use crate::threads::is_answered;
 use executor::{Crew, FreeGate};
 use std::test::Fail;
 use tests_gates::{Heard, Hold, Warden};
 use tests_support::NAMED;
 
+/// Two workers, and two gatherers.
+const PAIRS: Crew = Crew {
+    workers: 2,
+    gatherers: 2,
+};
+
 #[test]
 fn every_number_of_gatherers_gives_one_answer(rt: HostRuntime) -> Result<(), Fail> {
     for (workers, gatherers) in [(1, 8), (2, 2), (3, 2), (64, 8)] {
         let crew = Crew { workers, gatherers };
-        is_answered(&rt, rt.alloc(), crew, &FreeGate)?;
+        for way in WAYS {
+            is_answered(&rt, rt.alloc(), way, crew, &FreeGate)?;
+        }
     }
     Ok(())
 }
@@ -23,15 +31,24 @@ fn overlap_over_two_gatherers(rt: HostRuntime) -> Result<(), Fail> {
         Hold::first(1, 0, Heard::Again(1, 0)),
         Hold::first(2, 1, Heard::Again(2, 1)),
     ];
-    let gate = Warden::of(alloc, &holds)?;
-    let crew = Crew {
-        workers: 2,
-        gatherers: 2,
-    };
-    let told = told_of_day(&rt, alloc, "bars 1 m", &NAMED, 64, crew, &gate)?;
     let bar = "symbol,start,first,high,low,last,volume,trades,average\n\
         MSFT,09:30:00,410.5000,410.5000,410.5000,410.5000,40,1,410.5000+0/40\n";
-    assert!(rt; told == text(alloc, bar)?);
-    assert!(rt; gate.never_gave_up() && !gate.is_run_by_caller());
+    for way in WAYS {
+        let gate = Warden::of(alloc, &holds)?;
+        let told = told_of_day(&rt, alloc, way, "bars 1 m", &NAMED, 64, PAIRS, &gate)?;
+        assert!(rt; told == text(alloc, bar)?);
+        assert!(rt; gate.never_gave_up() && !gate.is_run_by_caller(), "{way:?}");
+    }
+    Ok(())
+}
+
+/// With one gatherer the second pipeline wouldn't wait for a slow worker of the first.
+#[test]
+fn several_gatherers_wait_for_all_workers(rt: HostRuntime) -> Result<(), Fail> {
+    for way in WAYS {
+        let gate = Warden::of(rt.alloc(), &[Hold::first(1, 0, Heard::Pipeline(2))])?;
+        is_answered(&rt, rt.alloc(), way, PAIRS, &gate)?;
+        assert!(rt; gate.gave_up(0) && !gate.is_run_by_caller(), "{way:?}");
+    }
     Ok(())
 }

@@ -1,6 +1,6 @@
 //! Answers that are also asked for with each allocation of the process refused in turn, and with threads that
 //! can't be started: what comes is the right answer, or want of memory.
-use crate::answering::{HEADER, TWO, text, told_of_day};
+use crate::answering::{HEADER, TWO, WAYS, text, told_of_day};
 use executor::FreeGate;
 use std::test::Fail;
 use tests_support::{BROKEN_EARLIER, Form, NAMED};
@@ -21,8 +21,10 @@ const ASKED: [(&str, &[Form], &str); 2] = [
 fn answer_or_want_of_memory(rt: HostRuntime) -> Result<(), Fail> {
     let alloc = rt.alloc();
     for (query, forms, want) in ASKED {
-        let told = told_of_day(&rt, alloc, query, forms, 2, TWO, &FreeGate)?;
-        assert!(rt; told == text(alloc, want)?, "{query}");
+        for way in WAYS {
+            let told = told_of_day(&rt, alloc, way, query, forms, 2, TWO, &FreeGate)?;
+            assert!(rt; told == text(alloc, want)?, "{query}");
+        }
     }
     Ok(())
 }

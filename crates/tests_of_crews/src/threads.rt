@@ -1,5 +1,5 @@
 //! A day that is answered by few workers, while a gate holds or counts their runs.
-use crate::answering::{HEADER, TWO, text, told_of_day};
+use crate::answering::{HEADER, TWO, WAYS, Way, text, told_of_day};
 use executor::{Crew, FreeGate, Gate};
 use std::alloc::Global;
 use std::process::Abort;
@@ -9,29 +9,31 @@ use std::thread::Threads;
 use tests_gates::{Counter, Heard, Hold, Warden};
 use tests_support::BROKEN_EARLIER;
 
-/// `sales` of a day whose one sale is broken is answered, with a morsel for each of its four frames and 64
-/// partitions.
+/// `sales` of a day whose one sale is broken is answered, with four tasks and 64 partitions.
 pub fn is_answered<G: Gate, R: Threads + Wait + Abort + Sync>(
     rt: &R,
     alloc: Global,
+    way: Way,
     crew: Crew,
     gate: &G,
 ) -> Result<(), Fail> {
-    let told = told_of_day(rt, alloc, "sales", &BROKEN_EARLIER, 64, crew, gate)?;
+    let told = told_of_day(rt, alloc, way, "sales", &BROKEN_EARLIER, 64, crew, gate)?;
     assert!(rt; told == text(alloc, HEADER)?);
     Ok(())
 }
 
 #[test]
 fn one_worker_runs_each_task_once(rt: HostRuntime) -> Result<(), Fail> {
-    is_answered(&rt, rt.alloc(), TWO, &FreeGate)?;
-    let gate = Counter::new(rt.alloc(), 4, 64)?;
     let one = Crew {
         workers: 1,
         gatherers: 1,
     };
-    is_answered(&rt, rt.alloc(), one, &gate)?;
-    assert!(rt; gate.is_each_run_once());
+    for way in WAYS {
+        is_answered(&rt, rt.alloc(), way, TWO, &FreeGate)?;
+        let gate = Counter::new(rt.alloc(), 4, 64)?;
+        is_answered(&rt, rt.alloc(), way, one, &gate)?;
+        assert!(rt; gate.is_each_run_once(), "{way:?}");
+    }
     Ok(())
 }
 
@@ -41,9 +43,11 @@ fn is_answered_under<R: Threads + Wait + Abort + Sync>(
     alloc: Global,
     holds: &[Hold],
 ) -> Result<(), Fail> {
-    let gate = Warden::of(alloc, holds)?;
-    is_answered(rt, alloc, TWO, &gate)?;
-    assert!(rt; gate.never_gave_up() && !gate.is_run_by_caller());
+    for way in WAYS {
+        let gate = Warden::of(alloc, holds)?;
+        is_answered(rt, alloc, way, TWO, &gate)?;
+        assert!(rt; gate.never_gave_up() && !gate.is_run_by_caller(), "{way:?}");
+    }
     Ok(())
 }
 

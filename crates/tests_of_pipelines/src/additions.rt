@@ -2,7 +2,7 @@
 ghost use Rattle.std.specs.Prelude.{◌≡◌, ◌==◌, ◌<◌, ◌≤◌, ◌^◌, length, sum};
 ghost use Rattle.std.specs.Cmp.Lexicographic.{same_text};
 ghost use Rattle.std.specs.Cmp.Rules.{comparing};
-ghost use Rattle.std.proofs.Common.{rules, ap, sym};
+ghost use Rattle.std.proofs.Common.{rules, ◌∙◌, ap, sym};
 ghost use Rattle.std.proofs.lemmas.Bool.{eqb-true};
 ghost use Rattle.lists.specs.declared.limits.TheConstants.{MOST_TASKS};
 ghost use Rattle.links.specs.declared.linked.Linked.TheVariants.{Halt};
@@ -88,15 +88,15 @@ impl Work for SumTogether {
 
     type Total = u128;
 
-    ghost value_of = { λ input. input };
+    ghost Gives = { λ input value. value ≡ input };
 
-    ghost total_of = { sum };
+    ghost IsTotalOf = { λ inputs total. total ≡ sum inputs };
 
     ghost IsAdmissible = { λ inputs. sum inputs < 2 ^ 128 };
 
-    ghost equal_values = { λ a b same. eqb-true a b same };
+    ghost equal_values = { λ a b value same gives. gives ∙ eqb-true a b same };
 
-    ghost equal_totals = { λ xs ys same. ap sum (same_text xs ys (sym same)) };
+    ghost equal_totals = { λ xs ys same total is. is ∙ ap sum (sym (same_text xs ys (sym same))) };
 
     fn run(_alloc: Global, input: &Number) -> Result<Number, OutOfMemory> {
         Ok(Number {
@@ -124,7 +124,7 @@ impl Link<SumTogether, SumTogether> for HaltWithTotal {
 
     type Stop = u128;
 
-    ghost linked = { λ link total. Halt total };
+    ghost Links = { λ link total answer. answer ≡ Halt total };
 
     fn link(
         &self,

@@ -1,7 +1,8 @@
 //! Tasks that are run before all inputs are known, and the total of their pieces.
 ghost use Rattle.std.specs.Prelude.{◌≡◌, ◌<◌, ◌≤◌, length};
 
-use crate::threads::{Ledger, counts};
+use crate::gatherers::{Order, Run, TWO_AND_TWO};
+use crate::threads::{Ledger, ONE, TWO, counts};
 use crossbeam_channel::Sender;
 use pipelines::{FreeGate, Inputs, OutOfMemory, Piece, Task, run_ahead, total_of_pieces};
 use std::alloc::Global;
@@ -70,49 +71,51 @@ const ALL: [(u32, u64); 8] = [
     (7, 128),
 ];
 
-/// What the caller runs of the tasks, after these were run ahead.
+/// What a worker runs of the tasks, after these were run ahead.
 #[derive(Clone, Copy)]
 struct Row {
     tasks: &'static [(u32, u64)],
-    by_caller: [u64; 8],
+    by_worker: [u64; 8],
 }
 
 const ROWS: [Row; 6] = [
     Row {
         tasks: &ALL,
-        by_caller: [0; 8],
+        by_worker: [0; 8],
     },
     // None.
     Row {
         tasks: &[],
-        by_caller: [1; 8],
+        by_worker: [1; 8],
     },
     // Two of them, in another order, and repeated.
     Row {
         tasks: &[(7, 128), (0, 1), (7, 128), (7, 128)],
-        by_caller: [0, 1, 1, 1, 1, 1, 1, 0],
+        by_worker: [0, 1, 1, 1, 1, 1, 1, 0],
     },
     // All but the first.
     Row {
         tasks: &[(7, 128), (6, 64), (5, 32), (4, 16), (3, 8), (2, 4), (1, 2)],
-        by_caller: [1, 0, 0, 0, 0, 0, 0, 0],
+        by_worker: [1, 0, 0, 0, 0, 0, 0, 0],
     },
     // The input of another task, a number past the last, and one that is neither.
     Row {
         tasks: &[(1, 1), (8, 1), (0, 3)],
-        by_caller: [1; 8],
+        by_worker: [1; 8],
     },
     // The same, and the right one.
     Row {
         tasks: &[(1, 1), (1, 2)],
-        by_caller: [1, 0, 1, 1, 1, 1, 1, 1],
+        by_worker: [1, 0, 1, 1, 1, 1, 1, 1],
     },
 ];
 
+/// A task was given for the first time ahead, or if nothing was run ahead, to the worker.
 #[test]
-fn what_was_not_run_ahead_is_run_by_the_caller(rt: HostRuntime) -> Result<(), Fail> {
+fn what_was_not_run_ahead_is_run_by_a_worker(rt: HostRuntime) -> Result<(), Fail> {
     let alloc = rt.alloc();
-    for Row { tasks, by_caller } in ROWS {
+    for Row { tasks, by_worker } in ROWS {
+        let (round, other) = if tasks.is_empty() { (0, 1) } else { (1, 0) };
         for workers in [1, 3] {
             let ahead = Watch::shared(alloc)?;
             let pieces = pieces_of(&rt, alloc, &ahead, tasks, workers)?;
@@ -120,13 +123,31 @@ fn what_was_not_run_ahead_is_run_by_the_caller(rt: HostRuntime) -> Result<(), Fa
             let watch = Watch::shared(alloc)?;
             let gate = Ledger::new(alloc, &watch)?;
             let inputs = shared_inputs_of(alloc, &watch, &NUMBERS)?;
-            let total = total_of_pieces(alloc, &inputs, pieces, &gate, 1)?;
+            let total = total_of_pieces(&rt, alloc, &inputs, pieces, ONE, &gate, 1)?;
             assert!(rt; total == 255);
-            assert!(rt; !gate.heard_wrong() && gate.tasks(1, 2) == by_caller);
-            let all = by_caller.iter().filter(|runs| **runs > 0).count() as u64;
-            assert!(rt; gate.tasks(1, 0) == [0; 8] && watch.runs() == all);
+            assert!(rt; !gate.heard_wrong() && gate.tasks(1, round) == by_worker);
+            let all = by_worker.iter().filter(|runs| **runs > 0).count() as u64;
+            assert!(rt; gate.tasks(1, other) == [0; 8] && gate.tasks(1, 2) == [0; 8]);
+            assert!(rt; watch.runs() == all);
             assert!(rt; counts(&gate.done) == [1, 0] && counts(&gate.all_when_done) == [all, 0]);
         }
+    }
+    Ok(())
+}
+
+/// Two of the tasks that were not run ahead, each held until the other begins.
+const TOGETHER: [(Run, Run); 2] = [((1, 1, 1), (1, 2, 1)), ((1, 2, 1), (1, 1, 1))];
+
+#[test]
+fn workers_share_what_was_not_run_ahead(rt: HostRuntime) -> Result<(), Fail> {
+    let alloc = rt.alloc();
+    for crew in [TWO, TWO_AND_TWO] {
+        let watch = Watch::shared(alloc)?;
+        let pieces = pieces_of(&rt, alloc, &watch, &[(0, 1), (7, 128)], 1)?;
+        let gate = Order::new(&TOGETHER);
+        let inputs = shared_inputs_of(alloc, &watch, &NUMBERS)?;
+        assert!(rt; total_of_pieces(&rt, alloc, &inputs, pieces, crew, &gate, 1)? == 255);
+        assert!(rt; gate.rounds() == [0, 6, 0] && !gate.gave_up());
     }
     Ok(())
 }
@@ -137,19 +158,25 @@ fn no_inputs_have_a_total(rt: HostRuntime) -> Result<(), Fail> {
     let watch = Watch::shared(alloc)?;
     let inputs = shared_inputs_of(alloc, &watch, &[])?;
     let pieces = pieces_of(&rt, alloc, &watch, &[(0, 1)], 2)?;
-    assert!(rt; total_of_pieces(alloc, &inputs, pieces, &FreeGate, 1)? == 0);
+    assert!(rt; total_of_pieces(&rt, alloc, &inputs, pieces, ONE, &FreeGate, 1)? == 0);
     Ok(())
 }
 
+/// The run of the third task is refused ahead, or to the worker as well.
 #[test]
-fn a_run_that_is_refused_ahead_is_made_by_the_caller(rt: HostRuntime) -> Result<(), Fail> {
+fn a_run_that_is_refused_ahead_is_made_by_a_worker_or_the_caller(
+    rt: HostRuntime,
+) -> Result<(), Fail> {
     let alloc = rt.alloc();
-    let watch = Watch::refusing_runs(alloc, 4, 1)?;
-    let pieces = pieces_of(&rt, alloc, &watch, &ALL, 2)?;
-    assert!(rt; pieces.len() == 7 && watch.runs() == 8);
-    let inputs = shared_inputs_of(alloc, &watch, &NUMBERS)?;
-    assert!(rt; total_of_pieces(alloc, &inputs, pieces, &FreeGate, 1)? == 255);
-    assert!(rt; watch.runs() == 9);
+    for (refused, runs, rounds) in [(1, 9, [0, 1, 0]), (2, 10, [0, 1, 1])] {
+        let watch = Watch::refusing_runs(alloc, 4, refused)?;
+        let pieces = pieces_of(&rt, alloc, &watch, &ALL, 2)?;
+        assert!(rt; pieces.len() == 7 && watch.runs() == 8);
+        let gate = Order::new(&[]);
+        let inputs = shared_inputs_of(alloc, &watch, &NUMBERS)?;
+        assert!(rt; total_of_pieces(&rt, alloc, &inputs, pieces, TWO, &gate, 1)? == 255);
+        assert!(rt; gate.rounds() == rounds && watch.runs() == runs);
+    }
     Ok(())
 }
 

@@ -17,7 +17,7 @@ use std::thread;
 use tests_works::{NUMBERS, Number, Sum, Watch, hold, shared_inputs_of};
 
 /// A run: its pipeline, its task and its round.
-type Run = (u8, u32, u8);
+pub(crate) type Run = (u8, u32, u8);
 
 /// Holds some runs, each until another one begins, and counts the runs of each round.
 #[derive(Drop)]
@@ -49,7 +49,7 @@ impl Order {
     }
 
     /// How many runs of each round began.
-    fn rounds(&self) -> [u64; 3] {
+    pub(crate) fn rounds(&self) -> [u64; 3] {
         let [first, second, own] = &self.rounds;
         [
             first.load(Ordering::SeqCst),
@@ -156,7 +156,7 @@ fn refused_runs_are_made_again_by_the_caller(rt: HostRuntime) -> Result<(), Fail
 }
 
 /// The piece of a task, run on this number.
-fn piece_of(
+pub(crate) fn piece_of(
     alloc: Global,
     watch: &Arc<Watch, Global>,
     task: u32,
@@ -227,18 +227,25 @@ fn each_worker_has_its_gatherer(rt: HostRuntime) -> Result<(), Fail> {
     })
 }
 
-/// As if no thread, no seat or no dispatcher could be had.
+/// As if no thread, no seat or no dispatcher could be had, of a pipeline that begins with nothing, or with
+/// the piece of its first task.
 #[test]
 fn no_worker_is_left(rt: HostRuntime) -> Result<(), Fail> {
     let alloc = rt.alloc();
-    let inputs = shared_inputs_of(alloc, &Watch::shared(alloc)?, &NUMBERS)?;
-    let gate = Order::new(&[]);
-    let mut gathering = Gathering::new(alloc, Arc::try_clone(&inputs)?)?;
-    let (to, from) = crossbeam_channel::unbounded::<Piece<Sum>, Global>(alloc)?;
-    drop(to);
-    gather_until_covered(&rt, &mut gathering, &from, 8);
-    assert!(rt; gathering.first_missing() == Some(0));
-    run_missing(alloc, &mut gathering, &inputs, 1, &gate)?;
-    assert!(rt; gate.rounds() == [0, 0, 8]);
+    let watch = Watch::shared(alloc)?;
+    let inputs = shared_inputs_of(alloc, &watch, &NUMBERS)?;
+    for (is_begun, first, own) in [(false, 0, 8), (true, 1, 7)] {
+        let gate = Order::new(&[]);
+        let mut gathering = Gathering::new(alloc, Arc::try_clone(&inputs)?)?;
+        if is_begun {
+            let _ = gathering.file(piece_of(alloc, &watch, 0, 1)?);
+        }
+        let (to, from) = crossbeam_channel::unbounded::<Piece<Sum>, Global>(alloc)?;
+        drop(to);
+        gather_until_covered(&rt, &mut gathering, &from, 8);
+        assert!(rt; gathering.first_missing() == Some(first));
+        run_missing(alloc, &mut gathering, &inputs, 1, &gate)?;
+        assert!(rt; gate.rounds() == [0, 0, own]);
+    }
     Ok(())
 }

@@ -19,8 +19,8 @@ impl Link<Sum, Sum> for OneAndTwo {
 
     type Stop = u128;
 
-    ghost linked = { λ link total.
-        if link.halts then Halt total else Next (1 ∷ 2 ∷ []) total };
+    ghost Links = { λ link total answer. answer
+        ≡ (if link.halts then Halt total else Next (1 ∷ 2 ∷ []) total) };
 
     fn link(
         &self,

@@ -1,9 +1,11 @@
 //! Growths that are refused one after the other: what comes is the right sums or want of memory.
 ghost use Rattle.std.specs.Prelude.{◌≡◌};
 
+use crate::gatherers::piece_of;
 use crate::link::OneAndTwo;
+use crate::threads::TWO;
 use linked_list_allocator::LocalHeap;
-use pipelines::{Crew, FreeGate, OutOfMemory, Outcome, run_pair};
+use pipelines::{Crew, FreeGate, OutOfMemory, Outcome, run_pair, total_of_pieces};
 use schedules::{Event, Rehearsed, rehearse_pair, rehearse_pipeline};
 use std::alloc::Global;
 use std::sync::{Arc, Wait};
@@ -169,16 +171,28 @@ fn each_allocation_of_gatherers_can_be_refused(rt: HostRuntime) -> Result<(), Fa
     Ok(())
 }
 
-/// Run also with each allocation of the process refused in turn.
+/// Run also with each allocation and each thread of the process refused in turn.
 #[test]
 fn sums_or_want_of_memory(rt: HostRuntime) -> Result<(), Fail> {
     let alloc = rt.alloc();
     let watch = Watch::shared(alloc)?;
-    let crew = Crew {
-        workers: 2,
-        gatherers: 1,
-    };
-    assert!(rt; Some(run(&rt, alloc, &watch, crew)?) == RIGHT);
+    assert!(rt; Some(run(&rt, alloc, &watch, TWO)?) == RIGHT);
     assert!(rt; Some(rehearse(alloc, &watch)?) == RIGHT);
+    Ok(())
+}
+
+/// The sum of 1, 2 and 4, where the pipeline begins with the piece of its second task.
+fn sum_of_pieces<R: Threads + Wait + Sync>(rt: &R, alloc: Global) -> Result<u128, OutOfMemory> {
+    let watch = Watch::shared(alloc)?;
+    let inputs = shared_inputs_of(alloc, &watch, &[1, 2, 4])?;
+    let mut pieces = Vec::new(alloc);
+    pieces.push(piece_of(alloc, &watch, 1, 2)?)?;
+    total_of_pieces(rt, alloc, &inputs, pieces, TWO, &FreeGate, 1)
+}
+
+/// Run also with each allocation and each thread of the process refused in turn.
+#[test]
+fn sum_of_pieces_or_want_of_memory(rt: HostRuntime) -> Result<(), Fail> {
+    assert!(rt; sum_of_pieces(&rt, rt.alloc())? == 7);
     Ok(())
 }

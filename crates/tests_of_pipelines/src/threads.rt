@@ -13,13 +13,13 @@ use tests_gates::{Heard, Hold, Warden};
 use tests_works::{NUMBERS, Watch, shared_inputs_of};
 
 /// One worker and one gatherer.
-const ONE: Crew = Crew {
+pub(crate) const ONE: Crew = Crew {
     workers: 1,
     gatherers: 1,
 };
 
 /// Two workers and one gatherer.
-const TWO: Crew = Crew {
+pub(crate) const TWO: Crew = Crew {
     workers: 2,
     gatherers: 1,
 };

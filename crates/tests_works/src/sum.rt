@@ -2,7 +2,7 @@
 ghost use Rattle.std.specs.Prelude.{◌≡◌, ◌==◌, ◌<◌, ◌^◌, sum};
 ghost use Rattle.std.specs.Cmp.Lexicographic.{same_text};
 ghost use Rattle.std.specs.Cmp.Rules.{comparing};
-ghost use Rattle.std.proofs.Common.{rules, ap, sym};
+ghost use Rattle.std.proofs.Common.{rules, ◌∙◌, ap, sym};
 ghost use Rattle.std.proofs.lemmas.Bool.{eqb-true};
 
 use crate::watch::Watch;
@@ -67,15 +67,15 @@ impl Work for Sum {
 
     type Total = u128;
 
-    ghost value_of = { λ input. input };
+    ghost Gives = { λ input value. value ≡ input };
 
-    ghost total_of = { sum };
+    ghost IsTotalOf = { λ inputs total. total ≡ sum inputs };
 
     ghost IsAdmissible = { λ inputs. sum inputs < 2 ^ 128 };
 
-    ghost equal_values = { λ a b same. eqb-true a b same };
+    ghost equal_values = { λ a b value same gives. gives ∙ eqb-true a b same };
 
-    ghost equal_totals = { λ xs ys same. ap sum (same_text xs ys (sym same)) };
+    ghost equal_totals = { λ xs ys same total is. is ∙ ap sum (sym (same_text xs ys (sym same))) };
 
     fn run(_alloc: Global, input: &Number) -> Result<Value, OutOfMemory> {
         input.watch.begin_run(input.number)?;

@@ -66,7 +66,7 @@ pub(crate) fn answer_scans<R: Threads + Wait + Sync>(
 
 /// The answer that the outcome of both pipelines gives. As many threads as the crew has workers make its
 /// text.
-fn answer_of_outcome<R: Threads + Sync>(
+pub(crate) fn answer_of_outcome<R: Threads + Sync>(
     rt: &R,
     alloc: Global,
     query: &Query,

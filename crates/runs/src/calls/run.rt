@@ -78,8 +78,9 @@ fn answer_source<R: Threads + Wait + Sync, S: Source>(
     }
 }
 
-/// The answer to a query over a cut day file, by the scans of its morsels; those that aren't there are
-/// done first. The bytes are freed on a thread of its own meanwhile, or by the caller if none can be made.
+/// The answer to a query over a cut day file, by the scans of its morsels; those that aren't there the
+/// crew does first. The bytes are freed on a thread of its own meanwhile, or by the caller if none can be
+/// made.
 fn answer_cut<R: Threads + Wait + Sync>(
     rt: &R,
     alloc: Global,
@@ -93,7 +94,7 @@ fn answer_cut<R: Threads + Wait + Sync>(
     let ScannedCut { cut, scans } = scanned;
     let inputs = Arc::new(alloc, scan_inputs(alloc, &cut, query.as_of, parts)?)?;
     drop(cut);
-    let total = total_of_pieces(alloc, &inputs, scans, &FreeGate, 1)?;
+    let total = total_of_pieces(rt, alloc, &inputs, scans, crew, &FreeGate, 1)?;
     // (without a thread, what it was to free is let go with the error)
     let freeing = thread::spawn(rt, move || drop(inputs)).ok();
     let answer = answer_scans(rt, alloc, total, query, parts, crew);

@@ -1,59 +1,127 @@
-ghost use Rattle.std.specs.Prelude.{◌≡◌, false, IfErr, IfOk};
-ghost use Rattle.answers.specs.Answers.{told_by};
+ghost use Rattle.std.specs.Prelude.{◌≡◌, ℕ, List, false, IfErr, IfOk};
+ghost use Rattle.std.specs.List.{concat};
+ghost use Rattle.std.specs.Arc.{arc_value};
+ghost use Rattle.answers.specs.Answers.{IsAnswer, told_by};
+ghost use Rattle.block_scan.specs.Blocks.{IsBlocksFault};
+ghost use Rattle.runs.specs.FirstPipeline.{IsOutcomeOf};
+ghost use Rattle.runs.specs.LinkedBlocks.{IsOutcomeOfBlocks, IsRefusedFor, TellsTruncated};
 ghost use Rattle.runs.specs.Readings.{of_blocks};
 ghost use Rattle.runs.specs.Runs.{Ran, is_write_failed};
 ghost use Rattle.runs.specs.Sources.{IsAnswered, IsSourceRefusal};
 
-use crate::calls::answer::answer_scans;
+use crate::calls::answer::answer_of_outcome;
+use crate::calls::block_link::{BlockLink, BlocksStop};
 use crate::calls::ends::{hand_over, query_of};
 use answers::{Answer, DayFault};
-use block_scan::{BlockSource, BlocksFault, scan_blocks};
+use block_scan::{BlockSource, BlocksFault, Division, block_inputs};
+use buckets::{BucketTotal, DayNames};
 use outcomes::{RunFault, Settings};
+use pipelines::{Crew, FreeGate, Gate, Outcome, run_pair};
 use query::Query;
+use scanning::WrongLength;
 use sinks::Sink;
 use std::alloc::{AllocError, Global};
-use std::sync::Wait;
+use std::sync::{Arc, Wait};
 use std::thread::Threads;
 
 /// Answers a query over a whole day file that is read at places, as `run` does over one that is read in
-/// order: its blocks are read and scanned side by side, by as many threads as the crew has workers, and
-/// their bytes are not kept. The answer is that of the bytes that were read, each once. `length` is how
-/// many bytes the file is expected to have. It has effect on speed alone, and the crew on speed and memory.
-/// The morsel of the settings has no part in it.
+/// order: its blocks are the tasks of the first pipeline, and their bytes are not kept. The answer is that
+/// of the bytes that were read, each once. `length` is how many bytes the file is expected to have. It has
+/// effect on speed alone, and the crew on speed and memory. The morsel of the settings has no part in it.
 ///
 /// Nothing is written before every refusal but that of the sink is past. It waits for the threads.
-pub fn run_blocks<R: Threads + Wait + Sync, S: BlockSource + Sync, K: Sink>(
+pub fn run_blocks<R: Threads + Wait + Sync, S: BlockSource + Send + Sync, K: Sink>(
     rt: &R,
     alloc: Global,
-    source: &S,
+    source: S,
     length: u64,
     query_text: &str,
     settings: Settings,
     sink: &mut K,
 ) -> Result<(), RunFault>
     requires { K.has_failed sink.old ≡ false }
-    ensures ran { Ran (of_blocks S.GaveAt S.EndsAt S.FailsAt settings.limit source.now)
+    ensures ran { Ran (of_blocks S.GaveAt S.EndsAt S.FailsAt settings.limit source)
         K.Took K.HasFlushed query_text.now settings.limit sink.old sink.new result }
     ensures write_failed { K.has_failed sink.new ≡ is_write_failed result }
 {
     let query = query_of(alloc, query_text)?;
-    let answer = answer_blocks(rt, alloc, source, length, &query, settings)?;
+    let division = Division::of(length, settings.crew.workers);
+    let Ok(source) = Arc::new(alloc, source) else {
+        return Err(RunFault::OutOfMemory);
+    };
+    let answer = answer_blocks(rt, alloc, &source, division, &query, settings, &FreeGate)?;
     hand_over(answer, sink)
 }
 
-/// The answer to a query over all that a source gives at places.
-fn answer_blocks<R: Threads + Wait + Sync, S: BlockSource + Sync>(
+/// Answers a query over all that a source gives at places, by two pipelines as `answer` does: the first has
+/// a task for each block of the division. Neither the division nor the crew or the gate change the answer.
+///
+/// It waits for its threads. A reading that fails is reported, but for one of a block that was read twice.
+pub fn answer_blocks<G: Gate, R: Threads + Wait + Sync, S: BlockSource + Send + Sync>(
     rt: &R,
     alloc: Global,
-    source: &S,
-    length: u64,
+    source: &Arc<S, Global>,
+    division: Division,
     query: &Query,
     settings: Settings,
+    gate: &G,
 ) -> Result<Answer, RunFault>
     ensures answers { IfOk result (λ answer. IsAnswered
-        (of_blocks S.GaveAt S.EndsAt S.FailsAt settings.limit source.now) query.now (told_by answer)) }
+        (of_blocks S.GaveAt S.EndsAt S.FailsAt settings.limit (arc_value source.now)) query.now (told_by answer)) }
     ensures refused { IfErr result (IsSourceRefusal
-        (of_blocks S.GaveAt S.EndsAt S.FailsAt settings.limit source.now) settings.limit) }
+        (of_blocks S.GaveAt S.EndsAt S.FailsAt settings.limit (arc_value source.now)) settings.limit) }
+{
+    let Settings { crew, limit, .. } = settings;
+    match outcome_of_blocks(rt, alloc, source, division, query, settings, gate) {
+        Ok(Outcome::Finished { total, kept }) => {
+            answer_whole(rt, alloc, query, Outcome::Finished { total, kept }, crew)
+        }
+        Ok(
+            Outcome::Stopped {
+                stop: BlocksStop::WrongLength { wrong: stop },
+            },
+        ) => answer_whole(rt, alloc, query, Outcome::Stopped { stop }, crew),
+        Ok(
+            Outcome::Stopped {
+                stop: BlocksStop::Refused { fault },
+            },
+        ) => answer_of_fault(fault, limit),
+        Err(fault) => answer_of_fault(fault, limit),
+    }
+}
+
+/// The answer that the outcome of both pipelines over all that a source gave gives.
+fn answer_whole<R: Threads + Sync>(
+    rt: &R,
+    alloc: Global,
+    query: &Query,
+    outcome: Outcome<BucketTotal, DayNames, WrongLength>,
+    crew: Crew,
+) -> Result<Answer, RunFault>
+    requires outcome { (runs : List (List ℕ)) × IsOutcomeOf query.now outcome runs }
+    ensures answers { IfOk result (λ answer. (runs : List (List ℕ)) → IsOutcomeOf query.now outcome runs →
+        IsAnswer (concat runs) query.now (told_by answer)) }
+    ensures refused { IfErr result (λ refusal. refusal ≡ RunFault.OutOfMemory) }
+{
+    match answer_of_outcome(rt, alloc, query, outcome, crew) {
+        Ok(answer) => Ok(answer),
+        Err(AllocError) => Err(RunFault::OutOfMemory),
+    }
+}
+
+/// What both pipelines give over the blocks of a source.
+fn outcome_of_blocks<G: Gate, R: Threads + Wait + Sync, S: BlockSource + Send + Sync>(
+    rt: &R,
+    alloc: Global,
+    source: &Arc<S, Global>,
+    division: Division,
+    query: &Query,
+    settings: Settings,
+    gate: &G,
+) -> Result<Outcome<BucketTotal, DayNames, BlocksStop>, BlocksFault>
+    ensures outcome { IfOk result
+        (IsOutcomeOfBlocks S.GaveAt S.EndsAt S.FailsAt (arc_value source.now) settings.limit query.now) }
+    ensures fault { IfErr result (IsBlocksFault S.GaveAt S.EndsAt S.FailsAt (arc_value source.now) settings.limit) }
 {
     let Settings {
         crew,
@@ -61,19 +129,23 @@ fn answer_blocks<R: Threads + Wait + Sync, S: BlockSource + Sync>(
         limit,
         ..
     } = settings;
-    let as_of = query.as_of;
-    let scanned = scan_blocks(rt, alloc, source, as_of, parts, limit, length, crew.workers);
-    let total = match scanned {
-        Ok(total) => total,
-        Err(BlocksFault::ReadFailed) => return Err(RunFault::ReadFailed),
-        Err(BlocksFault::TooLong) => return Err(RunFault::TooLong { limit }),
-        Err(BlocksFault::Truncated { place }) => {
-            return Ok(Answer::Faulty(DayFault::Truncated { place }));
-        }
-        Err(BlocksFault::OutOfMemory) => return Err(RunFault::OutOfMemory),
+    let inputs = block_inputs(alloc, source, query.as_of, parts, limit, division)?;
+    let Ok(inputs) = Arc::new(alloc, inputs) else {
+        return Err(BlocksFault::OutOfMemory);
     };
-    match answer_scans(rt, alloc, total, query, parts, crew) {
-        Ok(answer) => Ok(answer),
-        Err(AllocError) => Err(RunFault::OutOfMemory),
+    let link = BlockLink::new(query, parts);
+    Ok(run_pair(rt, alloc, inputs, &link, crew, gate)?)
+}
+
+/// What is told where a source gives no rows: the place where it is truncated, or a refusal.
+fn answer_of_fault(fault: BlocksFault, limit: u64) -> Result<Answer, RunFault>
+    ensures answers { IfOk result (λ answer. TellsTruncated fault (told_by answer)) }
+    ensures refused { IfErr result (IsRefusedFor limit fault) }
+{
+    match fault {
+        BlocksFault::ReadFailed => Err(RunFault::ReadFailed),
+        BlocksFault::TooLong => Err(RunFault::TooLong { limit }),
+        BlocksFault::Truncated { place } => Ok(Answer::Faulty(DayFault::Truncated { place })),
+        BlocksFault::OutOfMemory => Err(RunFault::OutOfMemory),
     }
 }

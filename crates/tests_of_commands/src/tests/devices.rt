@@ -2,8 +2,8 @@
 ghost use Rattle.std.specs.Prelude.{◌≡◌, false};
 
 use command_line::{
-    BlockSource, Counted, CountedSink, Crew, DeviceFailed, Job, LONGEST_FILE, RunFault, Settings,
-    WordsFault, explain, perform, perform_blocks, tell,
+    Counted, CountedSink, Crew, DeviceFailed, FileBlocks, Job, LONGEST_FILE, ReadsAt, RunFault,
+    Settings, WordsFault, explain, perform, perform_blocks, tell,
 };
 use std::alloc::Global;
 use std::io::{self, Write};
@@ -46,25 +46,16 @@ impl Write for Narrow {
 }
 
 /// A file of which each reading fails.
+#[derive(Drop)]
 struct Unreadable;
 
-impl BlockSource for Unreadable {
-    ghost GaveAt = { λ s place bytes. Unit {0} };
-
-    ghost EndsAt = { λ s place. Unit {0} };
-
-    ghost FailsAt = { λ s place. Unit {0} };
-
-    ghost gave_nothing = { λ s place. tt };
-
-    ghost gave_more = { λ s place xs ys p q. tt };
-
-    ghost gave_front = { λ s place xs ys p. tt };
-
-    ghost gave_back = { λ s place xs ys p. tt };
-
-    fn read_at(&self, _place: u64, _into: &mut [u8]) -> Result<usize, DeviceFailed> {
+impl ReadsAt for Unreadable {
+    fn get(&self, _place: u64, _into: &mut [u8]) -> Result<usize, DeviceFailed> {
         Err(DeviceFailed)
+    }
+
+    fn is_same(&self, _other: &Self) -> bool {
+        true
     }
 }
 
@@ -96,7 +87,8 @@ fn blocks_that_cannot_be_read_are_reported(rt: HostRuntime) -> Result<(), Fail> 
     let mut lines = Vec::new(alloc);
     let mut out = CountedSink::of(&mut text);
     let mut errors = CountedSink::of(&mut lines);
-    let status = perform_blocks(&rt, alloc, &job, &Unreadable, 112, &mut out, &mut errors);
+    let source = FileBlocks::of(Unreadable);
+    let status = perform_blocks(&rt, alloc, &job, source, 112, &mut out, &mut errors);
     assert!(rt; status == 4 && text.is_empty());
     assert!(rt; lines.as_slice() == "fault: reading failed\n".as_bytes());
     Ok(())

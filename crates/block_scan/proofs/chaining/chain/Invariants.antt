@@ -1,13 +1,9 @@
-use Rattle.std.proofs.Common.{◌<◌, All, length, vec_len}
-use Rattle.block_scan.specs.Pieces.{IsChained, IsTried}
+use Rattle.std.proofs.Common.{◌<◌, length}
+use Rattle.block_scan.specs.Pieces.{IsChained}
 use Rattle.block_scan.proofs.chaining.chain.Given as goal
 
-abbrev pub invariant-loop-piece : goal.invariant-loop-piece
-invariant-loop-piece g l = record {
-  pieces : All (IsTried g.S.BlockSource.GaveAt g.S.BlockSource.EndsAt g.S.BlockSource.FailsAt l.source l.request) l.pieces.items;
+abbrev pub invariant-loop-attempt : goal.invariant-loop-attempt
+invariant-loop-attempt g l = record {
   chained : IsChained g.S.BlockSource.GaveAt g.S.BlockSource.EndsAt l.source l.request l.at l.total;
-  room : 65537 < length l.buffer;
+  room : 65537 < length l.buffer.items;
 }
-
-abbrev pub decreases-loop-piece : goal.decreases-loop-piece
-decreases-loop-piece g l = vec_len l.pieces

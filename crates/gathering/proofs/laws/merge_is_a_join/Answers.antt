@@ -21,7 +21,7 @@ returns-clause-either_order g c = λ a b same. record { inputs = same; covered =
 pub returns-clause-one_total : goal.returns-clause-one_total
 returns-clause-one_total g c =
     let laws = g.met.W.Work g.world.𝓛 g.world.𝓜 g.world.𝓡 ((λ s x. x), (λ x. x), (λ x. x), λ x. x) in
-    λ a b alike. laws.equal_totals a.inputs b.inputs alike.inputs
+    λ a b alike total. laws.equal_totals a.inputs b.inputs alike.inputs total
 
 pub returns-clause-one_first_missing : goal.returns-clause-one_first_missing
 returns-clause-one_first_missing g c = λ a b t u alike first other. one_first a b t u alike.covered first other

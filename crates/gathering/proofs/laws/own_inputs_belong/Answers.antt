@@ -1,4 +1,4 @@
-use Rattle.gathering.proofs.EqualInputs.{same_inputs-itself, belongs-own, map_alike}
+use Rattle.gathering.proofs.EqualInputs.{same_inputs-itself, belongs-own}
 use Rattle.gathering.proofs.laws.own_inputs_belong.Goals as goal
 
 pub returns-clause-itself : goal.returns-clause-itself
@@ -14,4 +14,4 @@ returns-clause-own g c =
 pub returns-clause-values : goal.returns-clause-values
 returns-clause-values g c =
     let laws = g.met.W.Work g.world.𝓛 g.world.𝓜 g.world.𝓡 ((λ s x. x), (λ x. x), (λ x. x), λ x. x) in
-    map_alike g.W.Input.PartialEq.eq g.W.Work.value_of laws.equal_values
+    λ x y output same gives. laws.equal_values x y output same gives

@@ -1,4 +1,4 @@
-use Rattle.std.proofs.Common.{◌≡◌, ◌∙◌, ◌<◌, length, ℕ, true, ap, subst}
+use Rattle.std.proofs.Common.{◌≡◌, ◌<◌, length, ℕ, true, subst}
 use Rattle.std.specs.Arc.{arc_value}
 use Rattle.std.specs.FinSet.{contains}
 use Rattle.schedules.proofs.Schedules.{first_left_is, none_left}
@@ -17,5 +17,5 @@ returns-in-Ok-clause-answer g c =
     c.in-Ok.ensures.complete in (
       none_left c.args.gatherers (length (arc_value c.args.inputs)) c.args.events.now c.in_ok-gathering.gathering.covered c.in_ok-gathering.ensures.arrived
           complete,
-      c.in-Ok.ensures.total ∙ ap g.W.Work.total_of c.in_ok-gathering.ensures.inputs,
+      subst (λ xs. g.W.Work.IsTotalOf xs c.in-Ok.total) c.in_ok-gathering.ensures.inputs c.in-Ok.ensures.total,
     )

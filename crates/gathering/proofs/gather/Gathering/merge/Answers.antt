@@ -14,7 +14,7 @@ invariant_of-self g c =
     let chosen : IsLonger own.folded other.folded kept.own_folded own.total other.total kept.own_total =
     record { longer = c.keep_longer.ensures.longer; own = c.keep_longer.ensures.own }
     in
-    IsFolded-merge g.W.Input.PartialEq.eq g.W.Work.total_of (arc_value own.inputs) (arc_value other.inputs) (cc) own.folded other.folded
+    IsFolded-merge g.W.Input.PartialEq.eq g.W.Work.IsTotalOf (arc_value own.inputs) (arc_value other.inputs) (cc) own.folded other.folded
     kept.own_folded own.total other.total kept.own_total own.places.items other.places.items c.merge_places.new.own.items c.self.invariant
     c.other.invariant chosen c.merge_places.ensures.count c.merge_places.ensures.places met.laws laws.equal_totals
 
@@ -27,7 +27,7 @@ returns-clause-merged g c =
     record { longer = c.keep_longer.ensures.longer; own = c.keep_longer.ensures.own }
     in
     let same : same_inputs g.W.Input.PartialEq.eq (arc_value own.inputs) (arc_value other.inputs) ≡ true = cc in
-    let united = covered-merge g.W.Input.PartialEq.eq g.W.Work.total_of (arc_value own.inputs) (arc_value other.inputs) same own.folded
+    let united = covered-merge g.W.Input.PartialEq.eq g.W.Work.IsTotalOf (arc_value own.inputs) (arc_value other.inputs) same own.folded
     other.folded kept.own_folded own.total other.total kept.own_total own.places.items other.places.items c.merge_places.new.own.items
     c.self.invariant c.other.invariant chosen c.merge_places.ensures.count c.merge_places.ensures.places in
     rw (← c.self.view_is, ← c.other.view_is) (c.fold_more.ensures ∙ (λ i. record { inputs = arc_value own.inputs; covered = united i }))

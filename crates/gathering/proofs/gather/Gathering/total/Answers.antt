@@ -16,9 +16,9 @@ returns-in-Ok-clause-total g c =
     record { inputs = c.deref.result.now; covered = covered_tasks c.fold.new.folded c.fold.new.places.items }
     in
     let same : after ≡ c.args.self = (λ i. record { inputs = c.deref.ensures i; covered = c.in-Ok.ensures.covered i }) ∙ c.self.view_is in
-    whole g.W.Input.PartialEq.eq g.W.Work.total_of c.deref.result.now c.fold.new.folded c.fold.new.total c.fold.new.places.items
-    c.in-Ok.ensures.folded (subst P (sym same) all) c.in-Ok.ensures.gap
-    ∙ ap g.W.Work.total_of (c.deref.ensures ∙ ap (λ v. v.inputs) c.self.view_is)
+    subst (λ xs. g.W.Work.IsTotalOf xs c.fold.new.total) (c.deref.ensures ∙ ap (λ v. v.inputs) c.self.view_is)
+    (whole g.W.Input.PartialEq.eq g.W.Work.IsTotalOf c.deref.result.now c.fold.new.folded c.fold.new.total c.fold.new.places.items
+    c.in-Ok.ensures.folded (subst P (sym same) all) c.in-Ok.ensures.gap)
 
 pub returns-in-Ok-clause-admissible : goal.returns-in-Ok-clause-admissible
 returns-in-Ok-clause-admissible g c = subst g.W.Work.IsAdmissible (c.deref.ensures ∙ ap (λ v. v.inputs) c.self.view_is) c.in-Ok.ensures.admissible

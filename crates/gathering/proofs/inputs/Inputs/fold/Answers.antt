@@ -19,7 +19,7 @@ add-requires g c =
     omega (arith, folded.kept.one_each, ap length c.self.view_is, length-map c.self.inside.items.items arc_value)
     in
     let here : get_or places p None ≡ Some c.in-Some.piece = get_or_read places p c.index.result.now None within c.index.ensures ∙ c.in-Some.is in
-    can_add work.value_of work.total_of work.IsAdmissible g.W.Input.PartialEq.eq laws.equal_values c.args.self.now places folded.kept
+    can_add work.Gives work.IsTotalOf work.IsAdmissible g.W.Input.PartialEq.eq laws.equal_values c.args.self.now places folded.kept
     admissible p c.in-Some.piece here _ _ folded.total_is c.output.ensures
 
 pub loop-folded-preserved : goal.loop-folded-preserved
@@ -36,9 +36,9 @@ loop-folded-preserved g c =
     omega (arith, folded.kept.one_each, ap length c.self.view_is, length-map c.self.inside.items.items arc_value)
     in
     let here : get_or places p None ≡ Some c.in-Some.piece = get_or_read places p c.index.result.now None within c.index.ensures ∙ c.in-Some.is in
-    let sum = added work.value_of work.total_of work.IsAdmissible eq laws.equal_values c.args.self.now places folded.kept
+    let sum = added work.Gives work.IsTotalOf work.IsAdmissible eq laws.equal_values c.args.self.now places folded.kept
     admissible p c.in-Some.piece here _ _ folded.total_is c.output.ensures _ c.in_ok-add.ensures.ok in
     record {
-      folded = IsFolded-step eq work.total_of c.args.self.now p _ _ places folded (omega (arith, within, folded.kept.one_each)) sum;
+      folded = IsFolded-step eq work.IsTotalOf c.args.self.now p _ _ places folded (omega (arith, within, folded.kept.one_each)) sum;
       covered = covered-fold p places c.in-Some.piece within here ∙ c.loop-folded.invariant.covered;
     }

@@ -1,40 +1,25 @@
-use Rattle.std.proofs.Common.{rules, subst}
+use Rattle.std.proofs.Common.{◌∙◌, ap, subst}
+use Rattle.std.specs.Arc.{arc_value}
 use Rattle.std.specs.List.{concat}
-use Rattle.meaning.specs.Meaning.{Meaning}
-use Rattle.runs.specs.FirstPipeline.{IsScanOf}
-use Rattle.runs.proofs.BlocksScanned.{scan_of}
+use Rattle.std.proofs.lemmas.Result.{IfOk-weaker}
+use Rattle.pipelines.specs.declared.outcome.Outcome.TheVariants.{Stopped}
+use Rattle.runs.specs.LinkedBlocks.{IsOutcomeOfBlocks}
 use Rattle.runs.proofs.calls.run_blocks.answer_blocks.Goals as goal
 
-pub returns-in-Err-ReadFailed-clause-refused : goal.returns-in-Err-ReadFailed-clause-refused
-returns-in-Err-ReadFailed-clause-refused g c = search rules
+pub returns-in-Ok-Finished-clause-answers : goal.returns-in-Ok-Finished-clause-answers
+returns-in-Ok-Finished-clause-answers g c =
+    let S = g.S.BlockSource in
+    let whole = subst (IsOutcomeOfBlocks S.GaveAt S.EndsAt S.FailsAt (arc_value c.args.source.now) c.args.settings.limit c.args.query.now)
+    c.in-Ok-Finished.field-0-is c.in-Ok-Finished.ensures.outcome in
+    IfOk-weaker c.answer_whole.result _ _
+    (λ answer answers. record { day = concat whole.runs; read = whole.gave; answers = answers whole.runs whole.is }) c.answer_whole.ensures.answers
 
-pub returns-in-Err-TooLong-clause-refused : goal.returns-in-Err-TooLong-clause-refused
-returns-in-Err-TooLong-clause-refused g c = search rules
-
-pub returns-in-Err-Truncated-clause-answers : goal.returns-in-Err-Truncated-clause-answers
-returns-in-Err-Truncated-clause-answers g c = search rules
-
-pub returns-in-Err-Truncated-clause-refused : goal.returns-in-Err-Truncated-clause-refused
-returns-in-Err-Truncated-clause-refused g c = search rules
-
-pub answer_scans-requires-clause-total : goal.answer_scans-requires-clause-total
-answer_scans-requires-clause-total g c lifetimes within =
-    let scanned = c.in-Ok.ensures.scanned in
-    let settings = c.args.settings in (
-      scanned.runs,
-      subst (λ (m : Meaning). IsScanOf m.as_of settings.parts c.in-Ok.total scanned.runs) c.query.view_is
-          (scan_of g.S.BlockSource.GaveAt g.S.BlockSource.EndsAt c.args.source.now settings.limit _ settings.parts c.in-Ok.total scanned settings.limit_in_range),
-    )
-
-pub returns-in-Ok-answer_scans-clause-answers : goal.returns-in-Ok-answer_scans-clause-answers
-returns-in-Ok-answer_scans-clause-answers g c =
-    let scanned = c.in-Ok.ensures.scanned in
-    let settings = c.args.settings in
-    record {
-      day = concat scanned.runs;
-      read = scanned.gave;
-      answers = c.in-Ok-answer_scans.ensures scanned.runs
-          (subst (λ (m : Meaning). IsScanOf m.as_of settings.parts c.in-Ok.total scanned.runs) c.query.view_is
-          (scan_of g.S.BlockSource.GaveAt g.S.BlockSource.EndsAt c.args.source.now settings.limit _ settings.parts c.in-Ok.total scanned
-          settings.limit_in_range));
-    }
+pub returns-in-Ok-Stopped-WrongLength-clause-answers : goal.returns-in-Ok-Stopped-WrongLength-clause-answers
+returns-in-Ok-Stopped-WrongLength-clause-answers g c =
+    let S = g.S.BlockSource in
+    let found = c.in-Ok-Stopped-WrongLength in
+    let whole = subst (IsOutcomeOfBlocks S.GaveAt S.EndsAt S.FailsAt (arc_value c.args.source.now) c.args.settings.limit c.args.query.now)
+    (found.field-0-is ∙ ap Stopped found.field-0-0-is) found.ensures.outcome in
+    IfOk-weaker c.answer_whole-in-Ok-Stopped-WrongLength.result _ _
+    (λ answer answers. record { day = concat whole.runs; read = whole.gave; answers = answers whole.runs whole.is })
+    c.answer_whole-in-Ok-Stopped-WrongLength.ensures.answers

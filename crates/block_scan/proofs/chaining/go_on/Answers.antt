@@ -1,0 +1,12 @@
+use Rattle.std.proofs.Common.{ap, ◌∙◌}
+use Rattle.block_scan.proofs.Chained.{gone_on, tried_of}
+use Rattle.block_scan.proofs.chaining.go_on.Goals as goal
+
+pub returns-in-Ok-clause-gone_on : goal.returns-in-Ok-clause-gone_on
+returns-in-Ok-clause-gone_on g c =
+    let S = g.S.BlockSource in
+    let met = g.met.S.BlockSource in
+    let tried = tried_of S.GaveAt S.EndsAt S.FailsAt (ap (λ a. a.source) c.attempt.view_is ∙ c.requires.attempt.0)
+    (ap (λ a. a.request) c.attempt.view_is ∙ c.requires.attempt.1) c.in-Ok.is c.attempt.invariant.1 in
+    gone_on S.GaveAt S.EndsAt met.gave_more met.gave_front S.FailsAt c.args.source.now c.args.request c.args.at c.args.total.now c.follow.new.total
+    c.in-Ok.piece tried c.if-piece-at.true c.follow.result c.follow.ensures

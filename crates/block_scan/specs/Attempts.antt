@@ -1,0 +1,71 @@
+-- The tasks of a source that is read at places: its blocks, and what came of them.
+-- Derived: what is promised of a run speaks of the whole source alone.
+use Rattle.std.specs.Prelude.{◌≡◌, ℕ, ◌+◌, ◌*◌, ◌<◌, ◌==◌, ◌&&◌, Bool, nat_eq, min, if◌then◌else◌, List, [], ◌∷◌, All, map, length, Result}
+use Rattle.std.specs.Option.{option_eq}
+use Rattle.lists.specs.Least.{numbers_below}
+use Rattle.block_scan.specs.declared.fault.BlocksFault.{BlocksFault}
+use Rattle.block_scan.specs.declared.piece.Piece.{Piece}
+use Rattle.block_scan.specs.declared.request.Request.{Request}
+use Rattle.block_scan.specs.Pieces.{IsAskable}
+
+-- S is sources
+module _ (S : Type 0) where
+  -- a block: where it begins and ends, of which source, and what is asked of that
+  pub record BlockView : Type 0 where
+    pub source : S
+    pub request : Request
+    pub from : ℕ
+    pub to : ℕ
+
+  -- what came of a block of this source: a piece, or why there is none
+  pub record AttemptView : Type 0 where
+    pub source : S
+    pub request : Request
+    pub found : Result Piece BlocksFault
+
+-- they ask the same
+abbrev pub is_same_request : Request → Request → Bool
+is_same_request a b =
+    (a.limit == b.limit) && option_eq nat_eq a.as_of b.as_of && (a.parts == b.parts) && (a.block == b.block)
+
+module _ {S : Type 0} where
+  -- they are blocks of equal sources between the same places, of which the same is asked
+  abbrev pub is_same_block : (S → S → Bool) → BlockView S → BlockView S → Bool
+  is_same_block eq a b =
+      eq a.source b.source && is_same_request a.request b.request && (a.from == b.from) && (a.to == b.to)
+
+  -- the block of this number, of so many: the last goes on to the source's end
+  abbrev pub block_at : S → Request → ℕ → ℕ → BlockView S
+  block_at source request count number = record {
+    source = source;
+    request = request;
+    from = min request.limit (number * request.block);
+    to = if number + 1 == count then request.limit + 1 else (number + 1) * request.block;
+  }
+
+  -- all blocks, in order
+  abbrev pub blocks_of : S → Request → ℕ → List (BlockView S)
+  blocks_of source request count = map (block_at source request count) (numbers_below count)
+
+  -- this may come of the block
+  abbrev pub Gives : BlockView S → AttemptView S → Type 0
+  Gives block attempt = (attempt.source ≡ block.source) × (attempt.request ≡ block.request)
+
+  -- these may come of the blocks, one of each, in order
+  abbrev pub AreOf : List (BlockView S) → List (AttemptView S) → Type 0
+  AreOf [] [] = Unit {0}
+  AreOf (block ∷ blocks) (attempt ∷ attempts) = Gives block attempt × AreOf blocks attempts
+  AreOf _ _ = ⊥
+
+  -- there are some blocks, all of one source, of which one thing is asked that may be asked
+  pub record AreBlocks (blocks : List (BlockView S)) : Type 0 where
+    pub source : S
+    pub request : Request
+    pub asks : IsAskable request
+    pub some : 0 < length blocks
+    pub each : All (λ block. (block.source ≡ source) × (block.request ≡ request)) blocks
+
+  -- there is some attempt, and all are at blocks of this source, of which this is asked
+  pub record AreAttemptsOf (source : S) (request : Request) (attempts : List (AttemptView S)) : Type 0 where
+    pub some : 0 < length attempts
+    pub each : All (λ attempt. (attempt.source ≡ source) × (attempt.request ≡ request)) attempts

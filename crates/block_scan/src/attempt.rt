@@ -1,0 +1,75 @@
+//! What comes of blocks.
+ghost use Rattle.std.specs.Prelude.{◌≡◌, ◌++◌, ◌∷◌, [], OnOk, OnErr};
+ghost use Rattle.std.specs.Arc.{arc_value};
+ghost use Rattle.block_scan.specs.Pieces.{IsAskable, IsTried};
+
+use crate::OutOfMemory;
+use crate::fault::BlocksFault;
+use crate::piece::Piece;
+use crate::request::Request;
+use crate::source::BlockSource;
+use std::alloc::Global;
+use std::marker::Model;
+use std::sync::Arc;
+
+/// What came of a block: the piece that was found from its start on, or why there is none. That the source
+/// gave it is kept by the type.
+#[derive(Drop)]
+pub struct Attempt<S: BlockSource> {
+    pub(crate) source: Arc<S, Global>,
+    pub(crate) request: Request,
+    pub(crate) found: Result<Piece, BlocksFault>,
+}
+
+impl<S: BlockSource> Model for Attempt<S> {
+    ghost use Rattle.std.specs.Arc.{arc_value};
+    ghost use Rattle.block_scan.specs.Attempts.{AttemptView};
+    ghost use Rattle.block_scan.specs.Pieces.{IsAskable, IsTried};
+
+    ghost Value = { AttemptView S };
+
+    ghost view = { λ attempt. record {
+      source = arc_value attempt.source;
+      request = attempt.request;
+      found = attempt.found;
+    } };
+
+    ghost invariant = { λ attempt. IsAskable attempt.request
+        × IsTried S.GaveAt S.EndsAt S.FailsAt (arc_value attempt.source) attempt.request attempt.found };
+}
+
+/// What came of each block, in the order of the blocks.
+#[derive(Drop)]
+pub struct Attempts<S: BlockSource> {
+    pub(crate) items: Vec<Arc<Attempt<S>, Global>>,
+}
+
+impl<S: BlockSource> Model for Attempts<S> {
+    ghost use Rattle.std.specs.Prelude.{List, map};
+    ghost use Rattle.std.specs.Arc.{arc_value};
+    ghost use Rattle.block_scan.specs.Attempts.{AttemptView};
+
+    ghost Value = { List (AttemptView S) };
+
+    ghost view = { λ attempts. map arc_value attempts.items.items };
+}
+
+impl<S: BlockSource> Attempts<S> {
+    /// What came of no blocks.
+    pub(crate) fn none(alloc: Global) -> Self
+        ensures { result ≡ [] }
+    {
+        Attempts {
+            items: Vec::new(alloc),
+        }
+    }
+
+    /// Takes in what came of one block more. Without memory it stays as it was.
+    pub(crate) fn push(&mut self, attempt: &Arc<Attempt<S>, Global>) -> Result<(), OutOfMemory>
+        ensures ok { OnOk result (self.new ≡ self.old ++ arc_value attempt.now ∷ []) }
+        ensures err { OnErr result (self.new ≡ self.old) }
+    {
+        self.items.push(Arc::try_clone(attempt)?)?;
+        Ok(())
+    }
+}

@@ -1,0 +1,32 @@
+//! How a source is divided into blocks.
+ghost use Rattle.std.specs.Prelude.{◌≡◌, ◌<◌, ◌≤◌};
+ghost use Rattle.lists.specs.declared.limits.TheConstants.{LONGEST_FILE, MOST_TASKS};
+
+use lists::limits::{LONGEST_FILE, MOST_TASKS};
+
+/// The least and the most bytes of a block, if the source isn't longer than is expected: large enough that
+/// what a block costs beside its bytes is nothing, small enough that threads end together.
+const LEAST: u64 = 1 << 20;
+
+const MOST: u64 = 32 << 20;
+
+/// How many blocks each worker is to have.
+const EACH: u64 = 8;
+
+/// So many blocks of so many bytes each, of which the last goes on to the source's end.
+#[derive(Clone, Copy)]
+pub struct Division {
+    pub bytes: u64,
+    pub blocks: u32,
+    ghost in_range: { (bytes ≤ LONGEST_FILE) × (0 < blocks) × (blocks ≤ MOST_TASKS) },
+}
+
+impl Division {
+    /// The blocks of a source that is expected to have so many bytes, for so many workers.
+    pub fn of(length: u64, workers: u32) -> Self {
+        let length = length.min(LONGEST_FILE);
+        let bytes = (length / (EACH * u64::from(workers.max(1)))).clamp(LEAST, MOST);
+        let blocks = (length / bytes).clamp(1, u64::from(MOST_TASKS)) as u32;
+        Division { bytes, blocks }
+    }
+}

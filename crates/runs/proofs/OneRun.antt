@@ -1,0 +1,16 @@
+-- A reading that allows one list of bytes leaves one answer.
+use Rattle.std.proofs.Common.{◌≡◌, ℕ, List, Result, subst}
+use Rattle.answers.specs.Answers.{IsAnswer}
+use Rattle.answers.proofs.OneAnswer.{answers_are_one}
+use Rattle.outcomes.specs.declared.day_fault.DayFault.{DayFault}
+use Rattle.query.specs.Words.{words_of}
+use Rattle.query.proofs.MeaningOrFault.{one_meaning}
+use Rattle.runs.specs.Readings.{Reading}
+use Rattle.runs.specs.Runs.{Answers}
+
+pub answers_of_one_day : (reading : Reading) → ((day more : List ℕ) → reading.all day → reading.all more → day ≡ more)
+    → (words : List ℕ) (one other : Result (List ℕ) DayFault) → Answers reading words one → Answers reading words other → one ≡ other
+answers_of_one_day reading once words one other a b =
+    answers_are_one a.day a.query one other a.answers
+    (subst (λ day. IsAnswer day a.query other) (once b.day a.day b.read a.read)
+    (subst (λ query. IsAnswer b.day query other) (one_meaning (words_of words) b.query a.query b.means a.means) b.answers))

@@ -1,0 +1,78 @@
+//! From what came of the blocks of a source to the buckets.
+ghost use Rattle.std.specs.Prelude.{◌≡◌, ◌<◌, ◌≤◌};
+ghost use Rattle.lists.specs.declared.limits.TheConstants.{MOST_PARTITIONS};
+ghost use Rattle.runs.specs.LinkedBlocks.{LinksAttempts};
+
+use crate::OutOfMemory;
+use block_scan::{Attempts, BlockSource, BlockWork, BlocksFault};
+use buckets::{BucketWork, DayNames};
+use gathering::Inputs;
+use links::{Link, Linked};
+use planning::PlanLink;
+use query::Query;
+use scanning::WrongLength;
+use std::alloc::{AllocError, Global};
+use std::marker::Model;
+
+/// Why there is no second pipeline over a source that is read at places.
+#[derive(Clone, Copy, Debug, PartialEq, Eq)]
+pub enum BlocksStop {
+    /// The source wasn't read whole, or is truncated.
+    Refused { fault: BlocksFault },
+    /// The wrong length of least place.
+    WrongLength { wrong: WrongLength },
+}
+
+/// Puts the pieces of all blocks together, and goes on as `PlanLink` does.
+#[derive(Drop)]
+pub struct BlockLink<'a> {
+    plan: PlanLink<'a>,
+}
+
+impl<'a> Model for BlockLink<'a> {
+    ghost use Rattle.planning.specs.Planned.{LinkView};
+
+    ghost Value = { LinkView };
+
+    ghost view = { λ link. link.plan };
+}
+
+impl<'a> BlockLink<'a> {
+    /// The link of a query to so many buckets.
+    pub fn new(query: &'a Query, parts: u32) -> Self
+        requires { parts ≤ MOST_PARTITIONS }
+        ensures { result ≡ record { query = query.now; parts = parts } }
+    {
+        BlockLink {
+            plan: PlanLink::new(query, parts),
+        }
+    }
+}
+
+impl<'a, S: BlockSource + Send + Sync> Link<BlockWork<S>, BucketWork> for BlockLink<'a> {
+    type Kept = DayNames;
+
+    type Stop = BlocksStop;
+
+    ghost Links = { LinksAttempts S.GaveAt S.EndsAt S.FailsAt };
+
+    fn link(
+        &self,
+        alloc: Global,
+        total: Attempts<S>,
+    ) -> Result<Linked<Inputs<BucketWork>, DayNames, BlocksStop>, OutOfMemory> {
+        let scans = match total.join(alloc) {
+            Ok(scans) => scans,
+            Err(BlocksFault::OutOfMemory) => return Err(AllocError),
+            Err(fault) => return Ok(Linked::Halt {
+                stop: BlocksStop::Refused { fault },
+            }),
+        };
+        match self.plan.link(alloc, scans)? {
+            Linked::Next { inputs, kept } => Ok(Linked::Next { inputs, kept }),
+            Linked::Halt { stop: wrong } => Ok(Linked::Halt {
+                stop: BlocksStop::WrongLength { wrong },
+            }),
+        }
+    }
+}

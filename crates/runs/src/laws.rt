@@ -1,0 +1,27 @@
+//! Laws of what is promised of runs. Each is the contract of a function that does nothing.
+ghost use Rattle.std.specs.Prelude.{◌≡◌, ℕ, List, Result};
+ghost use Rattle.outcomes.specs.declared.day_fault.DayFault.{DayFault as TheDayFault};
+ghost use Rattle.block_scan.specs.Blocks.{GaveWhole};
+ghost use Rattle.runs.specs.Readings.{of_blocks, of_stream};
+ghost use Rattle.runs.specs.Runs.{Answers};
+
+use block_scan::BlockSource;
+use streaming::Source;
+
+/// A stream that can have given one list of bytes alone, from one state to another, has one answer.
+pub fn one_run<S: Source>()
+    ensures { ((a b : S) (xs ys : List ℕ) → S.Gave a b xs → S.Gave a b ys → xs ≡ ys) →
+        (limit target : ℕ) (before after : S) (words : List ℕ) (one other : Result (List ℕ) TheDayFault) →
+        Answers (of_stream S.Gave S.HasEnded limit target before after) words one →
+        Answers (of_stream S.Gave S.HasEnded limit target before after) words other → one ≡ other }
+{}
+
+/// So has a source that is read at places and can have given one list of bytes alone, up to its end.
+pub fn one_run_of_blocks<S: BlockSource>()
+    ensures { (limit : ℕ) (source : S) →
+        ((xs ys : List ℕ) → GaveWhole S.GaveAt S.EndsAt limit source xs →
+        GaveWhole S.GaveAt S.EndsAt limit source ys → xs ≡ ys) →
+        (words : List ℕ) (one other : Result (List ℕ) TheDayFault) →
+        Answers (of_blocks S.GaveAt S.EndsAt S.FailsAt limit source) words one →
+        Answers (of_blocks S.GaveAt S.EndsAt S.FailsAt limit source) words other → one ≡ other }
+{}
