@@ -1,5 +1,5 @@
 -- What the steps of making tables compute: the bar of one sale, two tables in one, bars in order.
--- Derived: it follows the code; of what it computes, the public contracts say `AreBarsOf`, `IsMergeOf` and `IsUnionOf`.
+-- To be believed of a crate used by itself: the table of a bucket is defined by them.
 use Rattle.std.specs.Prelude.{◌≡◌, ℕ, ◌*◌, false, All, List, [], ◌∷◌}
 use Rattle.std.specs.declared.cmp.Ordering.{Ordering}
 use Rattle.std.specs.declared.cmp.Ordering.TheVariants.{Less, Equal, Greater}

@@ -1,5 +1,5 @@
 -- The tasks of a source that is read at places: its blocks, and what came of them.
--- Derived: what is promised of a run speaks of the whole source alone.
+-- To be believed of a crate used by itself: a promise of the program speaks of the whole source alone.
 use Rattle.std.specs.Prelude.{◌≡◌, ℕ, ◌+◌, ◌*◌, ◌<◌, ◌==◌, ◌&&◌, Bool, nat_eq, min, if◌then◌else◌, List, [], ◌∷◌, All, map, length, Result}
 use Rattle.std.specs.Option.{option_eq}
 use Rattle.lists.specs.Least.{numbers_below}

@@ -1,5 +1,5 @@
 -- What is known of a piece of a source that was read and scanned.
--- Derived: what is promised of `scan_blocks` speaks of the whole source alone.
+-- To be believed of a crate used by itself: a promise of the program speaks of the whole source alone.
 use Rattle.std.specs.Prelude.{◌≡◌, ℕ, ◌+◌, ◌<◌, ◌≤◌, List, ◌++◌, length, take, drop, All}
 use Rattle.std.specs.Prelude.{Option, None, Some, Result, Ok, Err}
 use Rattle.std.specs.List.{concat}

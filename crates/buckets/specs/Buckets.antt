@@ -1,5 +1,5 @@
 -- What is found in buckets, which may be worked on together, and which are equal.
--- Derived: the answer isn't said by buckets.
+-- To be believed of a crate used by itself: the answer isn't defined by buckets.
 use Rattle.std.specs.Prelude.{◌≡◌, Bool, true, ◌==◌, ◌&&◌, List, All, length, map, nat_eq}
 use Rattle.std.specs.Cmp.{IsEquivalence}
 use Rattle.std.specs.Cmp.Lexicographic.{lists_equiv, pointwise, same_text}

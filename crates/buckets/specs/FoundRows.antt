@@ -1,5 +1,5 @@
 -- What is found in the rows of one partition, and in those of several.
--- Derived: the answer isn't said by partitions.
+-- To be believed of a crate used by itself: the answer isn't defined by partitions.
 use Rattle.std.specs.Prelude.{ℕ, Bool, List, [], ◌∷◌, ◌++◌, map, Option, option_map, option_to_list, filter_map}
 use Rattle.lists.specs.Least.{least_by}
 use Rattle.order_table.specs.Orders.{first_repeated, repeated_of}
@@ -35,6 +35,7 @@ pub record FoundView : Type 0 where
   pub unknown : Option Unknown
   pub product : Product
 
+-- the value of some rows, for what is listed, the broken match numbers and a selection
 abbrev pub found_of : What → List ℕ → (Sale → Bool) → PartitionView → FoundView
 found_of what breaks selection rows = record {
   repeated = repeated_in rows;
@@ -48,6 +49,7 @@ pub record TotalView : Type 0 where
   pub unknown : Option Unknown
   pub products : List Product
 
+-- the total of what is found in several partitions
 abbrev pub all_found : List FoundView → TotalView
 all_found found = record {
   repeated = least_by (λ repeated. repeated.place) (filter_map (λ one. one.repeated) found);

@@ -1,5 +1,5 @@
 -- What the buckets of a day share: its breaks, each once, and the selection of a query.
--- Derived: the answer isn't said by buckets.
+-- To be believed of a crate used by itself: the answer isn't defined by buckets.
 use Rattle.std.specs.Prelude.{ℕ, ◌==◌, nat_lt, List, [], ◌∷◌, if◌then◌else◌}
 use Rattle.std.specs.declared.alloc.Global.{Global}
 use Rattle.probe.specs.declared.selection.Selection.{Selection}

@@ -1,5 +1,5 @@
 -- What is made of sales: a listing by place, or a table of bars.
--- Derived: a work's value is a function, so one listing and one table are written here; the answer isn't said by them.
+-- To be believed of a crate used by itself: the value of a bucket is one listing, or one table.
 use Rattle.std.specs.Prelude.{ℕ, nat_lt, List, [], ◌∷◌, if◌then◌else◌}
 use Rattle.row_types.specs.declared.trade.Sale.{Sale}
 use Rattle.bars.specs.Steps.{bar_of_one, merged_tables}

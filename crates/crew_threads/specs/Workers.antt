@@ -1,5 +1,5 @@
 -- What a worker's run leaves at its seat and at its port.
--- To be believed.
+-- To be believed of a crate used by itself.
 use Rattle.std.specs.Prelude.{◌≡◌, ℕ, ◌*◌, ◌%◌, ◌<◌, ◌≤◌, Bool, not, List, [], ◌∷◌, ◌++◌, Some, All, Contains}
 use Rattle.std.specs.Prelude.{count_by, filter, map, slice_get}
 use Rattle.dispatcher.specs.Seats.{claims, seen_tasks, WasGiven}

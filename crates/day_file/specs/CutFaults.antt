@@ -1,5 +1,5 @@
 -- What a refusal of `cut` and its like says of the file.
--- To be believed.
+-- To be believed of a crate used by itself.
 use Rattle.std.specs.Prelude.{ℕ, ◌<◌, ◌≤◌, List, length}
 use Rattle.lists.specs.declared.limits.TheConstants.{MOST_MORSELS}
 use Rattle.day_file.specs.declared.cutting.CutFault.{CutFault}

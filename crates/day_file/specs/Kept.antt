@@ -1,5 +1,5 @@
 -- What a `Cut` keeps of its morsels.
--- Derived: what is promised of a `Cut` speaks of its runs alone.
+-- To be believed of a crate used by itself: the inputs of scans are defined by `numbered`.
 use Rattle.std.specs.Prelude.{◌≡◌, ℕ, ◌+◌, ◌≤◌, List, [], ◌∷◌, length, map, All}
 use Rattle.std.specs.List.{concat}
 use Rattle.lists.specs.declared.limits.TheConstants.{LONGEST_FILE, MOST_MORSELS}

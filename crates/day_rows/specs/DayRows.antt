@@ -1,5 +1,5 @@
 -- The rows that messages give, of a day or of a part of it, as lists.
--- Derived: each list is one of Messages, and the answer isn't said by them.
+-- To be believed of a crate used by itself: each list is one of Messages, by which the answer is defined.
 use Rattle.std.specs.Prelude.{◌≡◌, ℕ, ◌<◌, ◌^◌, List, [], ◌∷◌, ◌++◌, All, Option, Some, None, option_to_list, if◌then◌else◌}
 use Rattle.std.specs.List.{flat_map}
 use Rattle.std.specs.List.Sorted.{IsStrictlySortedBy}
@@ -39,19 +39,23 @@ pub record DayRows : Type 0 where
 abbrev pub no_rows : DayRows
 no_rows = record { orders = []; executions = []; own_priced = []; breaks = []; directory = [] }
 
--- one row alone, of each kind
+-- the row of an order alone
 abbrev pub only_order : OrderRow → DayRows
 only_order row = record { orders = row ∷ []; executions = []; own_priced = []; breaks = []; directory = [] }
 
+-- the row of an execution alone
 abbrev pub only_execution : Execution → DayRows
 only_execution row = record { orders = []; executions = row ∷ []; own_priced = []; breaks = []; directory = [] }
 
+-- the row of a sale with a price of its own alone
 abbrev pub only_sale : Sale → DayRows
 only_sale row = record { orders = []; executions = []; own_priced = row ∷ []; breaks = []; directory = [] }
 
+-- the row of a break alone
 abbrev pub only_break : ℕ → DayRows
 only_break trade_no = record { orders = []; executions = []; own_priced = []; breaks = trade_no ∷ []; directory = [] }
 
+-- a row of the stock directory alone
 abbrev pub only_directory_row : DirectoryRow → DayRows
 only_directory_row row = record { orders = []; executions = []; own_priced = []; breaks = []; directory = row ∷ [] }
 

@@ -1,5 +1,5 @@
 -- What contracts see of a dispatcher, of its seats and of the marks that it leaves.
--- To be believed.
+-- To be believed of a crate used by itself.
 use Rattle.std.specs.Prelude.{◌≡◌, ℕ, ◌<◌, ◌≤◌, ◌*◌, List, [], ◌+◌, Any, Bool, false, sum_by}
 use Rattle.std.specs.Prelude.{length, flat_map, slice_index, slice_index_or, All, Contains}
 use Rattle.atomic_table.specs.Seated.{TableId}

@@ -1,5 +1,5 @@
 -- Adding an output to a total, over any work. Its inputs are `A`, its outputs `B`, its totals `C`.
--- To be believed.
+-- To be believed of a crate used by itself.
 use Rattle.std.specs.Prelude.{List, [], ◌∷◌, ◌++◌, Bool}
 use Rattle.std.specs.Cmp.Lexicographic.{pointwise}
 

@@ -1,5 +1,5 @@
 -- When a total is refused.
--- To be believed.
+-- To be believed of a crate used by itself.
 use Rattle.std.specs.Prelude.{ℕ}
 use Rattle.gathering.specs.Views.{GatheringView, IsComplete, IsFirstMissing}
 use Rattle.gathering.specs.declared.gather.TotalRefused.{TotalRefused}

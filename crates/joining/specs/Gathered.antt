@@ -1,5 +1,5 @@
 -- What all buckets of a message list have found, and the text of what they list.
--- Derived: the answer isn't said by buckets.
+-- To be believed of a crate used by itself: the answer isn't defined by buckets.
 use Rattle.std.specs.Prelude.{◌≡◌, ℕ, ◌<◌, ◌+◌, List, length, map, All, Option, Some, None, nat_eq}
 use Rattle.std.specs.List.{IsDistinct}
 use Rattle.std.specs.List.Sorted.{IsPermutation}

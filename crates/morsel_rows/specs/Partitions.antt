@@ -1,5 +1,5 @@
 -- The rows of messages in partitions: by order references, and sales that have a price of their own by places.
--- Derived: the answer isn't said by partitions.
+-- To be believed of a crate used by itself: the answer isn't defined by partitions.
 use Rattle.std.specs.Prelude.{◌≡◌, ℕ, ◌<◌, ◌+◌, List, [], map, length, slice_index_or}
 use Rattle.std.specs.List.{flat_map}
 use Rattle.lists.specs.Least.{numbers_below, part}

@@ -1,5 +1,5 @@
 -- Partitions compared row by row, and rows compared field by field.
--- Derived: what compares as equal is one.
+-- To be believed of a crate used by itself: equality of inputs, by which no answer is defined.
 use Rattle.std.specs.Prelude.{◌≡◌, ℕ, Bool, true, false, ◌==◌, ◌&&◌, List, [], ◌∷◌}
 use Rattle.std.specs.Cmp.{IsEquivalence}
 use Rattle.std.specs.Cmp.Lexicographic.{pointwise}
@@ -17,11 +17,13 @@ use Rattle.morsel_rows.specs.Partitions.{PartitionView}
 abbrev pub is_same_order : OrderRow → OrderRow → Bool
 is_same_order a b = (a.place == b.place) && ((a.order_no == b.order_no) && (a.price == b.price))
 
+-- executions are compared by all their fields
 abbrev pub is_same_execution : Execution → Execution → Bool
 is_same_execution a b =
     (a.place == b.place) && ((a.time == b.time) && ((a.locate == b.locate) && ((a.order_no == b.order_no)
     && ((a.shares == b.shares) && (a.trade_no == b.trade_no)))))
 
+-- both are the same kind
 abbrev pub is_same_kind : Kind → Kind → Bool
 is_same_kind E E = true
 is_same_kind C C = true
@@ -29,6 +31,7 @@ is_same_kind P P = true
 is_same_kind Q Q = true
 is_same_kind _ _ = false
 
+-- sales are compared by all their fields
 abbrev pub is_same_sale : Sale → Sale → Bool
 is_same_sale a b =
     (a.place == b.place) && ((a.time == b.time) && ((a.locate == b.locate) && (is_same_kind a.kind b.kind

@@ -1,5 +1,5 @@
 -- What the total of all morsels is linked to: its wrong length, or a bucket of each partition.
--- Derived: the answer isn't said by morsels and buckets.
+-- To be believed of a crate used by itself: the answer isn't defined by morsels and buckets.
 use Rattle.std.specs.Prelude.{ℕ, List, map, Option, Some, None}
 use Rattle.std.specs.List.{flat_map}
 use Rattle.lists.specs.Least.{numbers_below}

@@ -1,5 +1,5 @@
 -- The sales of executions and the first of them that has no price, told together.
--- Derived: it follows the code, which prices some executions after others.
+-- To be believed of a crate used by itself: the answer prices all executions at once.
 use Rattle.std.specs.Prelude.{◌≡◌, List, option_map}
 use Rattle.order_table.specs.declared.OrderRow.{OrderRow}
 use Rattle.probe.specs.Pricing.{Execution, first_unknown, priced, unknown_of}

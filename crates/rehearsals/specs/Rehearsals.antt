@@ -1,5 +1,5 @@
 -- What a rehearsal over a cut day file gives.
--- To be believed.
+-- To be believed of a crate used by itself.
 use Rattle.std.specs.Prelude.{◌≡◌, ℕ, ◌<◌, true, List, length, map, MatchOption}
 use Rattle.std.specs.List.{concat}
 use Rattle.lists.specs.Least.{numbers_below}

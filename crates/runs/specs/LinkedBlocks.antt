@@ -1,5 +1,5 @@
 -- What comes of the blocks of a source: what they are linked to, and what both pipelines give.
--- Derived: what is promised of a run is `Ran`.
+-- To be believed of a crate used by itself: what is promised of a run is `Ran`.
 use Rattle.std.specs.Prelude.{◌≡◌, ℕ, List, Result, Err}
 use Rattle.std.specs.List.{concat}
 use Rattle.outcomes.specs.declared.day_fault.DayFault.{DayFault}

@@ -1,5 +1,5 @@
 -- What is found in a morsel, and in the morsels of one cut.
--- Derived: the answer isn't said by morsels.
+-- To be believed of a crate used by itself: the answer isn't defined by morsels.
 use Rattle.std.specs.Prelude.{◌≡◌, ℕ, ◌<◌, ◌≤◌, ◌==◌, ◌&&◌, Bool, List, [], ◌∷◌, ◌++◌, All, length, map, nat_eq, Option, Some, None, filter_map}
 use Rattle.std.specs.Prelude.{option_to_list, if◌then◌else◌}
 use Rattle.std.specs.List.{concat}

@@ -1,5 +1,5 @@
 -- What a pair of pipelines gives by two schedules.
--- To be believed.
+-- To be believed of a crate used by itself.
 use Rattle.std.specs.Prelude.{◌≡◌, ◌⊎◌, ℕ, List, Option, Some, None, length}
 use Rattle.schedules.specs.Schedules.{first_left}
 use Rattle.schedules.specs.declared.event.Event.{Event}
