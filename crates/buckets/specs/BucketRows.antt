@@ -37,6 +37,6 @@ bucket_of number plan = record {
   what = plan.what;
 }
 
--- the rows of borrowed partitions, one after the other
+-- the rows of borrowed partitions, one partition after another
 abbrev pub rows_of_parts : List (Bor PartitionView) → PartitionView
 rows_of_parts parts = joined_partitions (map (λ part. part.now) parts)

@@ -41,7 +41,7 @@ pub record AreNumbered (buckets : List BucketView) : Type 0 where
   pub what : What
   pub one : All (λ bucket. bucket.what ≡ what) buckets
 
--- the same number, the same rows morsel by morsel, and the same asked of them
+-- both have the same number, the same rows morsel by morsel, and the same is asked of them
 abbrev pub is_same_bucket : BucketView → BucketView → Bool
 is_same_bucket a b =
     (a.number == b.number)

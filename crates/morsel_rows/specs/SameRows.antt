@@ -13,7 +13,7 @@ use Rattle.row_types.specs.declared.trade.Kind.TheVariants.{E, C, P, Q}
 use Rattle.row_types.specs.declared.trade.Sale.{Sale}
 use Rattle.morsel_rows.specs.Partitions.{PartitionView}
 
--- rows of which each field is the same
+-- order rows are compared by all their fields
 abbrev pub is_same_order : OrderRow → OrderRow → Bool
 is_same_order a b = (a.place == b.place) && ((a.order_no == b.order_no) && (a.price == b.price))
 
@@ -37,7 +37,7 @@ is_same_sale a b =
     (a.place == b.place) && ((a.time == b.time) && ((a.locate == b.locate) && (is_same_kind a.kind b.kind
     && ((a.price == b.price) && ((a.shares == b.shares) && (a.trade_no == b.trade_no))))))
 
--- the same rows in the same order
+-- both have the same rows in the same order
 abbrev pub is_same_partition : PartitionView → PartitionView → Bool
 is_same_partition a b =
     pointwise is_same_order a.orders b.orders
