@@ -54,8 +54,7 @@ asks_for query rows sale =
     has_name query.symbols (name_of rows sale.locate)
     && (has_time query.span sale.time && has_kind query.kinds sale.kind)
 
--- the trades of more than zero shares that no break names and that the query asks for, in the order of the messages,
--- which for a file's messages is that of their places
+-- the trades of more than zero shares that no break names and that the query asks for, in the order of the messages
 abbrev pub selected_sales : Meaning → List Placed → List Sale
 selected_sales query messages =
     kept (break_numbers messages) (asks_for query (directory_rows messages)) (trades messages)

@@ -25,7 +25,7 @@ abbrev pub placed_at : ℕ → Message → Option Placed
 placed_at place Skipped = None
 placed_at place message = Some (record { place = place; message = message })
 
--- the message list: the frames that are messages, with their places, in their order
+-- the message list: the frames that are messages, with their places, in their order, which is that of places
 abbrev pub messages_of : List PlacedBody → List Placed
 messages_of frames = filter_map (λ frame. placed_at frame.place (message_of frame.body)) frames
 
