@@ -53,8 +53,8 @@ impl<A: Allocator> Model for MorselRows<A> {
 }
 
 impl<A: Allocator + Copy> MorselRows<A> {
-    /// No rows, in this many partitions, each with room for so many order rows, which is taken at once. It is
-    /// refused where there is no memory for them.
+    /// No rows, in this many partitions, each with room for `orders` order rows, which is taken at
+    /// once. It is refused if there is no memory for them.
     pub fn new(alloc: A, parts: u32, orders: usize) -> Result<Self, OutOfMemory>
         requires { (0 < parts) × (parts ≤ MOST_PARTITIONS) }
         ensures { IfOk result (λ rows. rows ≡ in_partitions parts no_rows) }

@@ -49,9 +49,9 @@ impl<A: Allocator> Listing<A> {
         Listing { sales }
     }
 
-    /// Takes in the sales of `other`. Where there is no memory to merge the two in, they are sorted
-    /// where they lie. It is refused only where there is no memory for the sales of `other`, of which
-    /// there are some, and then leaves the listing as it was.
+    /// Takes in the sales of `other`. If there is no memory to merge the two, they are sorted in
+    /// place. It is refused only if there is no memory for the sales of `other`, of which there are
+    /// some, and then leaves the listing as it was.
     pub fn unite(&mut self, other: &Listing<A>) -> Result<(), OutOfMemory>
         requires { IsDistinct nat_eq (map (λ sale. sale.place) (self.old ++ other.now)) }
         ensures permutation { OnOk result (IsPermutation (self.old ++ other.now) self.new) }

@@ -8,8 +8,9 @@ use std::alloc::Global;
 use std::thread;
 use std::thread::Threads;
 
-/// The texts that the calls of `text` with 0, 1 and so on give, in this order: each call has a thread
-/// of its own where one can be made. It is refused if a call is, or if there is no memory for the list.
+/// The texts that the calls of `text` with 0, 1 and so on give, in this order: each call has a
+/// thread of its own if one can be made. It is refused if a call is, or if there is no memory for
+/// the list.
 pub fn texts_of<R: Threads + Sync, F: Fn(usize) -> Result<Vec<u8>, OutOfMemory> + Sync>(
     rt: &R,
     alloc: Global,
