@@ -32,7 +32,7 @@ pub enum Kind {
     Q,
 }
 
-/// A trade with its price.
+/// A trade with its price, be it broken or of no shares, until `keep` of `probe` drops those.
 #[derive(Clone, Copy, PartialEq, Eq, Debug)]
 pub struct Sale {
     /// Of the message that gave it, in bytes from the file's start.

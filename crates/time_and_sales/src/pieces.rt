@@ -38,8 +38,8 @@ fn all_of(
     Ok(texts)
 }
 
-/// The least numbers of ranges, the first of them 0: a number that is below the one before it gives
-/// way to that one.
+/// The least numbers of ranges: 0, then the greatest of the numbers so far, for each of them in
+/// turn.
 pub fn bounds_of(alloc: Global, numbers: &[u64]) -> Result<Vec<u64>, OutOfMemory>
     ensures some { IfOk result (λ bounds. 0 < length bounds.items) }
     ensures first { IfOk result (λ bounds. slice_index bounds.items 0 ≡ 0) }

@@ -24,12 +24,13 @@ use std::alloc::{AllocError, Global};
 use std::sync::{Arc, Wait};
 use std::thread::Threads;
 
-/// Answers a query over a whole day file that is read at places, as `run` does over one that is read in
-/// order: its blocks are the tasks of the first pipeline, and their bytes are not kept. The answer is that
-/// of the bytes that were read, each once. `length` is how many bytes the file is expected to have. It has
-/// effect on speed alone, and the crew on speed and memory. The morsel of the settings has no part in it.
+/// Answers a query over a whole day file that is read at places, as `run` does over one that is
+/// read in order: its blocks are the tasks of the first pipeline, and their bytes are not kept. The
+/// answer is that to the bytes that were read; some are read more than once, and then those of one
+/// reading count. `length` is how many bytes the file is expected to have: it only affects speed,
+/// and the crew only speed and memory. The morsel of the settings has no part in it.
 ///
-/// Nothing is written before every refusal but that of the sink is past. It waits for the threads.
+/// Nothing is written until only the sink can still refuse. It waits for the threads.
 pub fn run_blocks<R: Threads + Wait + Sync, S: BlockSource + Send + Sync, K: Sink>(
     rt: &R,
     alloc: Global,
