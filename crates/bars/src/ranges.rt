@@ -52,8 +52,7 @@ fn longest<'a>(tables: &[&'a BarTable]) -> &'a [Bar] {
     longest
 }
 
-/// The locates with which so many parts of the bars, one as long as the other, begin; but not the
-/// first.
+/// The locates with which `parts` parts of the bars, of one length, begin, without the first.
 fn locates_of(alloc: Global, bars: &[Bar], parts: u32) -> Result<Vec<u64>, OutOfMemory> {
     let mut locates = Vec::new(alloc);
     for part in 1..parts {

@@ -38,7 +38,7 @@ pub(crate) fn guess<S: BlockSource>(
     Ok(from)
 }
 
-/// Whether so many frames that look like messages stand one after the other from here.
+/// Whether the given number of frames that look like messages follow one another from here.
 fn is_likely(bytes: &[u8], from: usize) -> bool {
     let Some(mut rest) = bytes.get(from..) else {
         return false;

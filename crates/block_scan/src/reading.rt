@@ -109,8 +109,8 @@ pub(crate) fn scan_piece<S: BlockSource>(
     })
 }
 
-/// Reads at this place at most so many bytes as there is room for, and says how many those are. A byte behind
-/// the limit is a refusal, and none behind that is asked for.
+/// Reads at this place at most as many bytes as there is room for, and says how many those are. A
+/// byte past the limit is a refusal, and none after that is asked for.
 fn read_some<S: BlockSource>(
     source: &S,
     limit: u64,

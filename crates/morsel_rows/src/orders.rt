@@ -80,7 +80,7 @@ impl<A: Allocator + Copy> OrderList<A> {
 }
 
 impl<A: Allocator> OrderList<A> {
-    /// Adds a row at the end. Where there is no memory for it, the list stays as it was.
+    /// Adds a row at the end. If there is no memory for it, the list stays as it was.
     #[inline(always)]
     pub fn push(&mut self, row: OrderRow) -> Result<(), OutOfMemory>
         ensures added { OnOk result (self.new ≡ self.old ++ row ∷ []) }
@@ -129,7 +129,7 @@ impl<A: Allocator> OrderList<A> {
         RisingRows::of(self.start, self.narrow.as_slice())
     }
 
-    /// Adds the rows to a vector. Where there is no memory for them, the vector stays as it was.
+    /// Adds the rows to a vector. If there is no memory for them, the vector stays as it was.
     pub fn append_to<B: Allocator>(&self, out: &mut Vec<OrderRow, B>) -> Result<(), OutOfMemory>
         ensures appended { OnOk result (out.new.items ≡ out.old.items ++ self.now) }
         ensures unchanged { OnErr result (out.new.items ≡ out.old.items) }

@@ -97,9 +97,9 @@ impl<A: Allocator> MorselRows<A> {
         self.directory.as_slice()
     }
 
-    /// Adds the row of one message more, whose frame is at this place, in bytes from the file's start,
-    /// if the message counts up to this moment, in seconds since midnight; of one that is past it there
-    /// is none. Where there is no memory for it, the rows stay as they were.
+    /// Adds the row of one more message, whose frame is at this place, in bytes from the file's
+    /// start, if the message counts up to this moment, in seconds since midnight; one that is past
+    /// it has no row. If there is no memory for it, the rows stay as they were.
     #[inline(always)]
     pub fn add_counted(
         &mut self,

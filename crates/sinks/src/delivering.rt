@@ -52,7 +52,7 @@ pub fn deliver_pieces<K: Sink, A: Allocator>(
     Ok(())
 }
 
-/// Writes all pieces, and tells how many bytes they have.
+/// Writes all pieces, and says how many bytes they have.
 fn put_pieces<K: Sink, A: Allocator>(
     sink: &mut K,
     pieces: &[Vec<u8, A>],

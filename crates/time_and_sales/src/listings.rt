@@ -102,8 +102,8 @@ impl<A: Allocator> Listing<A> {
     }
 }
 
-/// Puts sales in the order of their places. Where there is memory for it the rising runs that they come
-/// in are merged, and else they are sorted where they lie.
+/// Puts sales in the order of their places. If there is memory for it, the rising runs that they
+/// come in are merged; if not, they are sorted in place.
 fn put_by_place<A: Allocator>(sales: &mut Vec<Sale, A>)
     requires { IsDistinct nat_eq (map (λ sale. sale.place) sales.old.items) }
     ensures permutation { IsPermutation sales.old.items sales.new.items }

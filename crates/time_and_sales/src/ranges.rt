@@ -56,7 +56,7 @@ fn longest<'a>(listings: &[&'a Listing]) -> &'a [Sale] {
     longest
 }
 
-/// The places at which so many parts of the sales, one as long as the other, begin; but not the first.
+/// The places at which `parts` parts of the sales, of one length, begin, without the first.
 fn places_of(alloc: Global, sales: &[Sale], parts: u32) -> Result<Vec<u64>, OutOfMemory> {
     let mut places = Vec::new(alloc);
     for part in 1..parts {

@@ -140,7 +140,7 @@ fn outcome_of_blocks<G: Gate, R: Threads + Wait + Sync, S: BlockSource + Send + 
     Ok(run_pair(rt, alloc, inputs, &link, crew, gate)?)
 }
 
-/// What is told where a source gives no rows: the place where it is truncated, or a refusal.
+/// What is reported if a source gives no rows: the place where it is truncated, or a refusal.
 fn answer_of_fault(fault: BlocksFault, limit: u64) -> Result<Answer, RunFault>
     ensures answers { IfOk result (λ answer. TellsTruncated fault (told_by answer)) }
     ensures refused { IfErr result (IsRefusedFor limit fault) }
