@@ -9,8 +9,8 @@ use Rattle.outcomes.specs.declared.run_fault.RunFault.TheVariants as fault
 use Rattle.reports.specs.FaultLines.{status_of}
 use Rattle.reports.specs.Reports.{Reported, status_of_outcome}
 
--- over what is known of its source, the job did to its output what a run of its query does, and the output failed
--- exactly where the outcome says so; this is the outcome's status, and the line of the outcome's fault went to the
+-- given what is known of its source, the job did to its output what a run of its query does, and the output failed if
+-- and only if the outcome says so; the status is the outcome's, and the line of its fault, if it has one, went to the
 -- errors
 abbrev pub Did : {K L : Type 0} → Reading
     → (K → K → List ℕ → Type 0) → (K → Type 0) → (K → Bool)
