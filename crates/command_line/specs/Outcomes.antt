@@ -31,7 +31,8 @@ tells_failed_reading status = status == status_of fault.ReadFailed
 module _ {K L : Type 0} (OutTook : K → K → List ℕ → Type 0) (OutHasFlushed : K → Type 0) (out_failed : K → Bool)
     (Took : L → L → List ℕ → Type 0) (HasFlushed : L → Type 0) (has_failed : L → Bool) (job : Job) where
   -- the job was done over a stream, from some state of it to a later one; the status says whether it failed
-  abbrev pub DidStream : {S : Type 0} → (S → S → List ℕ → Type 0) → (S → Type 0) → (S → Bool) → K → K → L → L → ℕ → Type 0
+  abbrev pub DidStream : {S : Type 0} → (S → S → List ℕ → Type 0) → (S → Type 0) → (S → Bool)
+      → K → K → L → L → ℕ → Type 0
   DidStream {S} Gave HasEnded source_failed out out_after errors errors_after status =
       (before : S) × (after : S) × (source_failed before ≡ false)
       × Did (of_stream Gave HasEnded job.settings.limit job.settings.morsel before after)
@@ -39,7 +40,8 @@ module _ {K L : Type 0} (OutTook : K → K → List ℕ → Type 0) (OutHasFlush
       × (source_failed after ≡ tells_failed_reading status)
 
   -- the job was done over a source that is read at places, and its words give no size of morsels
-  abbrev pub DidBlocks : {S : Type 0} → (S → ℕ → List ℕ → Type 0) → (S → ℕ → Type 0) → (S → ℕ → Type 0) → K → K → L → L → ℕ → Type 0
+  abbrev pub DidBlocks : {S : Type 0} → (S → ℕ → List ℕ → Type 0) → (S → ℕ → Type 0) → (S → ℕ → Type 0)
+      → K → K → L → L → ℕ → Type 0
   DidBlocks {S} GaveAt EndsAt FailsAt out out_after errors errors_after status =
       (job.morsel_given ≡ false) × (source : S)
       × Did (of_blocks GaveAt EndsAt FailsAt job.settings.limit source)

@@ -51,13 +51,16 @@ fn start<R: Threads + Wait + Sync, K: Sink, L: Sink>(
     requires out { K.has_failed out.old ≡ false }
     requires errors { L.has_failed errors.old ≡ false }
     ensures did { DidStream K.Took K.HasFlushed K.has_failed L.Took L.HasFlushed L.has_failed job.now
-        ⟦<Counted<Stdin> as Source>⟧.Gave ⟦<Counted<Stdin> as Source>⟧.HasEnded ⟦<Counted<Stdin> as Source>⟧.has_failed
+        ⟦<Counted<Stdin> as Source>⟧.Gave ⟦<Counted<Stdin> as Source>⟧.HasEnded
+        ⟦<Counted<Stdin> as Source>⟧.has_failed
         out.old out.new errors.old errors.new result
         ⊎ DidStream K.Took K.HasFlushed K.has_failed L.Took L.HasFlushed L.has_failed job.now
-        ⟦<Counted<File> as Source>⟧.Gave ⟦<Counted<File> as Source>⟧.HasEnded ⟦<Counted<File> as Source>⟧.has_failed
+        ⟦<Counted<File> as Source>⟧.Gave ⟦<Counted<File> as Source>⟧.HasEnded
+        ⟦<Counted<File> as Source>⟧.has_failed
         out.old out.new errors.old errors.new result
         ⊎ DidBlocks K.Took K.HasFlushed K.has_failed L.Took L.HasFlushed L.has_failed job.now
-        ⟦<FileBlocks<File> as BlockSource>⟧.GaveAt ⟦<FileBlocks<File> as BlockSource>⟧.EndsAt ⟦<FileBlocks<File> as BlockSource>⟧.FailsAt
+        ⟦<FileBlocks<File> as BlockSource>⟧.GaveAt ⟦<FileBlocks<File> as BlockSource>⟧.EndsAt
+        ⟦<FileBlocks<File> as BlockSource>⟧.FailsAt
         out.old out.new errors.old errors.new result
         ⊎ DidNotOpen K.Took K.HasFlushed K.has_failed L.Took L.HasFlushed L.has_failed job.now
         out.old out.new errors.old errors.new result }
