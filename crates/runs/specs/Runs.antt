@@ -15,7 +15,7 @@ use Rattle.outcomes.specs.declared.run_fault.RunFault.TheVariants as fault
 abbrev pub IsQuery : List ℕ → Type 0
 IsQuery words = (query : Meaning) × Means (words_of words) query
 
--- the words mean a query, all that the source had to give was read, and this is the answer to it
+-- the words mean a query, all that the source had to give was read, and this is the answer to the query over it
 pub record Answers (reading : Reading) (words : List ℕ) (answer : Result (List ℕ) DayFault) : Type 0 where
   pub query : Meaning
   pub day : List ℕ
