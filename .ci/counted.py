@@ -7,6 +7,8 @@ TOP = pathlib.Path(__file__).resolve().parent.parent
 PROGRAM = pathlib.Path(os.environ.get("ITCH_BARS", TOP / "crates/itch_bars/out/itch_bars"))
 # Far more than any run takes: so much processor time is only taken by code of another order.
 MOST_SECONDS = 60
+# A run that waits so many seconds waits for ever.
+LONGEST_WAIT = 900
 
 Thread = collections.namedtuple("Thread", "number starter allocations bytes largest")
 Call = collections.namedtuple("Call", "kind thread file place asked count")
@@ -74,9 +76,9 @@ class Runner:
                 file.write(frame)
         return path
 
-    def run(self, words, given=None, meet="", room=None):
-        """The counts of a run, and what it wrote. `given` is its standard input, a file, `meet` says which threads wait for one
-        another, and `room` how many bytes of addresses it may have."""
+    def run(self, words, given=None, meet="", first=0, room=None):
+        """The counts of a run. `given` is its standard input, a file; `meet` says which threads wait for one
+        another, and `first` for which one all later ones do (counts.c); `room` is how many bytes of addresses it may have."""
 
         def limit():
             resource.setrlimit(resource.RLIMIT_CPU, (MOST_SECONDS, MOST_SECONDS))
@@ -85,15 +87,18 @@ class Runner:
 
         report = self.folder / "report"
         report.unlink(missing_ok=True)
-        counted = {"LD_PRELOAD": str(self.library), "COUNTS_REPORT": str(report), "COUNTS_MEET": meet}
+        counted = {"LD_PRELOAD": self.library, "COUNTS_REPORT": report, "COUNTS_MEET": meet, "COUNTS_FIRST": first}
+        counted = {key: str(value) for key, value in counted.items()}
         words = [str(word) for word in words]
         with open(given or os.devnull, "rb") as source:
-            done = subprocess.run(
-                [PROGRAM, *words], stdin=source, capture_output=True, env={**os.environ, **counted}, preexec_fn=limit
-            )
+            settings = {"env": {**os.environ, **counted}, "preexec_fn": limit, "timeout": LONGEST_WAIT}
+            try:
+                done = subprocess.run([PROGRAM, *words], stdin=source, capture_output=True, **settings)
+            except subprocess.TimeoutExpired:
+                stop(f"doesn't end: {' '.join(words)}")
         if done.returncode or done.stderr:
             stop(f"status {done.returncode} {done.stderr[:300]}: {' '.join(words)}")
-        return Counts(report.read_text()), done.stdout
+        return Counts(report.read_text())
 
 
 def frame(body):

@@ -8,6 +8,7 @@
 //                   Threads have the numbers of their order of starting; the first one of the process is 0.
 //   COUNTS_MEET     groups of threads, as `p1-4a5-8`: the threads 1 to 4 wait in the first reading of each (pread), and 5 to 8
 //                   in the first large allocation of each, until all of the group are there, for two minutes at most
+//   COUNTS_FIRST    a thread: those of a greater number wait in the first large allocation of each until it has ended
 typedef unsigned long size;
 
 void *__libc_malloc(size);
@@ -36,7 +37,7 @@ enum { LARGE = 2048, STEP = 1000, STEPS = 120000 };
 
 struct thread {
     long starter, allocations, bytes, largest;
-    int has_allocated, has_read, is_alone;
+    int has_allocated, has_read, is_alone, has_ended;
     void *(*start)(void *);
     void *argument;
 };
@@ -54,7 +55,7 @@ struct call {
 static struct thread threads[MOST_THREADS];
 static struct group groups[MOST_GROUPS];
 static struct call calls[MOST_CALLS];
-static long started, group_count, call_count, allocations, bytes_in_all, held, most_held;
+static long started, group_count, first, call_count, allocations, bytes_in_all, held, most_held;
 static __thread long own __attribute__((tls_model("initial-exec")));
 static input *next_read;
 static input_at *next_pread;
@@ -70,7 +71,9 @@ __attribute__((constructor)) static void begin(void) {
     next_write = dlsym((void *)-1L, "write");
     next_start = dlsym((void *)-1L, "pthread_create");
     next_exit = dlsym((void *)-1L, "_exit");
-    char *text = getenv("COUNTS_MEET");
+    char *text = getenv("COUNTS_FIRST");
+    first = text ? strtol(text, 0, 10) : 0;
+    text = getenv("COUNTS_MEET");
     while (text && *text && group_count < MOST_GROUPS) {
         struct group *group = &groups[group_count++];
         group->at = *text;
@@ -79,20 +82,28 @@ __attribute__((constructor)) static void begin(void) {
     }
 }
 
+// Waits a moment, of which a wait has so many. Says whether there are more, and notes if not.
+static int is_waiting(long *step) {
+    if (++*step > STEPS) threads[own].is_alone = 1;
+    else usleep(STEP);
+    return *step <= STEPS;
+}
+
 // Waits until all threads of this one's group are there.
 static void meet(char at) {
     for (long i = 0; i < group_count; i++) {
         struct group *group = &groups[i];
         if (group->at != at || own < group->first || own > group->last) continue;
         add(&group->arrived, 1);
-        for (long step = 0; add(&group->arrived, 0) <= group->last - group->first; step++) {
-            if (step == STEPS) {
-                threads[own].is_alone = 1;
-                return;
-            }
-            usleep(STEP);
-        }
+        long step = 0;
+        while (add(&group->arrived, 0) <= group->last - group->first && is_waiting(&step)) {}
     }
+}
+
+// Waits until the thread that comes first has ended.
+static void give_way(void) {
+    long step = 0;
+    while (own > first && !__atomic_load_n(&threads[first].has_ended, __ATOMIC_SEQ_CST) && is_waiting(&step)) {}
 }
 
 static void hold(void *block, long sign) {
@@ -107,6 +118,7 @@ static void *allocated(void *block, size bytes) {
     if (bytes >= LARGE && !thread->has_allocated) {
         thread->has_allocated = 1;
         meet('a');
+        if (first) give_way();
     }
     add(&allocations, 1);
     add(&bytes_in_all, bytes);
@@ -136,7 +148,9 @@ void free(void *block) {
 static void *run(void *argument) {
     struct thread *thread = argument;
     own = thread - threads;
-    return thread->start(thread->argument);
+    void *given = thread->start(thread->argument);
+    __atomic_store_n(&thread->has_ended, 1, __ATOMIC_SEQ_CST);
+    return given;
 }
 
 int pthread_create(unsigned long *handle, const void *attributes, void *(*start)(void *), void *argument) {
