@@ -76,9 +76,10 @@ class Runner:
                 file.write(frame)
         return path
 
-    def run(self, words, given=None, meet="", first=0, room=None):
-        """The counts of a run. `given` is its standard input, a file; `meet` says which threads wait for one
-        another, and `first` for which one all later ones do (counts.c); `room` is how many bytes of addresses it may have."""
+    def run(self, words, given=None, meet="", reading=0, first=0, room=None):
+        """The counts of a run. `given` is its standard input, a file; `meet` says which threads wait for one another, `reading`
+        which reading of the caller does with the first of them, and `first` for which one all later ones do (counts.c); `room`
+        is how many bytes of addresses it may have."""
 
         def limit():
             resource.setrlimit(resource.RLIMIT_CPU, (MOST_SECONDS, MOST_SECONDS))
@@ -87,8 +88,8 @@ class Runner:
 
         report = self.folder / "report"
         report.unlink(missing_ok=True)
-        counted = {"LD_PRELOAD": self.library, "COUNTS_REPORT": report, "COUNTS_MEET": meet, "COUNTS_FIRST": first}
-        counted = {key: str(value) for key, value in counted.items()}
+        counted = {"REPORT": report, "MEET": meet, "READING": reading, "FIRST": first}
+        counted = {f"COUNTS_{key}": str(value) for key, value in counted.items()} | {"LD_PRELOAD": str(self.library)}
         words = [str(word) for word in words]
         with open(given or os.devnull, "rb") as source:
             settings = {"env": {**os.environ, **counted}, "preexec_fn": limit, "timeout": LONGEST_WAIT}

@@ -8,6 +8,7 @@
 //                   Threads have the numbers of their order of starting; the first one of the process is 0.
 //   COUNTS_MEET     groups of threads, as `p1-4a5-8`: the threads 1 to 4 wait in the first reading of each (pread), and 5 to 8
 //                   in the first large allocation of each, until all of the group are there, for two minutes at most
+//   COUNTS_READING  a reading of thread 0 (read), counted from 1, that waits with the first of those groups
 //   COUNTS_FIRST    a thread: those of a greater number wait in the first large allocation of each until it has ended
 typedef unsigned long size;
 
@@ -44,7 +45,7 @@ struct thread {
 
 struct group {
     char at;
-    long first, last, arrived;
+    long first, last, count, arrived;
 };
 
 struct call {
@@ -55,7 +56,7 @@ struct call {
 static struct thread threads[MOST_THREADS];
 static struct group groups[MOST_GROUPS];
 static struct call calls[MOST_CALLS];
-static long started, group_count, first, call_count, allocations, bytes_in_all, held, most_held;
+static long started, group_count, first, joining, readings, call_count, allocations, bytes_in_all, held, most_held;
 static __thread long own __attribute__((tls_model("initial-exec")));
 static input *next_read;
 static input_at *next_pread;
@@ -79,7 +80,11 @@ __attribute__((constructor)) static void begin(void) {
         group->at = *text;
         group->first = strtol(text + 1, &text, 10);
         group->last = strtol(text + 1, &text, 10);
+        group->count = group->last - group->first + 1;
     }
+    text = getenv("COUNTS_READING");
+    joining = text ? strtol(text, 0, 10) : 0;
+    if (joining) groups[0].count++;
 }
 
 // Waits a moment, of which a wait has so many. Says whether there are more, and notes if not.
@@ -89,14 +94,18 @@ static int is_waiting(long *step) {
     return *step <= STEPS;
 }
 
+// Waits until all of a group are there.
+static void wait_for(struct group *group) {
+    add(&group->arrived, 1);
+    long step = 0;
+    while (add(&group->arrived, 0) < group->count && is_waiting(&step)) {}
+}
+
 // Waits until all threads of this one's group are there.
 static void meet(char at) {
     for (long i = 0; i < group_count; i++) {
         struct group *group = &groups[i];
-        if (group->at != at || own < group->first || own > group->last) continue;
-        add(&group->arrived, 1);
-        long step = 0;
-        while (add(&group->arrived, 0) <= group->last - group->first && is_waiting(&step)) {}
+        if (group->at == at && own >= group->first && own <= group->last) wait_for(group);
     }
 }
 
@@ -169,7 +178,10 @@ static long called(const char *kind, int file, long place, size asked, long coun
     return count;
 }
 
-long read(int file, void *into, size bytes) { return called("read", file, -1, bytes, next_read(file, into, bytes)); }
+long read(int file, void *into, size bytes) {
+    if (own == 0 && add(&readings, 1) == joining) wait_for(&groups[0]);
+    return called("read", file, -1, bytes, next_read(file, into, bytes));
+}
 
 long pread(int file, void *into, size bytes, long place) {
     struct thread *thread = &threads[own];
