@@ -32,7 +32,7 @@ abbrev pub but_last : List (List ℕ) → List (List ℕ)
 but_last runs = take (length runs - 1) runs
 
 -- a cut, each run of which is the shortest that has at least as many bytes as the target, or the rest. At most one
--- cut is that (`one_cut`), and each answer of `cut` says that the file is truncated, or has such a cut
+-- cut is that (`one_cut`), and each answer of `cut` says that the file is truncated, or has such a cut.
 pub record IsCutBy (target : ℕ) (runs : List (List ℕ)) (bytes : List ℕ) : Type 0 where
   pub cut : IsCutOf runs bytes
   pub shortest : All (HasNoShorter target) runs
@@ -44,7 +44,7 @@ ends_of start [] = []
 ends_of start (run ∷ runs) = (start + length run) ∷ ends_of (start + length run) runs
 
 -- a cut, all runs of which but the last end at these places. At most one cut is that (`one_cut_at`), and each answer
--- of `cut_at` says that the file is truncated, that an end is bad, or that there is such a cut
+-- of `cut_at` says that the file is truncated, that an end is bad, or that there is such a cut.
 pub record IsCutAt (ends : List ℕ) (runs : List (List ℕ)) (bytes : List ℕ) : Type 0 where
   pub cut : IsCutOf runs bytes
   pub at : ends_of 0 (but_last runs) ≡ ends

@@ -34,7 +34,7 @@ pub record StandsFrom (start : ℕ) (frames : List PlacedBody) (bytes : List ℕ
   pub whole : bytes ≡ spelling frames
 
 -- these are the frames of these bytes, each with the number of bytes before it. At most one list is that, and its
--- places rise (`one_reading`)
+-- places rise (`one_reading`).
 abbrev pub StandsFor : List PlacedBody → List ℕ → Type 0
 StandsFor frames bytes = StandsFrom 0 frames bytes
 
@@ -47,7 +47,7 @@ abbrev pub IsStuck : List ℕ → Type 0
 IsStuck bytes = (body rest : List ℕ) → IsShort body → bytes ≡ frame_of body ++ rest → ⊥
 
 -- whole frames come before this place, and after it something that doesn't begin with a whole frame. No whole file is
--- truncated, and none at two places (`one_reading`); `check` answers that a file is whole or where it is truncated
+-- truncated, and none at two places (`one_reading`); `check` answers that a file is whole or where it is truncated.
 pub record IsTruncatedAt (bytes : List ℕ) (place : ℕ) : Type 0 where
   pub front : IsWhole (take place bytes)
   pub within : place < length bytes

@@ -30,7 +30,7 @@ abbrev pub messages_of : List PlacedBody → List Placed
 messages_of frames = filter_map (λ frame. placed_at frame.place (message_of frame.body)) frames
 
 -- a message counts up to a moment, in seconds since midnight: its time is not past it. Without a moment,
--- each counts
+-- each counts.
 abbrev pub is_counted : Option ℕ → Message → Bool
 is_counted None message = true
 is_counted (Some moment) message =

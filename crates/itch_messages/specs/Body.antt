@@ -196,7 +196,7 @@ parts_of (Directory m) = (82 ∷ []) ∷ header_parts m.header ++ m.stock ∷ m.
 parts_of Skipped = []
 
 -- the body of a message: its type's byte and its fields, in the order of their offsets. A body is read as a message
--- if and only if it is that message's body (`one_body_each`)
+-- if and only if it is that message's body (`one_body_each`).
 abbrev pub body_of : Message → List ℕ
 body_of message = concat (parts_of message)
 
