@@ -27,7 +27,7 @@ pub(crate) enum Way {
     Run(Settings),
     /// On threads, read by blocks.
     Blocks(Settings),
-    /// The same, where so many bytes are expected.
+    /// The same, for a file that is expected to have this many bytes.
     Expected(Settings, u64),
     /// On one thread, by schedules, over a cut by this morsel.
     Rehearsed(u64, Schedule),
@@ -39,7 +39,7 @@ pub(crate) enum Way {
     Repeated(Repeat),
 }
 
-/// A part of a query's text, in bytes, and how often it stands in a longer one.
+/// A part of a query's text, in bytes, and how often it occurs in a longer one.
 #[derive(Clone, Copy)]
 pub(crate) struct Repeat {
     pub(crate) from: u32,
@@ -68,7 +68,7 @@ pub(crate) struct Schedule {
     ghost parts_in_range: { (0 < parts) × (parts ≤ MOST_PARTITIONS) },
 }
 
-/// The bytes of the next case, behind their number; None at the input's end.
+/// The bytes of the next case, which come after their number; None at the input's end.
 pub(crate) fn next_case<R: Read>(alloc: Global, input: &mut R) -> io::Result<Option<Vec<u8>>> {
     let mut head = [0u8; 4];
     if input.read_exact(&mut head).is_err() {

@@ -20,7 +20,7 @@ impl Lines {
         }
     }
 
-    /// Adds a line. Equal ones that follow one another are written once, behind their number.
+    /// Adds a line. Equal ones that follow one another are written once, after their number.
     pub(crate) fn add(&mut self, alloc: Global, line: Vec<u8>) -> io::Result<()> {
         if self.count == 0 || self.last.as_slice() != line.as_slice() {
             self.write_last(alloc)?;

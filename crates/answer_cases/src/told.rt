@@ -4,7 +4,7 @@ use executor::{Answer, Cut, Query, Rehearsal, RunFault, rehearse};
 use std::alloc::Global;
 use std::io;
 
-/// Appends a text; a tab stands for the end of a line.
+/// Appends a text, with a tab for the end of a line.
 pub(crate) fn append_text(out: &mut Vec<u8>, text: &[u8]) -> io::Result<()> {
     for byte in text {
         out.push(if *byte == b'\n' { b'\t' } else { *byte })?;

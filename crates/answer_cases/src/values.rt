@@ -7,7 +7,7 @@ use std::io;
 use std::sync::Wait;
 use std::thread::Threads;
 
-/// Adds what is told of a case in one way with each of the values.
+/// Adds what a case gives in one way with each of the values.
 pub(crate) fn tell_each<R: Threads + Wait + Sync>(
     rt: &R,
     alloc: Global,

@@ -15,7 +15,7 @@ use std::io;
 use std::sync::{Arc, Wait};
 use std::thread::Threads;
 
-/// Adds what is told of a case in one way.
+/// Adds what a case gives in one way.
 pub(crate) fn tell<R: Threads + Wait + Sync>(
     rt: &R,
     alloc: Global,
@@ -136,7 +136,7 @@ fn by_schedule(
     }
 }
 
-/// A cut's fault, as a run tells it.
+/// A cut's fault, as a run reports it.
 pub(crate) fn run_fault_of(fault: CutFault) -> RunFault {
     match fault {
         CutFault::Truncated { place } => RunFault::Day(DayFault::Truncated { place }),

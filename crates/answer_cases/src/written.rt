@@ -44,7 +44,7 @@ fn append_written(alloc: Global, line: &mut Vec<u8>, query: &Query) -> io::Resul
     Ok(written)
 }
 
-/// Adds what a longer text means. Its canonical text isn't told where that is the very text.
+/// Adds what a longer text means, and its canonical text, unless that is the text itself.
 pub(crate) fn tell_repeated(
     alloc: Global,
     pattern: &str,

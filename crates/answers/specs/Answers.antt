@@ -10,7 +10,7 @@ use Rattle.day_file.specs.Frames.{PlacedBody, StandsFor, IsTruncatedAt}
 use Rattle.row_types.specs.declared.order.OrderRow.{OrderRow}
 use Rattle.order_table.specs.Orders.{first_repeated}
 use Rattle.row_types.specs.declared.trade.Sale.{Sale}
-use Rattle.probe.specs.Pricing.{first_unknown, sale_of}
+use Rattle.probe.specs.Pricing.{Execution, first_unknown, sale_of}
 use Rattle.probe.specs.Selection.{has_kind, has_time}
 use Rattle.probe.specs.Trades.{kept}
 use Rattle.time_and_sales.specs.Names.{name_of}
@@ -74,15 +74,25 @@ IsTextOfMessages query messages text =
 
 -- ---- the answer: a text, or a fault
 
+-- an answer: the fault that there is, if there is one, and else what the rest says
+abbrev pub FaultOr : {X : Type 0} → Option X → (X → DayFault) → Result (List ℕ) DayFault → Type 0 → Type 0
+FaultOr found fault_of answer rest = MatchOption found rest (λ x. answer ≡ Err (fault_of x))
+
+-- what is reported of an order reference that is given again
+abbrev pub repeated_at : OrderRow → DayFault
+repeated_at repeated = RepeatedReference repeated.place repeated.order_no
+
+-- what is reported of an execution whose order no message before it gives
+abbrev pub unknown_at : Execution → DayFault
+unknown_at unknown = UnknownReference unknown.place unknown.order_no
+
 -- over messages: the first order reference that is given again; else the first that an execution names and no
 -- message before it gives; else the text that is asked for
 abbrev pub IsAnswerToMessages : List Placed → Meaning → Result (List ℕ) DayFault → Type 0
 IsAnswerToMessages messages query answer =
-    MatchOption (first_repeated (order_rows messages))
-    (MatchOption (first_unknown (order_rows messages) (executions messages))
-    ((text : List ℕ) × IsTextOfMessages query messages text × (answer ≡ Ok text))
-    (λ unknown. answer ≡ Err (UnknownReference unknown.place unknown.order_no)))
-    (λ repeated. answer ≡ Err (RepeatedReference repeated.place repeated.order_no))
+    FaultOr (first_repeated (order_rows messages)) repeated_at answer
+    (FaultOr (first_unknown (order_rows messages) (executions messages)) unknown_at answer
+    ((text : List ℕ) × IsTextOfMessages query messages text × (answer ≡ Ok text)))
 
 -- what is reported of a frame whose length is wrong
 abbrev pub wrong_length_at : PlacedBody → DayFault
@@ -93,9 +103,8 @@ wrong_length_at frame =
 -- over frames: the first wrong length, whatever the moment; else what answers to the messages that count
 abbrev pub IsAnswerToFrames : List PlacedBody → Meaning → Result (List ℕ) DayFault → Type 0
 IsAnswerToFrames frames query answer =
-    MatchOption (first_wrong frames)
+    FaultOr (first_wrong frames) wrong_length_at answer
     (IsAnswerToMessages (counted query.as_of (messages_of frames)) query answer)
-    (λ wrong. answer ≡ Err (wrong_length_at wrong))
 
 -- over a file: its truncation; else what answers to its frames. No file has both, as day_file's `one_reading`
 -- says; and no file and query have two answers, as `one_answer` says.

@@ -1,5 +1,5 @@
 -- What the laws of moments speak of.
--- To be believed.
+-- To be believed of a crate used by itself.
 use Rattle.std.specs.Prelude.{◌≡◌, ℕ, true, List, All, Option, None}
 use Rattle.day_file.specs.Frames.{PlacedBody, StandsFor}
 use Rattle.meaning.specs.Meaning.{Meaning}

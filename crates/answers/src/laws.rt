@@ -11,8 +11,8 @@ pub fn one_answer()
         IsAnswer file query one → IsAnswer file query other → one ≡ other }
 {}
 
-/// The law of a late moment: where no message of a file is past it, a query has the answers that it has
-/// without the moment. It does nothing when it runs.
+/// The law of a late moment: if no message of a file is past it, a query has the answers that it
+/// has without the moment. It does nothing when it runs.
 pub fn moment_past_all()
     ensures { (file : List ℕ) (query : Meaning) (answer : Result (List ℕ) DayFault) →
         NoneIsPast query.as_of file →

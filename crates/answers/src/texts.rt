@@ -55,7 +55,7 @@ pub fn text_of_bars<A: Allocator + Copy>(
 }
 
 /// The text of time and sales of all listings: a header line, then a line for each sale, by place.
-/// Threads make it, each a part for a range of places; there are so many ranges, or one.
+/// Threads make it, each a part for a range of places; there are `ranges` such parts, or one.
 pub fn text_of_listings<R: Threads + Sync>(
     rt: &R,
     alloc: Global,
@@ -77,9 +77,9 @@ pub fn text_of_listings<R: Threads + Sync>(
     of_all(header, lines)
 }
 
-/// The text of the bars of all tables, those of one locate and start made one: a header line, then a
+/// The text of the bars of all tables, those of one locate and start joined: a header line, then a
 /// line for each bar, by locate and then by start. Threads make it, each a part for a range of
-/// locates; there are so many ranges, or one.
+/// locates; there are `ranges` such parts, or one.
 pub fn text_of_tables<R: Threads + Sync>(
     rt: &R,
     alloc: Global,

@@ -7,15 +7,15 @@ use Rattle.clap.specs.Words.{App, Rule, new_app, new_rule, with_rule}
 use Rattle.clap.specs.declared.builder.action.ArgAction.TheVariants.{Set}
 use Rattle.clap.specs.declared.builder.value_parser.ValueParser.TheVariants.{Signed, Unsigned}
 
--- the day file's path, which has to be there
+-- the day file's path, which is required
 abbrev pub file_rule : Rule
 file_rule = record (new_rule (codes "FILE")) { required = true; action = Some Set }
 
--- the query's text, which has to be there
+-- the query's text, which is required
 abbrev pub query_rule : Rule
 query_rule = record (new_rule (codes "QUERY")) { required = true; action = Some Set }
 
--- `--workers N`, from 1 to the most workers, and 4 where it is left out
+-- `--workers N`, from 1 to the most workers; 4 if it is left out
 abbrev pub workers_rule : Rule
 workers_rule = record (new_rule (codes "workers")) {
   long = Some (codes "workers");
@@ -25,7 +25,7 @@ workers_rule = record (new_rule (codes "workers")) {
   defaults = codes "4" ∷ [];
 }
 
--- `--morsel BYTES`, from 1 to the largest morsel, and 1,048,576 where it is left out
+-- `--morsel BYTES`, from 1 to the largest morsel; 1,048,576 if it is left out
 abbrev pub morsel_rule : Rule
 morsel_rule = record (new_rule (codes "morsel")) {
   long = Some (codes "morsel");
@@ -35,7 +35,7 @@ morsel_rule = record (new_rule (codes "morsel")) {
   defaults = codes "1048576" ∷ [];
 }
 
--- `--partitions N`, from 1 to the most partitions, and 64 where it is left out
+-- `--partitions N`, from 1 to the most partitions; 64 if it is left out
 abbrev pub partitions_rule : Rule
 partitions_rule = record (new_rule (codes "partitions")) {
   long = Some (codes "partitions");
@@ -45,7 +45,7 @@ partitions_rule = record (new_rule (codes "partitions")) {
   defaults = codes "64" ∷ [];
 }
 
--- `--gatherers N`, from 1 to the most gatherers, and 1 where it is left out
+-- `--gatherers N`, from 1 to the most gatherers; 1 if it is left out
 abbrev pub gatherers_rule : Rule
 gatherers_rule = record (new_rule (codes "gatherers")) {
   long = Some (codes "gatherers");

@@ -16,7 +16,7 @@ use Rattle.arguments.specs.declared.arguments.Job.{Job}
 use Rattle.arguments.specs.declared.arguments.WordsFault.{WordsFault}
 use Rattle.arguments.specs.declared.arguments.WordsFault.TheVariants as fault
 
--- the number that a text writes in decimal digits, after a plus or none
+-- the number that a text writes in decimal digits, with or without a leading plus
 abbrev pub number_of : Text → ℕ
 number_of text = digits_value 10 (without_leading_plus text)
 
@@ -28,7 +28,7 @@ pub record HasSettingsOf (rows : List Row) (settings : Settings) : Type 0 where
   pub gatherers : option_map number_of (one_of (codes "gatherers") rows) ≡ Some settings.crew.gatherers
   pub limit : settings.limit ≡ LONGEST_FILE
 
--- where a value is from: the words, and not a default
+-- a value comes from the words, and is no default
 abbrev pub is_of_words : Option ValueSource → Bool
 is_of_words (Some CommandLine) = true
 is_of_words _ = false
@@ -44,8 +44,8 @@ pub record IsJobOf (rows : List Row) (job : Job) : Type 0 where
   pub morsel_given : job.morsel_given ≡ is_given (codes "morsel") rows
   pub settings : HasSettingsOf rows job.settings
 
--- the fault is help, or the version, only where this is among what clap may answer, and wrong words only where another
--- refusal is; want of memory says nothing of the words
+-- the fault is help, or the version, only if that is among what clap may answer, and wrong words only if another
+-- refusal is; running out of memory says nothing of the words
 abbrev pub IsFaultOf : Kinds → WordsFault → Type 0
 IsFaultOf kinds (fault.Help text) = IsAmong DisplayHelp kinds
 IsFaultOf kinds (fault.Version text) = IsAmong DisplayVersion kinds

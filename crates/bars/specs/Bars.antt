@@ -25,8 +25,8 @@ abbrev pub has_key : ℕ → Key → Sale → Bool
 has_key width key sale =
     (sale.locate == key.locate) && (start_of width sale.time == key.start)
 
--- the bar of the sales of one key, in whatever order they stand: first and last by place, high and low by price, the
--- sums and the count. Of no sales there is no bar
+-- the bar of the sales of one key, in whatever order they come: first and last by place, high and low by price, the
+-- sums and the count; no bar if there are no sales
 abbrev pub bar_of : Key → List Sale → Option Bar
 bar_of key [] = None
 bar_of key (sale ∷ sales) =
@@ -73,7 +73,7 @@ IsTraded bar =
 
 -- ---- two tables made one
 
--- two bars of one key made one: of sales at one place, the first bar's stands
+-- two bars of one key joined: of sales at one place, the first bar's counts
 abbrev pub joined_bar : Bar → Bar → Bar
 joined_bar a b =
     record {
@@ -90,13 +90,13 @@ joined_bar a b =
       trades = a.trades + b.trades;
     }
 
--- the bar that there is under a key in one of two tables, or both made one
+-- the bar under a key in one of two tables, or both of them joined
 abbrev pub joined : Option Bar → Option Bar → Option Bar
 joined None b = b
 joined (Some a) None = Some a
 joined (Some a) (Some b) = Some (joined_bar a b)
 
--- the table has, by rising keys, the bars of two tables, those of one key made one
+-- the table has, by rising keys, the bars of two tables, those of one key joined
 pub record IsMergeOf (one other table : List Bar) : Type 0 where
   pub rise : IsByKey table
   pub each : (key : Key) → found table key ≡ joined (found one key) (found other key)
@@ -114,7 +114,7 @@ SumsFit one other =
 
 -- ---- many tables made one
 
--- the bars of a list, all of one key, made one in its order, with what there was before
+-- the bars of a list, all of one key, joined in its order to what there was before
 abbrev pub joined_all : Option Bar → List Bar → Option Bar
 joined_all before [] = before
 joined_all before (bar ∷ bars) = joined_all (joined before (Some bar)) bars
@@ -128,7 +128,7 @@ under key bars =
 abbrev pub all_bars : List (List Bar) → List Bar
 all_bars tables = flat_map (λ table. table) tables
 
--- the table has, by rising keys, the bars of a list, those of one key made one
+-- the table has, by rising keys, the bars of a list, those of one key joined
 pub record IsUnionOf (bars table : List Bar) : Type 0 where
   pub rise : IsByKey table
   pub each : (key : Key) → found table key ≡ joined_all None (under key bars)
@@ -139,7 +139,7 @@ pub record AllSumsFit (bars : List Bar) : Type 0 where
   pub notional : (key : Key) → sum_by (λ bar. bar.notional) (under key bars) < 2 ^ 128
   pub trades : (key : Key) → sum_by (λ bar. bar.trades) (under key bars) < 2 ^ 64
 
--- each table is that of the list of sales at its place
+-- each table is that of the list of sales in its position
 abbrev pub AreBarsOfEach : ℕ → List (List Sale) → List (List Bar) → Type 0
 AreBarsOfEach width lists tables = AllZip (AreBarsOf width) lists tables
 

@@ -1,5 +1,5 @@
 -- What the steps of making tables compute: the bar of one sale, two tables in one, bars in order.
--- Derived: it follows the code; of what it computes, the public contracts say `AreBarsOf`, `IsMergeOf` and `IsUnionOf`.
+-- To be believed of a crate used by itself: the table of a bucket is defined by them.
 use Rattle.std.specs.Prelude.{◌≡◌, ℕ, ◌*◌, false, All, List, [], ◌∷◌}
 use Rattle.std.specs.declared.cmp.Ordering.{Ordering}
 use Rattle.std.specs.declared.cmp.Ordering.TheVariants.{Less, Equal, Greater}
@@ -26,11 +26,11 @@ bar_of_one width sale =
       trades = 1;
     }
 
--- no bar of the table stands after the bar
+-- no bar of the table comes after the bar
 abbrev pub IsUpTo : List Bar → Bar → Type 0
 IsUpTo table bar = All (λ kept. is_gt (key_cmp kept bar) ≡ false) table
 
--- one of three, by an order
+-- one of three values, by how two things compare
 abbrev pub by_order : Ordering → List Bar → List Bar → List Bar → List Bar
 by_order Less lower same higher = lower
 by_order Equal lower same higher = same
@@ -48,7 +48,7 @@ abbrev pub merged_tables : List Bar → List Bar → List Bar
 merged_tables [] other = other
 merged_tables (one ∷ others) other = put_before one (merged_tables others) other
 
--- bars in order of their keys, those of one key as they stood before
+-- bars in the order of their keys, those of one key in the order that they had
 pub record IsOrderOf (bars sorted : List Bar) : Type 0 where
   pub rise : IsSorted key_cmp sorted
   pub each : (key : Key) → under key sorted ≡ under key bars

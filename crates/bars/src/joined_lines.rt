@@ -50,7 +50,7 @@ pub(crate) fn joined_lines(
     Ok(text)
 }
 
-/// The name of a locate, which isn't looked up where it is the locate before.
+/// The name of a locate, which isn't looked up if it is the same locate as before.
 #[inline]
 fn next_name(names: &Names, name: Name, before: u16, locate: u16) -> Name
     requires { name ≡ name_text before (last_row names.now before) }

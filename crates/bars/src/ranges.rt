@@ -18,9 +18,10 @@ use std::alloc::Global;
 use std::thread::Threads;
 use time_and_sales::{Names, bounds_of, texts_of};
 
-/// The lines of the bars of all tables, those of one locate and start made one, in pieces that stand
-/// for one text when they are joined. There are so many pieces, or one: each is of the bars in a range
-/// of locates, which a thread of its own joins and writes. It is refused if a thread was refused memory.
+/// The lines of the bars of all tables, those of one locate and start joined, in pieces that are
+/// one text when they are put together. There are `ranges` pieces, or one: each is of the bars in a
+/// range of locates, which a thread of its own joins and writes. It is refused if a thread was
+/// refused memory.
 pub fn lines_in_ranges<R: Threads + Sync>(
     rt: &R,
     alloc: Global,
@@ -51,8 +52,7 @@ fn longest<'a>(tables: &[&'a BarTable]) -> &'a [Bar] {
     longest
 }
 
-/// The locates with which so many parts of the bars, one as long as the other, begin; but not the
-/// first.
+/// The locates with which `parts` parts of the bars, of one length, begin, without the first.
 fn locates_of(alloc: Global, bars: &[Bar], parts: u32) -> Result<Vec<u64>, OutOfMemory> {
     let mut locates = Vec::new(alloc);
     for part in 1..parts {

@@ -67,8 +67,8 @@ impl<A: Allocator> BarTable<A> {
 }
 
 impl<A: Allocator + Clone> BarTable<A> {
-    /// The table of the sales, in whatever order they stand, at a width in seconds. It is refused
-    /// where there is no memory to sort a copy of them, or for the bars.
+    /// The table of the sales, in whatever order they are, at a width in seconds. It is refused if
+    /// there is no memory to sort a copy of them, or for the bars.
     pub fn of_sales(alloc: A, sales: &[Sale], width: u32) -> Result<BarTable<A>, OutOfMemory>
         requires places { IsDistinct nat_eq (map (λ sale. sale.place) sales.now) }
         requires count { length sales.now < TRADE_LIMIT }
@@ -81,8 +81,8 @@ impl<A: Allocator + Clone> BarTable<A> {
         BarTable::of_vec(alloc, copy, width)
     }
 
-    /// The table of the sales as `of_sales` gives it, but they are sorted where they are, and no copy
-    /// is made. It is refused where there is no memory for the bars.
+    /// The table of the sales as `of_sales` gives it, but they are sorted in place, and no copy is
+    /// made. It is refused if there is no memory for the bars.
     pub fn of_vec<B: Allocator>(
         alloc: A,
         mut sales: Vec<Sale, B>,
@@ -105,7 +105,7 @@ impl<A: Allocator + Clone> BarTable<A> {
     }
 
     /// One table of the bars of all tables, in memory of `alloc`: those of one locate and start are
-    /// made one. It is refused where there is no memory for them or to sort them.
+    /// joined. It is refused if there is no memory for them or to sort them.
     pub fn merge_all<B: Allocator>(
         alloc: A,
         tables: &[&BarTable<B>],
@@ -127,7 +127,7 @@ impl<A: Allocator + Clone> BarTable<A> {
         })
     }
 
-    /// Takes in the bars of `other`, those of one locate and start made one. It is refused where
+    /// Takes in the bars of `other`, and joins those of one locate and start. It is refused if
     /// there is no memory for the bars of both, and then leaves the table as it was.
     pub fn merge<B: Allocator>(&mut self, other: &BarTable<B>) -> Result<(), OutOfMemory>
         requires sums { SumsFit self.old other.now }

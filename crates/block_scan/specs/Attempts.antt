@@ -1,5 +1,5 @@
 -- The tasks of a source that is read at places: its blocks, and what came of them.
--- Derived: what is promised of a run speaks of the whole source alone.
+-- To be believed of a crate used by itself: a promise of the program speaks of the whole source alone.
 use Rattle.std.specs.Prelude.{◌≡◌, ℕ, ◌+◌, ◌*◌, ◌<◌, ◌==◌, ◌&&◌, Bool, nat_eq, min, if◌then◌else◌, List, [], ◌∷◌, All, map, length, Result}
 use Rattle.std.specs.Option.{option_eq}
 use Rattle.lists.specs.Least.{numbers_below}
@@ -10,7 +10,7 @@ use Rattle.block_scan.specs.Pieces.{IsAskable}
 
 -- S is sources
 module _ (S : Type 0) where
-  -- a block: where it begins and ends, of which source, and what is asked of that
+  -- a block: where it begins and ends, of which source, and what is asked of it
   pub record BlockView : Type 0 where
     pub source : S
     pub request : Request
@@ -23,18 +23,18 @@ module _ (S : Type 0) where
     pub request : Request
     pub found : Result Piece BlocksFault
 
--- they ask the same
+-- both requests ask the same
 abbrev pub is_same_request : Request → Request → Bool
 is_same_request a b =
     (a.limit == b.limit) && option_eq nat_eq a.as_of b.as_of && (a.parts == b.parts) && (a.block == b.block)
 
 module _ {S : Type 0} where
-  -- they are blocks of equal sources between the same places, of which the same is asked
+  -- both blocks are of equal sources, between the same places, and the same is asked of them
   abbrev pub is_same_block : (S → S → Bool) → BlockView S → BlockView S → Bool
   is_same_block eq a b =
       eq a.source b.source && is_same_request a.request b.request && (a.from == b.from) && (a.to == b.to)
 
-  -- the block of this number, of so many: the last goes on to the source's end
+  -- the block of this number, of `count` blocks: the last one reaches to the source's end
   abbrev pub block_at : S → Request → ℕ → ℕ → BlockView S
   block_at source request count number = record {
     source = source;
@@ -47,7 +47,7 @@ module _ {S : Type 0} where
   abbrev pub blocks_of : S → Request → ℕ → List (BlockView S)
   blocks_of source request count = map (block_at source request count) (numbers_below count)
 
-  -- this may come of the block
+  -- this may come of the block: an attempt at the same source for the same request
   abbrev pub Gives : BlockView S → AttemptView S → Type 0
   Gives block attempt = (attempt.source ≡ block.source) × (attempt.request ≡ block.request)
 
@@ -57,7 +57,7 @@ module _ {S : Type 0} where
   AreOf (block ∷ blocks) (attempt ∷ attempts) = Gives block attempt × AreOf blocks attempts
   AreOf _ _ = ⊥
 
-  -- there are some blocks, all of one source, of which one thing is asked that may be asked
+  -- there is at least one block, and all are of one source with one request, which may be made
   pub record AreBlocks (blocks : List (BlockView S)) : Type 0 where
     pub source : S
     pub request : Request
@@ -65,7 +65,7 @@ module _ {S : Type 0} where
     pub some : 0 < length blocks
     pub each : All (λ block. (block.source ≡ source) × (block.request ≡ request)) blocks
 
-  -- there is some attempt, and all are at blocks of this source, of which this is asked
+  -- there is at least one attempt, and all are at blocks of this source for this request
   pub record AreAttemptsOf (source : S) (request : Request) (attempts : List (AttemptView S)) : Type 0 where
     pub some : 0 < length attempts
     pub each : All (λ attempt. (attempt.source ≡ source) × (attempt.request ≡ request)) attempts

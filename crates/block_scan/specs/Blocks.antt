@@ -11,14 +11,14 @@ module _ {S : Type 0} (GaveAt : S → ℕ → List ℕ → Type 0) where
   abbrev pub GaveMoreAt : ℕ → S → Type 0
   GaveMoreAt limit source = (byte : ℕ) × GaveAt source limit (byte ∷ [])
 
-  -- readings gave these bytes from the source's start on, no more than the limit, and one found no byte behind them
+  -- readings gave these bytes from the source's start on, no more than the limit, and one found no byte after them
   pub record GaveWhole (EndsAt : S → ℕ → Type 0) (limit : ℕ) (source : S) (day : List ℕ) : Type 0 where
     pub gave : GaveAt source 0 day
     pub ended : EndsAt source (length day)
     pub within : length day ≤ limit
 
--- What a refusal says of what the source gave: a reading failed at some place; it gave more than the limit; all that
--- it gave is truncated there; and where memory was short, nothing.
+-- what each refusal of a source that is read at places says: a reading failed at some place; or the source gave more
+-- than the limit; or all that it gave is truncated there; out of memory says nothing
 abbrev pub IsBlocksFault : {S : Type 0} → (S → ℕ → List ℕ → Type 0) → (S → ℕ → Type 0) → (S → ℕ → Type 0)
     → S → ℕ → BlocksFault → Type 0
 IsBlocksFault GaveAt EndsAt FailsAt source limit fault.ReadFailed = (place : ℕ) × FailsAt source place

@@ -4,12 +4,12 @@ use Rattle.std.specs.Prelude.{◌≡◌, ℕ, ◌≤◌, Bool, nat_eq, List, len
 use Rattle.std.specs.Cmp.Lexicographic.{pointwise}
 use Rattle.std.specs.Option.{option_eq}
 
--- these bytes stand at this place, if it is known which do
+-- these bytes are at this place, if it is known which are
 abbrev pub KnownAt : Option (List ℕ) → ℕ → List ℕ → Type 0
 KnownAt None place bytes = Unit {0}
 KnownAt (Some all) place bytes = take (length bytes) (drop place all) ≡ bytes
 
--- no byte stands at this place, if that is known
+-- no byte is at this place, if that is known
 abbrev pub KnownEnd : Option (List ℕ) → ℕ → Type 0
 KnownEnd None place = Unit {0}
 KnownEnd (Some all) place = length all ≤ place

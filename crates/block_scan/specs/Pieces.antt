@@ -1,5 +1,5 @@
 -- What is known of a piece of a source that was read and scanned.
--- Derived: what is promised of `scan_blocks` speaks of the whole source alone.
+-- To be believed of a crate used by itself: a promise of the program speaks of the whole source alone.
 use Rattle.std.specs.Prelude.{◌≡◌, ℕ, ◌+◌, ◌<◌, ◌≤◌, List, ◌++◌, length, take, drop, All}
 use Rattle.std.specs.Prelude.{Option, None, Some, Result, Ok, Err}
 use Rattle.std.specs.List.{concat}
@@ -16,14 +16,14 @@ use Rattle.block_scan.specs.declared.piece.Tail.{Tail}
 use Rattle.block_scan.specs.declared.piece.Tail.TheVariants.{More, Whole, Cut}
 use Rattle.block_scan.specs.declared.request.Request.{Request}
 
--- the limit is no longer than a file may be, and there may be so many partitions
+-- the limit is no longer than a file may be, and the number of partitions is one that is allowed
 pub record IsAskable (request : Request) : Type 0 where
   pub limit : request.limit ≤ LONGEST_FILE
   pub some : 0 < request.parts
   pub most : request.parts ≤ MOST_PARTITIONS
 
--- what a walk over bytes did, which stand at this place: the frames of so many of them were taken in, and it ended at
--- the target or where no whole frame stands
+-- what a walk did over bytes that begin at this place: the frames of the first `walked` of them were taken in, and it
+-- ended at the target, or where there is no whole frame
 pub record IsWalked (as_of : Option ℕ) (bytes : List ℕ) (place target walked : ℕ) (old new : ScanView)
     : Type 0 where
   pub frames : List PlacedBody
@@ -34,12 +34,12 @@ pub record IsWalked (as_of : Option ℕ) (bytes : List ℕ) (place target walked
   pub ends : place + walked < target → IsStuck (drop walked bytes)
   pub short : place + walked < target → length bytes < walked + 65538
 
--- a total, and the same with the scan of a piece, if that has a frame
+-- a total, and the same total with the scan of a piece, if the piece has a frame
 pub record IsJoined (piece : Piece) (old new : ScanTotalView) : Type 0 where
   pub none : piece.start ≡ piece.end → new ≡ old
   pub some : piece.start < piece.end → new ≡ with_scan old piece.scanned
 
--- what follows from a piece: more is to come behind it, or it was the last, or it is cut off
+-- what follows from a piece: more comes after it, or it was the last, or it is cut off
 abbrev pub IsFollowedBy : Piece → ScanTotalView → ScanTotalView → Result (Option ℕ) BlocksFault → Type 0
 IsFollowedBy piece old new (Ok (Some end)) = (piece.tail ≡ More) × (end ≡ piece.end) × IsJoined piece old new
 IsFollowedBy piece old new (Ok None) = (piece.tail ≡ Whole) × IsJoined piece old new
@@ -50,7 +50,7 @@ IsFollowedBy piece old new (Err TooLong) = ⊥
 
 -- S is a source. `GaveAt` says which bytes it gave to readings from a place on, and `EndsAt` that one found none there.
 module _ {S : Type 0} (GaveAt : S → ℕ → List ℕ → Type 0) (EndsAt : S → ℕ → Type 0) where
-  -- how a piece ended, at this place, behind which these bytes were read too
+  -- how a piece ended at this place, after which `rest` was read too
   abbrev pub EndsBy : S → ℕ → ℕ → List ℕ → Tail → Type 0
   EndsBy source limit end rest More = Unit {0}
   EndsBy source limit end rest Whole = EndsAt source end

@@ -1,5 +1,5 @@
 -- What all blocks of a source give.
--- Derived: the answer isn't said by runs of frames.
+-- To be believed of a crate used by itself: the answer isn't defined by runs of frames.
 use Rattle.std.specs.Prelude.{◌≡◌, ℕ, List, All, Option}
 use Rattle.std.specs.List.{concat}
 use Rattle.day_file.specs.Cuts.{AreBytes, IsRun}

@@ -1,4 +1,4 @@
--- What stands at a place of a list.
+-- What is at a place of a list.
 -- Derived: the laws of `Memory` cite it, and it defines nothing.
 use Rattle.std.proofs.Common.{◌≡◌, ℕ, ◌+◌, ◌≤◌, true, nat_eq, List, ◌++◌, length, take, drop, sym, ap, ◌∙◌, subst}
 use Rattle.std.specs.Cmp.Lexicographic.{pointwise, same_text}

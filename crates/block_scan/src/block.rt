@@ -77,7 +77,7 @@ impl<S: BlockSource> Block<S> {
         self.from
     }
 
-    /// The place at or behind which the first frame isn't its own any more.
+    /// The place from which on the first frame isn't its own any more.
     pub(crate) fn to(&self) -> u64
         ensures { result ≡ self.now.to }
     {

@@ -18,9 +18,10 @@ use std::alloc::Global;
 use std::sync::Arc;
 
 impl<S: BlockSource> Attempts<S> {
-    /// What the whole source gives: its pieces put together, the first fault of a reading, or the place
-    /// where all that was read is truncated. In place of a piece that doesn't begin where the one before
-    /// it ends stands one that is read from there, and what is left behind the last one is read here.
+    /// What the whole source gives: its pieces put together, the first fault of a reading, or the
+    /// place where all that was read is truncated. A piece that doesn't begin where the one before
+    /// it ends is replaced by one that is read from there, and what is left after the last one is
+    /// read here.
     pub fn join(&self, alloc: Global) -> Result<ScanTotal, BlocksFault>
         requires { (source : S) × (request : Request) × AreAttemptsOf source request self.now }
         ensures scanned { IfOk result (λ total. (source : S) (request : Request) →
@@ -86,7 +87,7 @@ fn chain<S: BlockSource>(
         &mut buffer,
     )? {
         None => Ok(total),
-        // A piece whose target is behind the limit ends where the source does.
+        // A piece whose target is past the limit ends where the source does.
         Some(_) => unreachable!(),
     }
 }

@@ -13,7 +13,7 @@ const MOST: u64 = 32 << 20;
 /// How many blocks each worker is to have.
 const EACH: u64 = 8;
 
-/// So many blocks of so many bytes each, of which the last goes on to the source's end.
+/// A number of blocks of one length in bytes, of which the last goes on to the source's end.
 #[derive(Clone, Copy)]
 pub struct Division {
     pub bytes: u64,
@@ -22,7 +22,7 @@ pub struct Division {
 }
 
 impl Division {
-    /// The blocks of a source that is expected to have so many bytes, for so many workers.
+    /// The blocks of a source that is expected to have `length` bytes, for this many workers.
     pub fn of(length: u64, workers: u32) -> Self {
         let length = length.min(LONGEST_FILE);
         let bytes = (length / (EACH * u64::from(workers.max(1)))).clamp(LEAST, MOST);

@@ -8,7 +8,7 @@ use day_file::DeviceFailed;
 pub enum BlocksFault {
     /// A reading failed.
     ReadFailed,
-    /// The source has a byte behind the limit.
+    /// The source has a byte past the limit.
     TooLong,
     /// What was read, all of it, is truncated at this place, in bytes from its start.
     Truncated { place: u64 },

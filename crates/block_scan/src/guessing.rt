@@ -13,8 +13,8 @@ const SHORTEST: usize = 12;
 
 const LONGEST: usize = 50;
 
-/// A place at or behind this one where a frame seems to begin, within the limit. Nothing more is promised
-/// of it: what is found from there on counts only where the piece before it ends there.
+/// A place from this one on where a frame seems to begin, within the limit. Nothing more is
+/// promised of it: what is found from there on counts only if the piece before it ends there.
 pub(crate) fn guess<S: BlockSource>(
     source: &S,
     from: u64,
@@ -38,7 +38,7 @@ pub(crate) fn guess<S: BlockSource>(
     Ok(from)
 }
 
-/// Whether so many frames that look like messages stand one after the other from here.
+/// Whether the given number of frames that look like messages follow one another from here.
 fn is_likely(bytes: &[u8], from: usize) -> bool {
     let Some(mut rest) = bytes.get(from..) else {
         return false;

@@ -7,7 +7,7 @@ use crate::source::BlockSource;
 use day_file::DeviceFailed;
 use std::marker::Model;
 
-/// Bytes in memory, as which contracts see it. What they give at a place is what stands there.
+/// Bytes in memory, which is what contracts see of it. What they give at a place is what is there.
 #[derive(Drop)]
 pub struct Memory<'a> {
     pub bytes: &'a [u8],

@@ -5,9 +5,9 @@ use scanning::Scanned;
 /// How a piece ended.
 #[derive(Clone, Copy, Debug, PartialEq, Eq)]
 pub enum Tail {
-    /// At the first frame at or behind its target.
+    /// At the first frame that begins at or after its target.
     More,
-    /// At the end of the source, behind whole frames.
+    /// At the end of the source, after whole frames.
     Whole,
     /// At a frame that the end of the source cuts.
     Cut,

@@ -46,7 +46,7 @@ pub(crate) fn zeros(alloc: Global) -> Result<Vec<u8>, OutOfMemory>
     vec![in alloc; 0u8; BUFFER]
 }
 
-/// Refuses a source that has a byte behind the limit.
+/// Refuses a source that has a byte past the limit.
 pub(crate) fn refuse_longer<S: BlockSource>(source: &S, limit: u64) -> Result<(), BlocksFault>
     ensures asked { OnOk result (S.EndsAt source.now limit) }
     ensures fault { IfErr result (IsBlocksFault S.GaveAt S.EndsAt S.FailsAt source.now limit) }
@@ -58,8 +58,9 @@ pub(crate) fn refuse_longer<S: BlockSource>(source: &S, limit: u64) -> Result<()
     Ok(())
 }
 
-/// Reads from the start on, and scans the whole frames that it reads, up to the first one at or behind
-/// the target, or to the source's end. Of the bytes it keeps no more than the buffer has room for.
+/// Reads from the start on, and scans the whole frames that it reads, up to the first one that
+/// begins at or after the target, or to the source's end. It keeps no more of the bytes than the
+/// buffer has room for.
 pub(crate) fn scan_piece<S: BlockSource>(
     alloc: Global,
     source: &S,
@@ -108,8 +109,8 @@ pub(crate) fn scan_piece<S: BlockSource>(
     })
 }
 
-/// Reads at this place at most so many bytes as there is room for, and says how many those are. A byte behind
-/// the limit is a refusal, and none behind that is asked for.
+/// Reads at this place at most as many bytes as there is room for, and says how many those are. A
+/// byte past the limit is a refusal, and none after that is asked for.
 fn read_some<S: BlockSource>(
     source: &S,
     limit: u64,

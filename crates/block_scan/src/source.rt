@@ -3,10 +3,11 @@ ghost use Rattle.std.specs.Prelude.{◌≡◌, ◌≤◌, ◌<◌, ◌+◌, ◌+
 
 use day_file::DeviceFailed;
 
-/// A device that gives the bytes at a place, as often and to as many threads as one likes. Places are
-/// in bytes from its start. Two readings of one place may give different bytes: a file may change.
+/// A device that gives the bytes at a place, to any number of threads and any number of times.
+/// Places are in bytes from its start. Two readings of one place may give different bytes: a file
+/// may change.
 ///
-/// Threads tell by `==` whether a piece of work is theirs: it holds of a source and itself.
+/// Threads see by `==` whether a piece of work is theirs: a source is equal to itself.
 pub trait BlockSource: Eq + Drop {
     // Readings from this place on, one or more, gave these bytes.
     ghost GaveAt: { Self → ℕ → List ℕ → Type 0 };

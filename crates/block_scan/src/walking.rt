@@ -8,8 +8,8 @@ use day_file::{Frames, LENGTH_BYTES};
 use lists::limits::LONGEST_FILE;
 use scanning::OpenScan;
 
-/// Takes the whole frames of bytes that stand at this place into the scan, up to the first one at or
-/// behind the target, and says how many bytes they have.
+/// Takes the whole frames of bytes that begin at this place into the scan, up to the first one that
+/// begins at or after the target, and says how many bytes they have.
 pub(crate) fn walk(
     bytes: &[u8],
     place: u64,

@@ -15,8 +15,9 @@ use std::alloc::{AllocError, Global};
 use std::marker::PhantomData;
 use std::sync::Arc;
 
-/// Reads and scans blocks. Two readings of a block may find different bytes, so what comes of a block isn't
-/// a function of it. The blocks of one source may be read, of which one thing is asked.
+/// Reads and scans blocks. Two readings of a block may find different bytes, so what comes of a
+/// block isn't a function of it. Blocks may be worked on together if they are of one source and of
+/// one request.
 #[derive(Drop)]
 pub struct BlockWork<S: BlockSource> {
     source: PhantomData<S>,

@@ -33,7 +33,8 @@ impl<A: Allocator> Breaks<A> {
         }
     }
 
-    /// The numbers of the breaks, in whatever order they stand and however often. Takes no memory.
+    /// The numbers of the breaks, in whatever order they are and however often each occurs. Takes
+    /// no memory.
     pub fn from_rows(mut rows: Vec<u64, A>) -> Breaks<A>
         ensures numbers { HasNumbersOf rows.items result }
         ensures rising { IsStrictlyIncreasing result }

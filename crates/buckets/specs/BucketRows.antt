@@ -1,5 +1,5 @@
 -- A bucket: the rows of one partition, morsel by morsel, and what is asked of them.
--- Derived: the answer isn't said by buckets.
+-- To be believed of a crate used by itself: the answer isn't defined by buckets.
 use Rattle.std.specs.Prelude.{ℕ, List, map}
 use Rattle.std.specs.Arc.{arc_value}
 use Rattle.std.specs.Borrow.{Bor}
@@ -23,6 +23,7 @@ pub record BucketView : Type 0 where
 abbrev pub rows_at : ℕ → List (Arc MorselRowsView Global) → List PartitionView
 rows_at number morsels = map (λ morsel. partition_at number (arc_value morsel)) morsels
 
+-- the rows that a plan has for the bucket of this number, morsel by morsel
 abbrev pub planned_rows : ℕ → Plan → List PartitionView
 planned_rows number plan = rows_at number plan.rows.items
 
@@ -36,6 +37,6 @@ bucket_of number plan = record {
   what = plan.what;
 }
 
--- the rows of borrowed partitions, one after the other
+-- the rows of borrowed partitions, one partition after another
 abbrev pub rows_of_parts : List (Bor PartitionView) → PartitionView
 rows_of_parts parts = joined_partitions (map (λ part. part.now) parts)

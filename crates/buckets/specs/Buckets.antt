@@ -1,5 +1,5 @@
 -- What is found in buckets, which may be worked on together, and which are equal.
--- Derived: the answer isn't said by buckets.
+-- To be believed of a crate used by itself: the answer isn't defined by buckets.
 use Rattle.std.specs.Prelude.{◌≡◌, Bool, true, ◌==◌, ◌&&◌, List, All, length, map, nat_eq}
 use Rattle.std.specs.Cmp.{IsEquivalence}
 use Rattle.std.specs.Cmp.Lexicographic.{lists_equiv, pointwise, same_text}
@@ -41,7 +41,7 @@ pub record AreNumbered (buckets : List BucketView) : Type 0 where
   pub what : What
   pub one : All (λ bucket. bucket.what ≡ what) buckets
 
--- the same number, the same rows morsel by morsel, and the same asked of them
+-- both have the same number, the same rows morsel by morsel, and the same is asked of them
 abbrev pub is_same_bucket : BucketView → BucketView → Bool
 is_same_bucket a b =
     (a.number == b.number)

@@ -1,5 +1,5 @@
 -- What is found in the rows of one partition, and in those of several.
--- Derived: the answer isn't said by partitions.
+-- To be believed of a crate used by itself: the answer isn't defined by partitions.
 use Rattle.std.specs.Prelude.{ℕ, Bool, List, [], ◌∷◌, ◌++◌, map, Option, option_map, option_to_list, filter_map}
 use Rattle.lists.specs.Least.{least_by}
 use Rattle.order_table.specs.Orders.{first_repeated, repeated_of}
@@ -13,11 +13,11 @@ use Rattle.morsel_rows.specs.Partitions.{PartitionView}
 use Rattle.buckets.specs.Products.{product_of}
 use Rattle.buckets.specs.declared.product.Product.{Product}
 
--- what is told of the first order row that repeats a reference
+-- what is reported of the first order row that repeats a reference
 abbrev pub repeated_in : PartitionView → Option Repeated
 repeated_in rows = option_map repeated_of (first_repeated rows.orders)
 
--- what is told of the first execution that has no price
+-- what is reported of the first execution that has no price
 abbrev pub unknown_in : PartitionView → Option Unknown
 unknown_in rows = option_map unknown_of (first_unknown rows.orders rows.executions)
 
@@ -25,16 +25,17 @@ unknown_in rows = option_map unknown_of (first_unknown rows.orders rows.executio
 abbrev pub trades_in : PartitionView → List Sale
 trades_in rows = priced rows.orders rows.executions ++ rows.own_priced
 
--- those that are kept
+-- the trades that are kept
 abbrev pub sales_in : List ℕ → (Sale → Bool) → PartitionView → List Sale
 sales_in breaks selection rows = kept breaks selection (trades_in rows)
 
--- what is found in the rows of one partition
+-- what is found in the rows of one partition: the first repeated reference, the first unknown one, and what is listed
 pub record FoundView : Type 0 where
   pub repeated : Option Repeated
   pub unknown : Option Unknown
   pub product : Product
 
+-- the value of some rows, for what is listed, the broken match numbers and a selection
 abbrev pub found_of : What → List ℕ → (Sale → Bool) → PartitionView → FoundView
 found_of what breaks selection rows = record {
   repeated = repeated_in rows;
@@ -42,12 +43,13 @@ found_of what breaks selection rows = record {
   product = product_of what (sales_in breaks selection rows);
 }
 
--- what is found in several: the faults of least place, and what each lists
+-- what is found in several partitions: the faults of least place, and what each partition lists
 pub record TotalView : Type 0 where
   pub repeated : Option Repeated
   pub unknown : Option Unknown
   pub products : List Product
 
+-- the total of what is found in several partitions
 abbrev pub all_found : List FoundView → TotalView
 all_found found = record {
   repeated = least_by (λ repeated. repeated.place) (filter_map (λ one. one.repeated) found);
@@ -55,7 +57,7 @@ all_found found = record {
   products = map (λ one. one.product) found;
 }
 
--- what is found in several, and in one more
+-- a total with what is found in one more partition
 abbrev pub with_found : TotalView → FoundView → TotalView
 with_found total one = record {
   repeated = least_by (λ repeated. repeated.place) (option_to_list total.repeated ++ option_to_list one.repeated);

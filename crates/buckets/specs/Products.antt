@@ -1,5 +1,5 @@
 -- What is made of sales: a listing by place, or a table of bars.
--- Derived: a work's value is a function, so one listing and one table are written here; the answer isn't said by them.
+-- To be believed of a crate used by itself: the value of a bucket is one listing, or one table.
 use Rattle.std.specs.Prelude.{ℕ, nat_lt, List, [], ◌∷◌, if◌then◌else◌}
 use Rattle.row_types.specs.declared.trade.Sale.{Sale}
 use Rattle.bars.specs.Steps.{bar_of_one, merged_tables}
@@ -9,7 +9,7 @@ use Rattle.meaning.specs.declared.query.What.TheVariants.{Sales, Bars}
 use Rattle.buckets.specs.declared.product.Product.{Product}
 use Rattle.buckets.specs.declared.product.Product.TheVariants.{Listed, Tabled}
 
--- a sale put before the first of greater place
+-- a sale put before the first one of greater place
 abbrev pub put_by_place : Sale → List Sale → List Sale
 put_by_place sale [] = sale ∷ []
 put_by_place sale (first ∷ rest) =
@@ -20,7 +20,7 @@ abbrev pub by_place : List Sale → List Sale
 by_place [] = []
 by_place (sale ∷ sales) = put_by_place sale (by_place sales)
 
--- the table of the sales
+-- the table of the bars of some sales
 abbrev pub bars_of : ℕ → List Sale → List Bar
 bars_of width [] = []
 bars_of width (sale ∷ sales) = merged_tables (bar_of_one width sale ∷ []) (bars_of width sales)

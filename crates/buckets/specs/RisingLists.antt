@@ -1,11 +1,11 @@
 -- Order rows in lists whose references rise, each list above those before it.
--- Derived: it says where the code has its rows, and no answer is said by it.
+-- Derived: it says where the code has its rows, and no answer is defined by it.
 use Rattle.std.specs.Prelude.{◌<◌, ◌≤◌, List}
 use Rattle.std.specs.List.{All, AllPairs, flat_map}
 use Rattle.row_types.specs.declared.order.OrderRow.{OrderRow}
 pub use Rattle.buckets.specs.declared.rising.Part.{Part}
 
--- the rows of the lists, one after the other
+-- the rows of the lists, one list after another
 abbrev pub rows_of_lists : List Part → List OrderRow
 rows_of_lists parts = flat_map (λ part. part.rows) parts
 

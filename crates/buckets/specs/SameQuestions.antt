@@ -1,5 +1,5 @@
 -- What is asked of sales, compared field by field: selections, and what is listed.
--- Derived: equality of inputs, by which no answer is said.
+-- To be believed of a crate used by itself: equality of inputs, by which no answer is defined.
 use Rattle.std.specs.Prelude.{◌≡◌, ℕ, Bool, true, false, not, ◌==◌, ◌&&◌, List, [], ◌∷◌, Option, Some, None, nat_eq}
 use Rattle.std.specs.Cmp.{IsEquivalence}
 use Rattle.std.specs.Cmp.Lexicographic.{pointwise, same_text}
@@ -14,28 +14,34 @@ use Rattle.probe.specs.declared.selection.Span.{Span}
 use Rattle.meaning.specs.declared.query.What.{What}
 use Rattle.meaning.specs.declared.query.What.TheVariants.{Sales, Bars}
 
+-- both list sales, or both list bars of one width
 abbrev pub is_same_what : What → What → Bool
 is_same_what Sales Sales = true
 is_same_what (Bars a) (Bars b) = a == b
 is_same_what _ _ = false
 
+-- both are true, or both are false
 abbrev pub is_same_bool : Bool → Bool → Bool
 is_same_bool true b = b
 is_same_bool false b = not b
 
+-- both have one start and one end, or there is neither span
 abbrev pub is_same_span : Option Span → Option Span → Bool
 is_same_span None None = true
 is_same_span (Some a) (Some b) = (a.since == b.since) && (a.until == b.until)
 is_same_span _ _ = false
 
+-- both admit the same kinds
 abbrev pub are_same_kinds : Kinds → Kinds → Bool
 are_same_kinds a b = is_same_bool a.e b.e && is_same_bool a.c b.c && is_same_bool a.p b.p && is_same_bool a.q b.q
 
+-- both admit all locates, or list the same ones
 abbrev pub are_same_locates : {A : Type 0} → Locates A → Locates A → Bool
 are_same_locates All All = true
 are_same_locates (Listed xs) (Listed ys) = pointwise nat_eq xs ys
 are_same_locates _ _ = false
 
+-- both have the same locates, span and kinds
 abbrev pub is_same_selection : {A : Type 0} → Selection A → Selection A → Bool
 is_same_selection a b =
     are_same_locates a.locates b.locates && is_same_span a.span b.span && are_same_kinds a.kinds b.kinds

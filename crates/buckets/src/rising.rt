@@ -38,8 +38,8 @@ impl<'a> Model for RisingOrders<'a> {
 }
 
 impl<'a> RisingOrders<'a> {
-    /// The orders of the partitions, where the references of each list rise and the lists rise one
-    /// above the other.
+    /// The orders of the partitions, if the references of each list rise and each list is above
+    /// those before it.
     pub(crate) fn of(alloc: Global, parts: &[&'a Partition]) -> Result<Option<Self>, OutOfMemory>
         ensures rows { IfOk result (λ found. IfSome found (λ orders.
             orders ≡ (rows_of_parts parts.now).orders)) }

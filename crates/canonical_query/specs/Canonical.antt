@@ -1,5 +1,5 @@
 -- The canonical text of a query.
--- To be believed.
+-- To be believed of a crate used by itself.
 use Rattle.std.specs.Prelude.{ℕ, ◌+◌, ◌/◌, ◌%◌, ◌&&◌, if◌then◌else◌, List, [], ◌∷◌, ◌++◌, Option, Some, None, codes}
 use Rattle.std.specs.List.{join_with_byte}
 use Rattle.std.specs.Fmt.{decimal}
@@ -49,7 +49,7 @@ kind_letters kinds =
     (if kinds.e then codes "E" ∷ [] else []) ++ ((if kinds.c then codes "C" ∷ [] else [])
     ++ ((if kinds.p then codes "P" ∷ [] else []) ++ (if kinds.q then codes "Q" ∷ [] else [])))
 
--- the words of the condition on kinds, where not all four are selected
+-- the words of the condition on kinds, if not all four are selected
 abbrev pub kind_condition : Kinds → List (List (List ℕ))
 kind_condition kinds =
     if (kinds.e && kinds.c) && (kinds.p && kinds.q) then []

@@ -99,8 +99,8 @@ fn append_joined<A: Allocator>(text: &mut Vec<u8, A>, symbols: &[Symbol]) -> Res
     Ok(())
 }
 
-/// Appends the condition on symbols, if there is one, and answers the word before the next
-/// condition.
+/// Appends the condition on symbols, if there is one, and returns the word that links the next
+/// condition: `and` after one, else what it was.
 #[tactic(auto, using(crate::proofs::WriterIsCanonical::symbols_text))]
 fn append_symbols<'a, A: Allocator, B: Allocator>(
     text: &mut Vec<u8, A>,

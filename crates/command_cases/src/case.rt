@@ -15,7 +15,7 @@ pub(crate) fn no_case() -> io::Error {
     io::Error::from(io::ErrorKind::InvalidData)
 }
 
-/// The bytes of the next case, behind their number; None at the input's end.
+/// The bytes of the next case, which come after their number; None at the input's end.
 pub(crate) fn next_case<R: Read>(alloc: Global, input: &mut R) -> io::Result<Option<Vec<u8>>> {
     let Ok(count) = input.read_u32::<BigEndian>() else {
         return Ok(None);

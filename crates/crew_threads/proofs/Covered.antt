@@ -25,3 +25,7 @@ covered_still s n below at k lt = elim (eqb_tells k n) [
   | inl same ↦ ap (contains s) same.1 ∙ at
   | inr other ↦ below k (omega (arith, other.1))
 ]
+
+-- what was covered is so with one task more
+pub kept_more : (s t : FinSet nat_cmp) (n : ℕ) → t ≡ insert s n → (k : ℕ) → contains s k ≡ true → contains t k ≡ true
+kept_more s t n more k at = ap (λ w. contains w k) more ∙ insert_before s n k at

@@ -1,12 +1,12 @@
 -- What a worker's run leaves at its seat and at its port.
--- To be believed.
+-- To be believed of a crate used by itself.
 use Rattle.std.specs.Prelude.{◌≡◌, ℕ, ◌*◌, ◌%◌, ◌<◌, ◌≤◌, Bool, not, List, [], ◌∷◌, ◌++◌, Some, All, Contains}
 use Rattle.std.specs.Prelude.{count_by, filter, map, slice_get}
 use Rattle.dispatcher.specs.Seats.{claims, seen_tasks, WasGiven}
 use Rattle.dispatcher.specs.declared.seat.Seat.{Seat}
 use Rattle.gathering.specs.Views.{PieceView}
 
--- the seat's last claim found no task, and each one before gave a task
+-- the seat's last claim found no task, and each claim before it gave one
 pub record IsDone (tasks : ℕ) (s : Seat) : Type 0 where
   pub earlier : List ℕ
   pub last : ℕ
@@ -27,8 +27,8 @@ pub record Turn : Type 0 where
 abbrev pub tasks_marked : ℕ → List Turn → List ℕ
 tasks_marked tasks turns = map (λ t. t.claim % tasks) (filter (λ t. t.is_marked) turns)
 
--- from one state of a seat to the other, claim by claim: each claim but the last is a turn, the tasks that were marked
--- or seen marked since are those of the turns that have a mark, in order, and so many turns have none
+-- from one state of a seat to the other, claim by claim: each claim but the last is a turn; the tasks that were
+-- marked or seen marked since are those of the turns that have a mark, in order; and `count` turns have none
 pub record AllMarkedBut (tasks count : ℕ) (before after : Seat) : Type 0 where
   pub turns : List Turn
   pub last : ℕ

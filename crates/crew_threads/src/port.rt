@@ -7,6 +7,7 @@ use std::marker::Model;
 use std::sync::Wait;
 
 /// Takes messages from one thread, as the pieces that a worker makes.
+/// It is generic over its message: an implementation over a work that only an associated type names gets no proof.
 pub trait Port<M> {
     /// What it has taken, in order, if it tells.
     ghost taken: { Self → List M };

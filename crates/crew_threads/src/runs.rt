@@ -1,5 +1,5 @@
 //! The runs of tasks on the thread that has the gathering.
-ghost use Rattle.std.specs.Prelude.{◌≡◌, ◌<◌, length, OnOk, OnErr};
+ghost use Rattle.std.specs.Prelude.{◌≡◌, ◌<◌, ℕ, OnErr, OnOk, length, true};
 ghost use Rattle.std.specs.Arc.{arc_value};
 ghost use Rattle.std.specs.FinSet as set;
 ghost use Rattle.gathering.specs.Views.{IsComplete};
@@ -29,7 +29,8 @@ pub fn run_task<W: Work, M: Allocator>(
     Ok(())
 }
 
-/// Runs the tasks that are not covered, and calls the gate before each. It is refused as `run_task` is.
+/// Runs the tasks that are not covered, and calls the gate before each. It is refused as `run_task` is; the
+/// gathering then has what it had, and the pieces of the tasks that were run before.
 pub fn run_missing<W: Work, G: Gate>(
     alloc: Global,
     gathering: &mut Gathering<W>,
@@ -40,6 +41,8 @@ pub fn run_missing<W: Work, G: Gate>(
     requires own { gathering.old.inputs ≡ arc_value inputs.now }
     ensures inputs { gathering.new.inputs ≡ gathering.old.inputs }
     ensures complete { OnOk result (IsComplete gathering.new) }
+    ensures kept { OnErr result ((task : ℕ) → set.contains gathering.old.covered task ≡ true →
+        set.contains gathering.new.covered task ≡ true) }
 {
     for task in 0..inputs.count() {
         if !gathering.covers(task) {

@@ -1,5 +1,5 @@
 -- What a refusal of `cut` and its like says of the file.
--- To be believed.
+-- To be believed of a crate used by itself.
 use Rattle.std.specs.Prelude.{ℕ, ◌<◌, ◌≤◌, List, length}
 use Rattle.lists.specs.declared.limits.TheConstants.{MOST_MORSELS}
 use Rattle.day_file.specs.declared.cutting.CutFault.{CutFault}
@@ -8,7 +8,7 @@ use Rattle.day_file.specs.Frames.{IsTruncatedAt, IsWhole}
 use Rattle.day_file.specs.Cuts.{IsCutBy, IsCutAt, IsFirstBad}
 
 -- what a refusal says of a file: it is truncated there; or it is whole, and that is a bad end; or it has such a cut,
--- of more morsels than are allowed; or, where memory was short, it has such a cut, of no more than are allowed
+-- of more morsels than are allowed; or, out of memory, it has such a cut, of no more than are allowed
 abbrev pub IsFaultOf : (ℕ → Type 0) → (List (List ℕ) → Type 0) → List ℕ → CutFault → Type 0
 IsFaultOf IsBad IsIt bytes (Truncated place) = IsTruncatedAt bytes place
 IsFaultOf IsBad IsIt bytes (NotABoundary end) = IsWhole bytes × IsBad end

@@ -31,23 +31,25 @@ HasNoShorter target run = (n : ℕ) → n < length run → IsWhole (take n run) 
 abbrev pub but_last : List (List ℕ) → List (List ℕ)
 but_last runs = take (length runs - 1) runs
 
--- a cut, each run of which is the shortest that has as many bytes as the target, or the rest
+-- a cut, each run of which is the shortest that has at least as many bytes as the target, or the rest. At most one
+-- cut is that (`one_cut`), and each answer of `cut` says that the file is truncated, or has such a cut.
 pub record IsCutBy (target : ℕ) (runs : List (List ℕ)) (bytes : List ℕ) : Type 0 where
   pub cut : IsCutOf runs bytes
   pub shortest : All (HasNoShorter target) runs
   pub full : All (λ run. target ≤ length run) (but_last runs)
 
--- where each run ends, the first of which starts here
+-- where each run ends, if the first one begins here
 abbrev pub ends_of : ℕ → List (List ℕ) → List ℕ
 ends_of start [] = []
 ends_of start (run ∷ runs) = (start + length run) ∷ ends_of (start + length run) runs
 
--- a cut, all runs of which but the last end at these places
+-- a cut, all runs of which but the last end at these places. At most one cut is that (`one_cut_at`), and each answer
+-- of `cut_at` says that the file is truncated, that an end is bad, or that there is such a cut.
 pub record IsCutAt (ends : List ℕ) (runs : List (List ℕ)) (bytes : List ℕ) : Type 0 where
   pub cut : IsCutOf runs bytes
   pub at : ends_of 0 (but_last runs) ≡ ends
 
--- of bytes that are whole frames, a frame stands at this place
+-- in bytes that are whole frames, a frame begins at this place
 abbrev pub IsPlace : List ℕ → ℕ → Type 0
 IsPlace bytes place = (place < length bytes) × IsWhole (take place bytes)
 
@@ -65,6 +67,6 @@ pub record MorselView : Type 0 where
   pub start : ℕ
   pub bytes : List ℕ
 
--- they have one number, start at one place, and have the same bytes
+-- both morsels have one number, begin at one place, and have the same bytes
 abbrev pub is_same_morsel : MorselView → MorselView → Bool
 is_same_morsel a b = (a.number == b.number) && (a.start == b.start) && pointwise nat_eq a.bytes b.bytes

@@ -6,7 +6,7 @@ use Rattle.lists.specs.declared.limits.TheConstants.{LONGEST_FILE}
 use Rattle.day_file.specs.Frames.{IsWhole}
 use Rattle.day_file.specs.Feeding.{CutterView, HasFed}
 
--- something was fed, and of the bytes behind the full runs so many are known to be whole frames
+-- something was fed, and of the bytes after the full runs the first `whole` are known to be whole frames
 pub record IsCutting (cutter : CutterView) (whole : ℕ) : Type 0 where
   pub fed : List ℕ
   pub has : HasFed cutter fed

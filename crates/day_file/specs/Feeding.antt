@@ -1,12 +1,12 @@
 -- What was fed to a `Cutter`.
--- To be believed.
+-- To be believed of a crate used by itself.
 use Rattle.std.specs.Prelude.{◌≡◌, ℕ, ◌+◌, ◌<◌, ◌≤◌, List, ◌++◌, length, All}
 use Rattle.std.specs.List.{concat}
 use Rattle.lists.specs.declared.limits.TheConstants.{MOST_MORSELS}
 use Rattle.day_file.specs.Cuts.{IsRun, HasNoShorter}
 
--- what contracts see of a `Cutter`: its target, the runs that it keeps, how many bytes the full runs behind those had,
--- and the bytes behind all full runs
+-- what contracts see of a `Cutter`: its target, the runs that it keeps, how many bytes the full runs after those had,
+-- and the bytes after all full runs
 pub record CutterView : Type 0 where
   pub target : ℕ
   pub cut : List (List ℕ)
@@ -17,13 +17,15 @@ pub record CutterView : Type 0 where
 abbrev pub fed_length : CutterView → ℕ
 fed_length cutter = (length (concat cutter.cut) + cutter.past) + length cutter.rest
 
--- the shortest run with as many bytes as the target
+-- the shortest run that has at least as many bytes as the target
 pub record IsFullRun (target : ℕ) (bytes : List ℕ) : Type 0 where
   pub run : IsRun bytes
   pub shortest : HasNoShorter target bytes
   pub full : target ≤ length bytes
 
--- these bytes were fed to a cutter: full runs, of which those are kept that a cut may have, and the bytes behind them
+-- these bytes may have been fed to a cutter: full runs, of which it keeps those that a cut may have, and the bytes
+-- after them. Nothing was fed to a new one, and each `feed` appends its piece. Of full runs that it doesn't keep only
+-- the number of their bytes is known.
 pub record HasFed (cutter : CutterView) (fed : List ℕ) : Type 0 where
   pub beyond : List (List ℕ)
   pub full : All (IsFullRun cutter.target) (cutter.cut ++ beyond)

@@ -1,5 +1,5 @@
 -- What a `Cut` keeps of its morsels.
--- Derived: what is promised of a `Cut` speaks of its runs alone.
+-- To be believed of a crate used by itself: the inputs of scans are defined by `numbered`.
 use Rattle.std.specs.Prelude.{◌≡◌, ℕ, ◌+◌, ◌≤◌, List, [], ◌∷◌, length, map, All}
 use Rattle.std.specs.List.{concat}
 use Rattle.lists.specs.declared.limits.TheConstants.{LONGEST_FILE, MOST_MORSELS}
@@ -9,13 +9,13 @@ use Rattle.day_file.specs.Cuts.{AreBytes, IsRun, MorselView}
 abbrev pub runs_of : List MorselView → List (List ℕ)
 runs_of morsels = map (λ morsel. morsel.bytes) morsels
 
--- these runs as morsels, of which the first has this number and starts here
+-- these runs as morsels, of which the first has this number and begins at this place
 abbrev pub numbered : ℕ → ℕ → List (List ℕ) → List MorselView
 numbered number start [] = []
 numbered number start (run ∷ runs) =
     record { number = number; start = start; bytes = run } ∷ numbered (number + 1) (start + length run) runs
 
--- these are the morsels of a cut of so many bytes
+-- these are the morsels of a cut of `total` bytes
 pub record AreMorsels (morsels : List MorselView) (total : ℕ) : Type 0 where
   pub numbers : morsels ≡ numbered 0 0 (runs_of morsels)
   pub runs : All IsRun (runs_of morsels)

@@ -83,7 +83,7 @@ impl Cutter {
         &self.cut
     }
 
-    /// Takes the next bytes of the file. After a refusal it stands for the same bytes as before.
+    /// Takes the next bytes of the file. After a refusal the cutter has the same bytes as before.
     pub fn feed(&mut self, piece: &[u8]) -> Result<(), OutOfMemory>
         requires { fed_length self.old + length piece.now ≤ LONGEST_FILE }
         ensures fed { OnOk result ((fed : List ℕ) → HasFed self.old fed → HasFed self.new (fed ++ piece.now)) }
@@ -142,7 +142,7 @@ impl Cutter {
         Ok(())
     }
 
-    // Where the full run at the head of the rest ends, if one stands there.
+    // Where the full run that the rest begins with ends, if it begins with one.
     fn next_run(&mut self) -> Option<usize>
         ensures same { self.new ≡ self.old }
         ensures run { IfSome result (λ end. IsFirstRun self.old.target end self.old.rest) }

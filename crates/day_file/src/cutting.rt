@@ -14,7 +14,7 @@ use std::alloc::{Allocator, Global};
 pub enum CutFault {
     /// The file is truncated at this place.
     Truncated { place: u64 },
-    /// This end isn't greater than the one before it, or no frame stands there.
+    /// This end isn't greater than the one before it, or no frame begins there.
     NotABoundary { end: u64 },
     /// There would be more than `MOST_MORSELS` morsels.
     TooManyMorsels,
@@ -45,7 +45,7 @@ impl From<Truncated> for CutFault {
 }
 
 /// Cuts the file into morsels, each the shortest run of frames that has at least `target` bytes, or
-/// the rest. All faults of the file are told before memory is taken.
+/// the rest. All faults of the file are reported before memory is taken.
 pub fn cut<A: Allocator>(alloc: Global, file: &DayFile<A>, target: u64) -> Result<Cut, CutFault>
     requires { 0 < target }
     ensures cut { IfOk result (λ cut. IsCutBy target cut file.now) }
@@ -79,8 +79,9 @@ fn make_cut(alloc: Global, bytes: &[u8], target: u64) -> Result<Cut, CutFault>
     Ok(cut)
 }
 
-/// Cuts the file at these places: the ends of all morsels but the last. All other faults are told
-/// before memory is taken, a truncated file before a bad end, and that before too many morsels.
+/// Cuts the file at these places: the ends of all morsels but the last. All other faults are
+/// reported before memory is taken, a truncated file before a bad end, and that before too many
+/// morsels.
 pub fn cut_at<A: Allocator>(alloc: Global, file: &DayFile<A>, ends: &[u64]) -> Result<Cut, CutFault>
     ensures cut { IfOk result (λ cut. IsCutAt ends.now cut file.now) }
     ensures fault { IfErr result (λ fault. IsCutAtFault ends.now file.now fault) }

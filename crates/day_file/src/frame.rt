@@ -9,7 +9,7 @@ use byteorder::{BigEndian, ByteOrder};
 use std::alloc::Allocator;
 use std::marker::Model;
 
-/// The bytes of the length that stands before each body.
+/// The bytes of the length that comes before each body.
 pub const LENGTH_BYTES: usize = 2;
 
 /// A frame of a day file. Its place is the number of bytes before it, from the file's start.
@@ -20,7 +20,7 @@ pub struct Frame<'a> {
 }
 
 /// The frames of a day file that are left, in order, and the place where the file is truncated
-/// behind them, if it is.
+/// after them, if it is.
 #[derive(Debug, Drop)]
 pub struct Frames<'a> {
     place: u64,
@@ -41,7 +41,7 @@ impl<'a> Model for Frames<'a> {
 }
 
 impl<'a> Frames<'a> {
-    /// The frames of a part of a file, of which the first stands at this place.
+    /// The frames of a part of a file, of which the first begins at this place.
     pub fn of(place: u64, bytes: &'a [u8]) -> Self
         requires { place + length bytes.now ≤ LONGEST_FILE }
         ensures whole { (all : List PlacedBody) → StandsFrom place all bytes.now →
@@ -55,8 +55,8 @@ impl<'a> Frames<'a> {
         Frames { place, rest: bytes }
     }
 
-    /// Walks over the frames that are left. It is an error exactly if the bytes are truncated
-    /// behind them.
+    /// Walks over the frames that are left. It is an error if and only if the bytes are truncated
+    /// after them.
     pub fn finish(mut self) -> Result<(), Truncated>
         ensures { MatchResult result (λ _. self.entry.truncated ≡ None)
             (λ fault. self.entry.truncated ≡ Some fault.place) }

@@ -18,6 +18,7 @@ pub(crate) fn first_run(bytes: &[u8], target: u64) -> Result<usize, Truncated>
 {
     let mut left = Frames::of(0, bytes);
     let mut end = 0;
+    // No `for`: after one over a borrowed iterator no clause says what is left, which `finish` needs.
     while let Some(frame) = left.next() {
         end += LENGTH_BYTES + frame.body.len();
         if end as u64 >= target {
@@ -28,7 +29,7 @@ pub(crate) fn first_run(bytes: &[u8], target: u64) -> Result<usize, Truncated>
     Ok(end)
 }
 
-// The same of the bytes from this place on, before which whole frames stand.
+// The same of the bytes from this place on, which come after whole frames.
 pub(crate) fn run_at(bytes: &[u8], start: usize, target: u64) -> Result<usize, Truncated>
     requires limit { length bytes.now ≤ LONGEST_FILE }
     requires some { start < length bytes.now }
@@ -63,15 +64,15 @@ pub(crate) fn count_runs(bytes: &[u8], target: u64) -> Result<u64, Truncated>
     Ok(count)
 }
 
-/// Whether a whole run stands at the head of some bytes, and where it ends, or otherwise how many
-/// bytes of whole frames stand there.
+/// Whether some bytes begin with a whole run, and where it ends, or otherwise how many bytes of
+/// whole frames they begin with.
 #[derive(Clone, Copy, Debug, PartialEq, Eq)]
 pub(crate) struct Head {
     pub(crate) is_run: bool,
     pub(crate) end: usize,
 }
 
-/// What stands at the head of these bytes, of which so many are known to be whole frames: only what
+/// What these bytes begin with, of which the first `whole` are known to be whole frames: only what
 /// comes after those is looked at.
 pub(crate) fn head_of(bytes: &[u8], whole: usize, target: u64) -> Head
     requires limit { length bytes.now ≤ LONGEST_FILE }

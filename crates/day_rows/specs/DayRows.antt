@@ -1,5 +1,5 @@
 -- The rows that messages give, of a day or of a part of it, as lists.
--- Derived: each list is one of Messages, and the answer isn't said by them.
+-- To be believed of a crate used by itself: each list is one of Messages, by which the answer is defined.
 use Rattle.std.specs.Prelude.{◌≡◌, ℕ, ◌<◌, ◌^◌, List, [], ◌∷◌, ◌++◌, All, Option, Some, None, option_to_list, if◌then◌else◌}
 use Rattle.std.specs.List.{flat_map}
 use Rattle.std.specs.List.Sorted.{IsStrictlySortedBy}
@@ -39,23 +39,27 @@ pub record DayRows : Type 0 where
 abbrev pub no_rows : DayRows
 no_rows = record { orders = []; executions = []; own_priced = []; breaks = []; directory = [] }
 
--- one row alone, of each kind
+-- the row of one order and no other rows
 abbrev pub only_order : OrderRow → DayRows
 only_order row = record { orders = row ∷ []; executions = []; own_priced = []; breaks = []; directory = [] }
 
+-- the row of one execution and no other rows
 abbrev pub only_execution : Execution → DayRows
 only_execution row = record { orders = []; executions = row ∷ []; own_priced = []; breaks = []; directory = [] }
 
+-- one sale with a price of its own and no other rows
 abbrev pub only_sale : Sale → DayRows
 only_sale row = record { orders = []; executions = []; own_priced = row ∷ []; breaks = []; directory = [] }
 
+-- one break and no other rows
 abbrev pub only_break : ℕ → DayRows
 only_break trade_no = record { orders = []; executions = []; own_priced = []; breaks = trade_no ∷ []; directory = [] }
 
+-- one row of the stock directory and no other rows
 abbrev pub only_directory_row : DirectoryRow → DayRows
 only_directory_row row = record { orders = []; executions = []; own_priced = []; breaks = []; directory = row ∷ [] }
 
--- the rows that one row is, if there is one
+-- the rows that one row makes, if there is one
 abbrev pub told : Option Row → DayRows
 told None = no_rows
 told (Some (one.Order row)) = only_order row
@@ -84,11 +88,11 @@ rows_at place message = record {
   directory = option_to_list (directory_row_at place message);
 }
 
--- what one message gives where it counts up to a moment, if there is one
+-- what one message gives if it counts up to the moment, or if there is no moment
 abbrev pub counted_rows_at : Option ℕ → ℕ → Message → DayRows
 counted_rows_at as_of place message = if is_counted as_of message then rows_at place message else no_rows
 
--- rows, and others after them
+-- rows with other rows after them
 abbrev pub joined : DayRows → DayRows → DayRows
 joined one other = record {
   orders = one.orders ++ other.orders;
@@ -98,7 +102,7 @@ joined one other = record {
   directory = one.directory ++ other.directory;
 }
 
--- the rows of all parts, part after part
+-- the rows of all parts, one part after another
 abbrev pub all_rows : List DayRows → DayRows
 all_rows parts = record {
   orders = flat_map (λ part. part.orders) parts;
@@ -108,7 +112,7 @@ all_rows parts = record {
   directory = flat_map (λ part. part.directory) parts;
 }
 
--- each message stands after the one before it
+-- each message comes after the one before it
 abbrev pub AreByPlace : List Placed → Type 0
 AreByPlace messages = IsStrictlySortedBy (λ a b. nat_cmp a.place b.place) messages
 
@@ -116,7 +120,7 @@ AreByPlace messages = IsStrictlySortedBy (λ a b. nat_cmp a.place b.place) messa
 abbrev pub IsStamped : ℕ → ℕ → Type 0
 IsStamped time locate = (time < TIME_LIMIT) × (locate < 2 ^ 16)
 
--- so do those of the rows
+-- the times and locates of rows fit in six bytes and two
 pub record AreStamped (rows : DayRows) : Type 0 where
   pub executions : All (λ execution. IsStamped execution.time execution.locate) rows.executions
   pub own_priced : All (λ sale. IsStamped sale.time sale.locate) rows.own_priced

@@ -20,23 +20,24 @@ pub record Placed : Type 0 where
   pub place : ℕ
   pub message : Message
 
--- what is skipped is no message
+-- a message with its place; what is skipped is no message
 abbrev pub placed_at : ℕ → Message → Option Placed
 placed_at place Skipped = None
 placed_at place message = Some (record { place = place; message = message })
 
--- the messages of the frames, in their order
+-- the message list: the frames that are messages, with their places, in their order, which is that of places
 abbrev pub messages_of : List PlacedBody → List Placed
 messages_of frames = filter_map (λ frame. placed_at frame.place (message_of frame.body)) frames
 
 -- a message counts up to a moment, in seconds since midnight: its time is not past it. Without a moment,
--- each counts
+-- each counts.
 abbrev pub is_counted : Option ℕ → Message → Bool
 is_counted None message = true
 is_counted (Some moment) message =
     option_map_or (λ time. nat_le time (moment * NANOSECONDS)) (time_of_message message) true
 
--- the messages that count, in their order
+-- the messages that count, in their order, by a filter over the whole list: the order of their times has no part in
+-- it
 abbrev pub counted : Option ℕ → List Placed → List Placed
 counted as_of messages = filter (λ m. is_counted as_of m.message) messages
 
@@ -125,13 +126,14 @@ break_numbers messages = filter_map (λ m. break_of m.message) messages
 abbrev pub directory_rows : List Placed → List DirectoryRow
 directory_rows messages = filter_map (λ m. directory_row_at m.place m.message) messages
 
--- the sale of a message, if it has one: of an execution at the price of its order, where a message before it gives
--- that; of another message at a price of its own, where it has one
+-- the sale of a message, if it has one: an execution at the price of its order, if a message before it gives that;
+-- another message at a price of its own, if it has one
 abbrev pub trade_at : List OrderRow → ℕ → Message → Option Sale
 trade_at rows place (Executed executed) =
     option_and_then (sale_of rows) (execution_at place (Executed executed))
 trade_at rows place message = own_priced_at place message
 
--- the trades of the message list, in its order; those of zero shares are among them
+-- the trades of the message list, in its order: the executions that have a price, and the sales with a price of their
+-- own; those of zero shares are among them
 abbrev pub trades : List Placed → List Sale
 trades messages = filter_map (λ m. trade_at (order_rows messages) m.place m.message) messages

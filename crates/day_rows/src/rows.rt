@@ -111,7 +111,7 @@ impl<A: Allocator + Copy> Rows<A> {
 }
 
 impl<A: Allocator> Rows<A> {
-    /// Adds the rows that one message more gives, whose frame is at this place. Where there is no
+    /// Adds the rows that one more message gives, whose frame is at this place. If there is no
     /// memory for them, the rows stay as they were.
     #[inline(always)]
     pub fn add(&mut self, place: u64, message: &Message) -> Result<(), OutOfMemory>

@@ -1,5 +1,5 @@
 -- Claims are numbers from 0 on: those below 2 * n give each of n tasks twice, later ones find none.
--- To be believed.
+-- To be believed of a crate used by itself.
 use Rattle.std.specs.Prelude.{◌≡◌, ℕ, ◌+◌, ◌*◌, ◌%◌, ◌<◌, ◌≤◌, ◌==◌, ◌&&◌, nat_lt, List, [], ◌∷◌, count_by}
 use Rattle.dispatcher.specs.declared.claim.Claim.{Claim}
 use Rattle.dispatcher.specs.declared.claim.Claim.TheVariants.{Task, NoMore}

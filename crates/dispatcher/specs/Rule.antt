@@ -1,4 +1,4 @@
--- What the words and all views have in common between any two steps, and what a step tells.
+-- What the words and all views have in common between any two steps, and what a step shows.
 -- Derived: it is used inside proofs, and the contracts of the calls say what follows from it.
 --
 -- Word 0 is the number of claims that were made. Word t + 1 is 1 if task t is marked, else 0.
@@ -21,7 +21,7 @@ occurrences x xs = count_by (λ y. y == x) xs
 abbrev pub once_below : ℕ → ℕ → ℕ
 once_below n x = (if nat_lt x n then 1 else 0)
 
--- how many of the claims found no task, of which each is given twice
+-- how many of the claims found no task; each task is given twice
 abbrev pub late_count : ℕ → List ℕ → ℕ
 late_count tasks claims = count_by (λ c. nat_le (2 * tasks) c) claims
 
@@ -29,11 +29,11 @@ late_count tasks claims = count_by (λ c. nat_le (2 * tasks) c) claims
 abbrev pub unused_view : List ℕ → View
 unused_view numbers = record { numbers = numbers; claims = []; marked = []; seen = [] }
 
--- the view of the first seat, which stands for all numbers of seats
+-- the view of the first seat, which has all numbers of seats
 abbrev pub everyone : Size → View
 everyone size = unused_view (range_with_len 0 size.seats)
 
--- the view of the seat that stands for the numbers from k on
+-- the view of the seat that has the numbers from k on
 abbrev pub view_from : ℕ → ℕ → View
 view_from k seats = unused_view (range_with_len k (seats - k))
 
@@ -42,8 +42,8 @@ abbrev pub IsMarkWord : ℕ → ℕ → ℕ → Type 0
 IsMarkWord word marks looks =
     ((word ≡ 0) × (marks ≡ 0) × (looks ≡ 0)) ⊎ ((word ≡ 1) × (0 < marks))
 
--- a seat has at most one claim that found no task for each number that it stands for, and one that
--- stands for none is spent
+-- a seat has at most one claim that found no task for each number that it has, and one that has no number has done
+-- nothing
 pub record IsFair (size : Size) (v : View) : Type 0 where
   pub late_claims : late_count size.tasks v.claims ≤ length v.numbers
   pub spent : length v.numbers ≡ 0 → (v.claims ≡ []) × (v.marked ≡ []) × (v.seen ≡ [])

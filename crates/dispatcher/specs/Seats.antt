@@ -1,5 +1,5 @@
 -- What contracts see of a dispatcher, of its seats and of the marks that it leaves.
--- To be believed.
+-- To be believed of a crate used by itself.
 use Rattle.std.specs.Prelude.{◌≡◌, ℕ, ◌<◌, ◌≤◌, ◌*◌, List, [], ◌+◌, Any, Bool, false, sum_by}
 use Rattle.std.specs.Prelude.{length, flat_map, slice_index, slice_index_or, All, Contains}
 use Rattle.atomic_table.specs.Seated.{TableId}
@@ -77,11 +77,11 @@ SomeMarked seats task = Any (λ s. Contains (marked_tasks s) task) seats
 abbrev pub SomeSaw : List Seat → ℕ → Type 0
 SomeSaw seats task = Any (λ s. Contains (seen_tasks s) task) seats
 
--- whether a task is marked in these flags; false of a task that there isn't
+-- whether a task is marked in these flags; false of a task that doesn't exist
 abbrev pub flag_of : List Bool → ℕ → Bool
 flag_of flags task = slice_index_or flags task false
 
--- the view has what the seats of `whole` have but for those of `rest`
+-- the view has what the seats of `whole` have, without what those of `rest` have
 pub record HasAllBut (v : View) (rest whole : List Seat) : Type 0 where
   pub seats : length v.numbers + length rest ≡ length whole
   pub claimed : (c : ℕ) → occurrences c v.claims + sum_by (λ s. occurrences c (claims s)) rest

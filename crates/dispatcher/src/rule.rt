@@ -16,8 +16,8 @@ pub(crate) fn mark_word(task: u32) -> usize
     task as usize + 1
 }
 
-/// What a seat knows: the numbers of seats that it stands for, its claims, the tasks that it
-/// marked, and those that it marked or saw marked. No value of it is made.
+/// What a seat knows: the numbers of seats that it has, its claims, the tasks that it marked, and
+/// those that it marked or saw marked. No value of it is made.
 pub struct View {
     pub numbers: LinkedList<u32>,
     pub claims: LinkedList<u64>,
@@ -71,7 +71,7 @@ impl Split<View> for SeatSplit {
     ghost right = { first_seat };
 }
 
-/// One seat stands for both from now on.
+/// One seat takes the place of both from now on.
 pub(crate) struct SeatJoin;
 
 impl Join<View> for SeatJoin {

@@ -1,5 +1,5 @@
 -- Adding an output to a total, over any work. Its inputs are `A`, its outputs `B`, its totals `C`.
--- To be believed.
+-- To be believed of a crate used by itself.
 use Rattle.std.specs.Prelude.{List, [], ◌∷◌, ◌++◌, Bool}
 use Rattle.std.specs.Cmp.Lexicographic.{pointwise}
 
@@ -9,8 +9,7 @@ StartsAdmissible {A} IsAdmissible xs = (rest : List A) × IsAdmissible (xs ++ re
 
 module _ {A B C : Type 0} (Gives : A → B → Type 0) (IsTotalOf : List A → C → Type 0)
     (IsAdmissible : List A → Type 0) where
-  -- the output may be added to the total: they are those of some inputs that an admissible list
-  -- begins with
+  -- the output may be added to the total: they belong to some inputs that an admissible list begins with
   pub record CanAdd (total : C) (output : B) : Type 0 where
     pub before : List A
     pub next : A
@@ -18,8 +17,8 @@ module _ {A B C : Type 0} (Gives : A → B → Type 0) (IsTotalOf : List A → C
     pub output_is : Gives next output
     pub admissible : StartsAdmissible IsAdmissible (before ++ next ∷ [])
 
-  -- whichever inputs these are the total and the output of, the new total is that of the inputs
-  -- with one more
+  -- whichever inputs the total and the output belong to, the new total belongs to the total's inputs with the
+  -- output's after them, if an admissible list begins with these
   abbrev pub AddsOutput : C → B → C → Type 0
   AddsOutput old output new =
       (before : List A) (next : A)

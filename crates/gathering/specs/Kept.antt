@@ -23,7 +23,7 @@ module _ {A : Type 0} (eq : A → A → Bool) where
     pub number : (k : ℕ) (p : PieceView A) → get_or places k None ≡ Some p → p.number ≡ k
     pub own : (k : ℕ) (p : PieceView A) → get_or places k None ≡ Some p → belongs eq inputs p ≡ true
 
-  -- besides, the total is that of the first p inputs, whose places are empty
+  -- there is a place for each input, as above, and the total is that of the first p inputs, whose places are empty
   pub record IsFolded {C : Type 0} (IsTotalOf : List A → C → Type 0) (inputs : List A) (p : ℕ) (total : C)
       (places : List (Option (PieceView A))) : Type 0 where
     pub kept : IsKept inputs places

@@ -1,5 +1,5 @@
 -- Gatherings that stand for the same, and the laws of merging.
--- To be believed.
+-- To be believed of a crate used by itself.
 use Rattle.std.specs.Prelude.{◌≡◌, Bool, true}
 use Rattle.gathering.specs.Adding.{same_inputs}
 use Rattle.gathering.specs.Views.{GatheringView}

@@ -1,5 +1,5 @@
 -- What contracts see of a piece and of a gathering.
--- To be believed.
+-- To be believed of a crate used by itself.
 use Rattle.std.specs.Prelude.{◌≡◌, ℕ, ◌<◌, List, Bool, true, false, Option, Some, None, length, slice_get, refl}
 use Rattle.std.specs.Ordering.{nat_cmp}
 use Rattle.std.specs.FinSet.{FinSet, contains}
@@ -37,12 +37,12 @@ module _ {A : Type 0} where
       (λ q. record { inputs = q.0; covered = q.1 })
       (λ _. refl)
 
-  -- the input is equal to the one that is there
+  -- an input is equal to the one that is there, if there is one
   abbrev pub is_equal_to : (A → A → Bool) → A → Option A → Bool
   is_equal_to eq input None = false
   is_equal_to eq input (Some own) = eq input own
 
-  -- the piece was run on an input equal to the one that the list has at its number
+  -- the piece was run on an input that is equal to the one at its number in the list
   abbrev pub belongs : (A → A → Bool) → List A → PieceView A → Bool
   belongs eq inputs piece = is_equal_to eq piece.input (slice_get inputs piece.number)
 
@@ -60,6 +60,6 @@ module _ {A : Type 0} where
   abbrev pub merged : GatheringView A → GatheringView A → GatheringView A
   merged a b = record { inputs = a.inputs; covered = set.union a.covered b.covered }
 
-  -- what filing a piece leaves: its task is covered besides
+  -- what filing a piece leaves: its task is covered as well
   abbrev pub with_task : GatheringView A → ℕ → GatheringView A
   with_task g task = record { inputs = g.inputs; covered = set.insert g.covered task }

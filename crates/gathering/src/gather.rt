@@ -230,7 +230,8 @@ impl<W: Work, A: Allocator> Gathering<W, A> {
     }
 }
 
-/// Whether the piece was run on an input equal to the one of its number.
+/// Whether the piece was run on an input equal to the one of its number. Inputs are compared by
+/// content: the kit has no proved way to know that two `Arc`s share one allocation.
 fn is_own<W: Work>(inputs: &Inputs<W>, piece: &Piece<W>) -> bool
     ensures own { result ≡ belongs W.Input.eq inputs.now piece.now }
     ensures in_range { result ≡ true → piece.now.number < length inputs.now }

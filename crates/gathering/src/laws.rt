@@ -37,8 +37,8 @@ pub fn merge_is_a_join<W: Work>()
         → IsComplete a → IsComplete b }
 {}
 
-/// Gatherings that are alike stay alike: where a third one is merged into each, where each is
-/// merged into a third one, and where a piece is filed. A third one refuses both or none of them.
+/// Gatherings that are alike stay alike: if a third one is merged into each, if each is merged into
+/// a third one, and if a piece is filed. A third one refuses both or neither of them.
 pub fn alike_stay_alike<W: Work>()
     ensures merged_into { (a b c : GatheringView W.Input) → AreAlike W.Input.eq a b
         → AreAlike W.Input.eq (merged a c) (merged b c) }

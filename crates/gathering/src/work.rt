@@ -9,7 +9,8 @@ use std::alloc::Global;
 /// total. What a run may give and what a list may add up to are relations, since a run may read what changes
 /// meanwhile, as a file; of most works they leave one value and one total.
 ///
-/// Threads share inputs, and send outputs and totals to one another.
+/// Threads share inputs, and send outputs and totals to one another. It is `Drop` and `Send`, so that structs over
+/// a work can be dropped and generic code may start threads.
 pub trait Work: Drop + Send {
     /// What one task reads. A run of an input may give what one of an equal input may.
     type Input: Eq + Drop + Send + Sync;

@@ -1,14 +1,17 @@
 //! Answers a query over a day file of Nasdaq TotalView-ITCH 5.0.
 #![tactic(auto)]
 
-ghost use Rattle.std.specs.Prelude.{◌≡◌, false};
+ghost use Rattle.std.specs.Prelude.{◌≡◌, ◌⊎◌, false};
+ghost use Rattle.command_line.specs.Outcomes.{DidBlocks, DidNotOpen, DidStream};
 
 pub use command_line::{Job, WordsFault, command, perform};
 use command_line::{
-    Counted, CountedSink, FileBlocks, Sink, explain, perform_blocks, perform_opened, reading_fault,
+    BlockSource, Counted, CountedSink, FileBlocks, Sink, Source, explain, perform_blocks,
+    perform_opened, reading_fault,
 };
 use std::env;
 use std::fs::File;
+use std::io::Stdin;
 use std::process::ExitCode;
 use std::sync::Wait;
 use std::thread::Threads;
@@ -47,6 +50,21 @@ fn start<R: Threads + Wait + Sync, K: Sink, L: Sink>(
 ) -> u8
     requires out { K.has_failed out.old ≡ false }
     requires errors { L.has_failed errors.old ≡ false }
+    ensures did { DidStream K.Took K.HasFlushed K.has_failed L.Took L.HasFlushed L.has_failed job.now
+        ⟦<Counted<Stdin> as Source>⟧.Gave ⟦<Counted<Stdin> as Source>⟧.HasEnded
+        ⟦<Counted<Stdin> as Source>⟧.has_failed
+        out.old out.new errors.old errors.new result
+        ⊎ DidStream K.Took K.HasFlushed K.has_failed L.Took L.HasFlushed L.has_failed job.now
+        ⟦<Counted<File> as Source>⟧.Gave ⟦<Counted<File> as Source>⟧.HasEnded
+        ⟦<Counted<File> as Source>⟧.has_failed
+        out.old out.new errors.old errors.new result
+        ⊎ DidBlocks K.Took K.HasFlushed K.has_failed L.Took L.HasFlushed L.has_failed job.now
+        ⟦<FileBlocks<File> as BlockSource>⟧.GaveAt ⟦<FileBlocks<File> as BlockSource>⟧.EndsAt
+        ⟦<FileBlocks<File> as BlockSource>⟧.FailsAt
+        out.old out.new errors.old errors.new result
+        ⊎ DidNotOpen K.Took K.HasFlushed K.has_failed L.Took L.HasFlushed L.has_failed job.now
+        out.old out.new errors.old errors.new result }
+    ensures quiet { result ≡ 0 → errors.new ≡ errors.old }
 {
     if job.file.as_str() == STANDARD_INPUT {
         let mut source = Counted::of(rt.stdin());

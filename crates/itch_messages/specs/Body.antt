@@ -1,4 +1,4 @@
--- What a body stands for, and the body of a message.
+-- The message that a body is, and the body of a message.
 -- To be believed.
 use Rattle.std.specs.Prelude.{◌≡◌, ◌==◌, ◌<◌, ◌^◌, ℕ, Bool, true, false, not, if◌then◌else◌, List, [], ◌∷◌, ◌++◌, length, slice_index, Option, None}
 use Rattle.std.specs.Prelude.{Some, unwrap_or}
@@ -138,7 +138,8 @@ message_of_kind kind body =
     if kind == 66 then Broken (broken_of body) else  -- B
     if kind == 82 then Directory (directory_of body) else Skipped  -- R
 
--- the message that a body stands for: Skipped for the empty body, another type or a wrong length
+-- the message that a body is: its type's fields at their offsets; `Skipped` for the empty body, another type or a
+-- wrong length
 abbrev pub message_of : List ℕ → Message
 message_of body = if is_whole body then message_of_kind (kind_of body) body else Skipped
 
@@ -147,7 +148,7 @@ abbrev pub is_skipped : Message → Bool
 is_skipped Skipped = true
 is_skipped _ = false
 
--- a message's time, in nanoseconds since midnight: that of its header; what is skipped has none
+-- a message's time, in nanoseconds since midnight: that of its header (section 1); what is skipped has none
 abbrev pub time_of_message : Message → Option ℕ
 time_of_message (Add m) = Some m.header.time
 time_of_message (Executed m) = Some m.header.time
@@ -194,7 +195,8 @@ parts_of (Broken m) = (66 ∷ []) ∷ header_parts m.header ++ number_bytes 8 m.
 parts_of (Directory m) = (82 ∷ []) ∷ header_parts m.header ++ m.stock ∷ m.rest ∷ []
 parts_of Skipped = []
 
--- the body of a message: its type's byte and its fields, in the order of their offsets
+-- the body of a message: its type's byte and its fields, in the order of their offsets. A body is read as a message
+-- if and only if it is that message's body (`one_body_each`).
 abbrev pub body_of : Message → List ℕ
 body_of message = concat (parts_of message)
 
@@ -203,11 +205,11 @@ abbrev pub FitsHeader : HeaderFields → Type 0
 FitsHeader header =
     (header.locate < 2 ^ 16) × (header.tracking < 2 ^ 16) × (header.time < 2 ^ 48)
 
--- an alpha field: so many bytes
+-- an alpha field of this width: that many bytes
 abbrev pub IsText : ℕ → List ℕ → Type 0
 IsText width text = (length text ≡ width) × AreBytes text
 
--- an attribution, where there is one, has four bytes
+-- an attribution, if there is one, has four bytes
 abbrev pub FitsAttribution : Option (List ℕ) → Type 0
 FitsAttribution None = Unit {0}
 FitsAttribution (Some attribution) = IsText 4 attribution

@@ -2,7 +2,7 @@
 -- To be believed.
 use Rattle.std.specs.Prelude.{ℕ, ◌==◌, if◌then◌else◌, Option, None, Some}
 
--- the length of a body, from its first byte, where that is one of the nine types
+-- the length of a body of this type, which is its first byte, if it is one of the nine types
 unfoldable pub length_of : ℕ → Option ℕ
 length_of kind =
     if kind == 65 then Some 36 else  -- A

@@ -1,4 +1,4 @@
--- The table of types and lengths, a body's fields, and what a body stands for.
+-- The table of types and lengths, a body's fields, and the message that a body is.
 pub mod Body
 pub mod Fields
 pub mod HeaderFields

@@ -4,7 +4,7 @@ ghost use Rattle.itch_messages.specs.Body.{FitsMessage, body_of, has_wrong_lengt
 ghost use Rattle.itch_messages.specs.Fields.{AreBytes};
 ghost use Rattle.itch_messages.specs.declared.message.Message.{Message};
 
-/// A body is read as a message other than `Skipped` exactly where it is the one that `append`
+/// A body is read as a message other than `Skipped` if and only if it is the one that `append`
 /// writes for that message: the law is this function's contract, and it does nothing.
 pub fn one_body_each()
     ensures read_back { (message : Message) → FitsMessage message → is_skipped message ≡ false

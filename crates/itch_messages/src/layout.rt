@@ -11,7 +11,7 @@ pub struct LengthFault {
     pub wanted: usize,
 }
 
-/// The length of a body of this type in bytes, where the type is one that is read.
+/// The length of a body of this type in bytes, if the type is one that is read.
 #[inline(always)]
 #[tactic(auto, unfolding(crate::specs::Layout::length_of))]
 pub(crate) fn wanted_length(kind: u8) -> Option<usize>

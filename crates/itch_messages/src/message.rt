@@ -26,7 +26,7 @@ pub struct Executed {
 }
 
 /// An execution at a price of its own, in ten-thousandths of a dollar: 'C'. It counts in time and
-/// sales and in volume where `printable` is `Y`. TotalView-ITCH 5.0, section 1.4.2.
+/// sales and in volume if `printable` is `Y`. TotalView-ITCH 5.0, section 1.4.2.
 #[derive(Clone, Copy, Debug, PartialEq, Eq)]
 pub struct ExecutedAt {
     pub header: Header,
@@ -62,7 +62,7 @@ pub struct Trade {
     pub trade_no: u64,
 }
 
-/// A cross: 'Q'. It has zero shares where no cross took place. `price` is in ten-thousandths of a
+/// A cross: 'Q'. It has zero shares if no cross took place. `price` is in ten-thousandths of a
 /// dollar, `trade_no` is the match number. TotalView-ITCH 5.0, section 1.5.2.
 #[derive(Clone, Copy, Debug, PartialEq, Eq)]
 pub struct Cross {

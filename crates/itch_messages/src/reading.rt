@@ -161,8 +161,8 @@ fn message(kind: u8, body: &[u8]) -> Message
     }
 }
 
-/// The message that a body stands for, by the table of TotalView-ITCH 5.0, section 1. An empty body
-/// is `Skipped`, and so is a body of another type, at any length. `LengthFault` comes exactly where
+/// The message that a body is, by the table of TotalView-ITCH 5.0, section 1. An empty body is
+/// `Skipped`, and so is a body of another type, at any length. `LengthFault` comes if and only if
 /// the first byte is one of the nine types and the length is not that type's. Side, cross type,
 /// printable, attribution and what follows an R's stock are kept as they are and not tested.
 #[inline(always)]

@@ -154,7 +154,7 @@ fn draft_of(message: &Message) -> Draft
 }
 
 /// Appends the body of a message, by the table of TotalView-ITCH 5.0, section 1, without the length
-/// that stands before it in a day file. A refused growth leaves `out` as it was.
+/// that comes before it in a day file. A refused growth leaves `out` as it was.
 pub fn append<A: Allocator>(out: &mut Vec<u8, A>, message: &Message) -> Result<(), OutOfMemory>
     requires { is_skipped message.now ≡ false }
     ensures ok { OnOk result (out.new.items ≡ out.old.items ++ body_of message.now) }

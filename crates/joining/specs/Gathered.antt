@@ -1,5 +1,5 @@
 -- What all buckets of a message list have found, and the text of what they list.
--- Derived: the answer isn't said by buckets.
+-- To be believed of a crate used by itself: the answer isn't defined by buckets.
 use Rattle.std.specs.Prelude.{◌≡◌, ℕ, ◌<◌, ◌+◌, List, length, map, All, Option, Some, None, nat_eq}
 use Rattle.std.specs.List.{IsDistinct}
 use Rattle.std.specs.List.Sorted.{IsPermutation}
@@ -37,8 +37,8 @@ found_in n query messages =
     (partition_of n (rows_of messages) b))
     (numbers_below n))
 
--- the total is that of all buckets of the messages, which stand by place and have fewer trades than a file has room
--- for; and these are their directory rows
+-- the total is that of all buckets of the messages, and these are their directory rows; the messages are by place and
+-- have fewer trades than a file has room for
 pub record AreGatheredOf (query : Meaning) (total : TotalView) (names : List DirectoryRow) (messages : List Placed)
     : Type 0 where
   pub parts : ℕ
@@ -65,7 +65,7 @@ abbrev pub table_of : Product → Option (List Bar)
 table_of (Listed sales) = None
 table_of (Tabled bars) = Some bars
 
--- lists of sales that can be listed together: no place stands twice, they are fewer than a file has room for, and
+-- lists of sales that can be listed together: no place occurs twice, they are fewer than a file has room for, and
 -- times and locates fit
 pub record AreListable (lists : List (List Sale)) : Type 0 where
   pub apart : IsDistinct nat_eq (map (λ sale. sale.place) (all_sales lists))

@@ -20,8 +20,8 @@ use std::thread::Threads;
 use time_and_sales::{Listing, Names};
 
 /// The answer that the total of all buckets gives: the first fault in the references, or the text
-/// that is asked for. Threads make the text in so many parts, or one, and the rows of all buckets are
-/// let go when it is made.
+/// that is asked for. Threads make the text in `ranges` parts, or in one, and the rows of all
+/// buckets are let go when it is made.
 pub fn answer_in_ranges<R: Threads + Sync>(
     rt: &R,
     alloc: Global,

@@ -1,5 +1,5 @@
 -- What a link may be given.
--- To be believed.
+-- To be believed of a crate used by itself.
 use Rattle.std.specs.Prelude.{List}
 
 -- it is a total of some admissible list of inputs

@@ -9,7 +9,7 @@ use std::alloc::Global;
 
 /// Makes the inputs of a second pipeline of a first one's total, or halts.
 pub trait Link<A: Work, B: Work> {
-    /// What is kept beside the second total.
+    /// What is kept besides the second total.
     type Kept: Drop;
 
     /// What it halts with.

@@ -3,7 +3,7 @@
 /// What a link makes of a total.
 #[derive(Drop)]
 pub enum Linked<I, K, S> {
-    /// The inputs of the second pipeline, and what is kept beside its total.
+    /// The inputs of the second pipeline, and what is kept besides its total.
     Next { inputs: I, kept: K },
     /// There is no second pipeline.
     Halt { stop: S },

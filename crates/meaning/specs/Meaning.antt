@@ -34,7 +34,7 @@ is_span span = nat_lt span.since span.until && nat_le span.until SECONDS_OF_DAY
 abbrev pub has_some : Kinds → Bool
 has_some kinds = (kinds.e || kinds.c) || (kinds.p || kinds.q)
 
--- widths, moments, symbols and times are within their bounds
+-- widths, moments, symbols and times are within their bounds; a moment is at most the day's end
 pub record IsSound (listed : What) (latest : Option ℕ) (names : Option (List (List ℕ)))
     (times : Option Span) : Type 0 where
   pub width : (n : ℕ) → listed ≡ Bars n → is_width n ≡ true

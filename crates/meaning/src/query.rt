@@ -23,14 +23,14 @@ pub enum What {
 #[derive(Drop)]
 pub struct Query<A: Allocator = Global> {
     pub what: What,
-    /// Messages after this moment don't count; each counts where there is none. In seconds since
+    /// Messages after this moment don't count; if there is none, each counts. In seconds since
     /// midnight, 0 to 86,400.
     pub as_of: Option<u32>,
     /// The symbols whose sales are listed, or those of each.
     pub symbols: Option<Symbols<A>>,
     /// The part of the day, or the whole day.
     pub span: Option<Span>,
-    /// All four where the text names none.
+    /// All four if the text names none.
     pub kinds: Kinds,
 }
 

@@ -1,5 +1,5 @@
 -- One row more.
--- Derived: the answer isn't said by partitions.
+-- Derived: the answer isn't defined by partitions.
 use Rattle.std.specs.Prelude.{◌≡◌, ℕ, ◌<◌, ◌≤◌, [], ◌∷◌, ◌++◌}
 use Rattle.lists.specs.declared.limits.TheConstants.{MOST_PARTITIONS}
 use Rattle.row_types.specs.declared.order.OrderRow.{OrderRow}
@@ -30,7 +30,7 @@ with_sale row rows = record {
   own_priced = rows.own_priced ++ row ∷ [];
 }
 
--- where the old rows are some in n partitions, the new are those and others after them, in n partitions
+-- if the old rows are some rows in n partitions, the new ones are those and others after them, in n partitions
 abbrev pub BecomesJoined : DayRows → MorselRowsView → MorselRowsView → Type 0
 BecomesJoined more old new =
     (n : ℕ) (rows : DayRows) → 0 < n → n ≤ MOST_PARTITIONS →

@@ -1,5 +1,5 @@
 -- The rows of messages in partitions: by order references, and sales that have a price of their own by places.
--- Derived: the answer isn't said by partitions.
+-- To be believed of a crate used by itself: the answer isn't defined by partitions.
 use Rattle.std.specs.Prelude.{◌≡◌, ℕ, ◌<◌, ◌+◌, List, [], map, length, slice_index_or}
 use Rattle.std.specs.List.{flat_map}
 use Rattle.lists.specs.Least.{numbers_below, part}
@@ -43,11 +43,11 @@ in_partitions n rows = record {
   directory = rows.directory;
 }
 
--- the partition of this number; no rows where there is none
+-- the partition of this number; no rows if there is none
 abbrev pub partition_at : ℕ → MorselRowsView → PartitionView
 partition_at b rows = slice_index_or rows.partitions b no_rows_in
 
--- the rows of partitions, one after the other
+-- the rows of partitions, one partition after another
 abbrev pub joined_partitions : List PartitionView → PartitionView
 joined_partitions parts = record {
   orders = flat_map (λ rows. rows.orders) parts;
@@ -55,8 +55,8 @@ joined_partitions parts = record {
   own_priced = flat_map (λ rows. rows.own_priced) parts;
 }
 
--- they are the rows of some messages, by place: no place stands twice in a list, and there are fewer trades than a file
--- has room for
+-- they are the rows of some messages, by place: no place occurs twice in a list, and there are fewer trades than a
+-- file has room for
 pub record AreRowsByPlace (rows : PartitionView) : Type 0 where
   pub messages : List Placed
   pub by_place : AreByPlace messages

@@ -1,5 +1,5 @@
 -- Partitions compared row by row, and rows compared field by field.
--- Derived: what compares as equal is one.
+-- To be believed of a crate used by itself: equality of inputs, by which no answer is defined.
 use Rattle.std.specs.Prelude.{◌≡◌, ℕ, Bool, true, false, ◌==◌, ◌&&◌, List, [], ◌∷◌}
 use Rattle.std.specs.Cmp.{IsEquivalence}
 use Rattle.std.specs.Cmp.Lexicographic.{pointwise}
@@ -13,15 +13,17 @@ use Rattle.row_types.specs.declared.trade.Kind.TheVariants.{E, C, P, Q}
 use Rattle.row_types.specs.declared.trade.Sale.{Sale}
 use Rattle.morsel_rows.specs.Partitions.{PartitionView}
 
--- rows of which each field is the same
+-- order rows are compared by all their fields
 abbrev pub is_same_order : OrderRow → OrderRow → Bool
 is_same_order a b = (a.place == b.place) && ((a.order_no == b.order_no) && (a.price == b.price))
 
+-- executions are compared by all their fields
 abbrev pub is_same_execution : Execution → Execution → Bool
 is_same_execution a b =
     (a.place == b.place) && ((a.time == b.time) && ((a.locate == b.locate) && ((a.order_no == b.order_no)
     && ((a.shares == b.shares) && (a.trade_no == b.trade_no)))))
 
+-- both are the same kind
 abbrev pub is_same_kind : Kind → Kind → Bool
 is_same_kind E E = true
 is_same_kind C C = true
@@ -29,12 +31,13 @@ is_same_kind P P = true
 is_same_kind Q Q = true
 is_same_kind _ _ = false
 
+-- sales are compared by all their fields
 abbrev pub is_same_sale : Sale → Sale → Bool
 is_same_sale a b =
     (a.place == b.place) && ((a.time == b.time) && ((a.locate == b.locate) && (is_same_kind a.kind b.kind
     && ((a.price == b.price) && ((a.shares == b.shares) && (a.trade_no == b.trade_no))))))
 
--- the same rows in the same order
+-- both have the same rows in the same order
 abbrev pub is_same_partition : PartitionView → PartitionView → Bool
 is_same_partition a b =
     pointwise is_same_order a.orders b.orders

@@ -31,8 +31,8 @@ pub(crate) struct Narrow {
 
 /// Order rows, in the order in which they were pushed.
 ///
-/// A row takes 16 bytes as long as each place lies less than 4 GiB past that of the first row, which
-/// is so in a morsel. The first row that lies before it or farther, and all that follow, take 24.
+/// A row takes 16 bytes as long as each place is less than 4 GiB past that of the first row, which
+/// is so in a morsel. The first row that is before it or farther, and all that follow, take 24.
 #[derive(Drop)]
 pub struct OrderList<A: Allocator = Global> {
     /// The place of the first narrow row.
@@ -66,8 +66,8 @@ impl<A: Allocator + Copy> OrderList<A> {
         }
     }
 
-    /// No rows, and room for so many narrow ones, which is taken at once. It is refused where there is no
-    /// memory for them.
+    /// No rows, and room for this many narrow ones, which is taken at once. It is refused if there
+    /// is no memory for them.
     pub fn with_room(alloc: A, rows: usize) -> Result<Self, OutOfMemory>
         ensures { IfOk result (λ list. list ≡ []) }
     {
@@ -80,7 +80,7 @@ impl<A: Allocator + Copy> OrderList<A> {
 }
 
 impl<A: Allocator> OrderList<A> {
-    /// Adds a row at the end. Where there is no memory for it, the list stays as it was.
+    /// Adds a row at the end. If there is no memory for it, the list stays as it was.
     #[inline(always)]
     pub fn push(&mut self, row: OrderRow) -> Result<(), OutOfMemory>
         ensures added { OnOk result (self.new ≡ self.old ++ row ∷ []) }
@@ -117,7 +117,7 @@ impl<A: Allocator> OrderList<A> {
         self.narrow.len() + self.wide.len()
     }
 
-    /// The rows where they lie, if there are some, all are narrow, and each has a greater reference
+    /// The rows where they are, if there are some, all are narrow, and each has a greater reference
     /// than the row before it.
     pub fn rising(&self) -> Option<RisingRows<'_>>
         ensures rows { IfSome result (λ rising. rising ≡ self.now) }
@@ -129,7 +129,7 @@ impl<A: Allocator> OrderList<A> {
         RisingRows::of(self.start, self.narrow.as_slice())
     }
 
-    /// Adds the rows to a vector. Where there is no memory for them, the vector stays as it was.
+    /// Adds the rows to a vector. If there is no memory for them, the vector stays as it was.
     pub fn append_to<B: Allocator>(&self, out: &mut Vec<OrderRow, B>) -> Result<(), OutOfMemory>
         ensures appended { OnOk result (out.new.items ≡ out.old.items ++ self.now) }
         ensures unchanged { OnErr result (out.new.items ≡ out.old.items) }

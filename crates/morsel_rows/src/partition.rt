@@ -32,8 +32,8 @@ impl<A: Allocator> Model for Partition<A> {
 }
 
 impl<A: Allocator + Copy> Partition<A> {
-    /// No rows, and room for so many order rows, which is taken at once. It is refused where there is no
-    /// memory for them.
+    /// No rows, and room for `orders` order rows, which is taken at once. It is refused if there is
+    /// no memory for them.
     pub(crate) fn with_room(alloc: A, orders: usize) -> Result<Self, OutOfMemory>
         ensures { IfOk result (λ partition. partition ≡ no_rows_in) }
     {

@@ -8,8 +8,8 @@ use crate::orders::{Narrow, widen};
 use row_types::OrderRow;
 use std::marker::Model;
 
-/// The rows of a list, one or more, each of a greater reference than the row before it. They stay
-/// where they lie.
+/// The rows of a list, one or more, each of a greater reference than the row before it. They are
+/// not copied.
 #[derive(Drop)]
 pub struct RisingRows<'a> {
     /// The place that offsets count from.

@@ -53,8 +53,8 @@ impl<A: Allocator> Model for MorselRows<A> {
 }
 
 impl<A: Allocator + Copy> MorselRows<A> {
-    /// No rows, in this many partitions, each with room for so many order rows, which is taken at once. It is
-    /// refused where there is no memory for them.
+    /// No rows, in this many partitions, each with room for `orders` order rows, which is taken at
+    /// once. It is refused if there is no memory for them.
     pub fn new(alloc: A, parts: u32, orders: usize) -> Result<Self, OutOfMemory>
         requires { (0 < parts) × (parts ≤ MOST_PARTITIONS) }
         ensures { IfOk result (λ rows. rows ≡ in_partitions parts no_rows) }
@@ -97,9 +97,9 @@ impl<A: Allocator> MorselRows<A> {
         self.directory.as_slice()
     }
 
-    /// Adds the row of one message more, whose frame is at this place, in bytes from the file's start,
-    /// if the message counts up to this moment, in seconds since midnight; of one that is past it there
-    /// is none. Where there is no memory for it, the rows stay as they were.
+    /// Adds the row of one more message, whose frame is at this place, in bytes from the file's
+    /// start, if the message counts up to this moment, in seconds since midnight; one that is past
+    /// it has no row. If there is no memory for it, the rows stay as they were.
     #[inline(always)]
     pub fn add_counted(
         &mut self,

@@ -13,12 +13,12 @@ abbrev pub first_row : List OrderRow → ℕ → Option OrderRow
 first_row rows order_no =
     least_by (λ row. row.place) (filter (λ row. row.order_no == order_no) rows)
 
--- the price of a row that stands before the place
+-- the price of a row, if it comes before the place
 abbrev pub price_if_before : ℕ → Option OrderRow → Option ℕ
 price_if_before place None = None
 price_if_before place (Some row) = if nat_lt row.place place then Some row.price else None
 
--- the price of the first row of the reference, where that row stands before the place
+-- the price of the first row of the reference, if that row comes before the place
 abbrev pub price_before : List OrderRow → ℕ → ℕ → Option ℕ
 price_before rows order_no place = price_if_before place (first_row rows order_no)
 

@@ -1,10 +1,10 @@
 -- The order in which a table has its rows: by reference, and those of one reference by place.
--- Derived: it says how the code has its rows, and no answer is said by it.
+-- Derived: it says how the code has its rows, and no answer is defined by it.
 use Rattle.std.specs.Prelude.{◌≡◌, ◌⊎◌, ◌<◌, ◌≤◌, List}
 use Rattle.std.specs.List.{AllPairs}
 use Rattle.order_table.specs.Orders.{OrderRow}
 
--- the second row may stand after the first
+-- the second row may come after the first
 abbrev pub MayFollow : OrderRow → OrderRow → Type 0
 MayFollow row next = (row.order_no < next.order_no) ⊎ ((row.order_no ≡ next.order_no) × (row.place ≤ next.place))
 

@@ -22,9 +22,10 @@ fn falls(rows: &[OrderRow]) -> bool
     rows.is_sorted_by(|row, next| next.order_no < row.order_no)
 }
 
-/// Puts the rows in order: by their references, and those of one reference by their places. It takes
-/// no memory. Where they fall or nearly stand so, that is a few steps a row, and else those of a sort
-/// by the reference alone, to which one by both is added only where a reference is repeated.
+/// Puts the rows in order: by their references, and those of one reference by their places. It
+/// takes no memory. If they fall or nearly have that order already, it takes a few steps a row;
+/// else as many as a sort by the reference alone, and one by both after it only if a reference is
+/// repeated.
 pub(crate) fn put_in_order(rows: &mut [OrderRow])
     ensures permutation { IsPermutation rows.old rows.new }
     ensures in_order { IsInOrder rows.new }

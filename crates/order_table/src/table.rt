@@ -34,8 +34,8 @@ pub struct Built<A: Allocator + Clone = Global> {
 }
 
 impl<A: Allocator + Clone> OrderTable<A> {
-    /// The table of the rows, in whatever order they stand. They are copied, and where there is no
-    /// memory for that, that is the refusal.
+    /// The table of the rows, in whatever order they are. They are copied, and it is refused if
+    /// there is no memory for the copy.
     pub fn build(alloc: A, rows: &[OrderRow]) -> Result<Built<A>, OutOfMemory>
         requires { IsDistinct nat_eq (map (λ row. row.place) rows.now) }
         ensures table { IfOk result (λ built. IsTableOf rows.now built.table) }
@@ -47,8 +47,8 @@ impl<A: Allocator + Clone> OrderTable<A> {
         Ok(OrderTable::of_vec(kept))
     }
 
-    /// The table of the rows, as `build` makes it of a copy of them. Where their references don't rise
-    /// they are sorted where they are, so it takes no memory.
+    /// The table of the rows, as `build` makes it of a copy of them. If their references don't rise
+    /// they are sorted in place, so it takes no memory.
     pub fn of_vec(mut rows: Vec<OrderRow, A>) -> Built<A>
         requires { IsDistinct nat_eq (map (λ row. row.place) rows.items) }
         ensures table { IsTableOf rows.items result.table }
@@ -72,7 +72,7 @@ impl<A: Allocator + Clone> OrderTable<A> {
     }
 
     /// The price of an execution of the reference at the place: that of the reference's first row,
-    /// where that row stands before the place. In ten-thousandths of a dollar.
+    /// if that row comes before the place. In ten-thousandths of a dollar.
     #[inline(always)]
     pub fn price_before(&self, order_no: u64, place: u64) -> Option<u32>
         ensures kept { result ≡ price_if_before place (kept_row self.now order_no) }

@@ -1,5 +1,5 @@
 -- What a pair of pipelines gives.
--- To be believed.
+-- To be believed of a crate used by itself.
 use Rattle.std.specs.Prelude.{List}
 use Rattle.links.specs.declared.linked.Linked.{Linked}
 use Rattle.links.specs.declared.linked.Linked.TheVariants.{Next, Halt}
@@ -16,8 +16,8 @@ module _ {F I T K S : Type 0} (IsFirst : F → Type 0) (Links : F → Linked (Li
       (first : F) × (inputs : List I) × IsFirst first × Links first (Next inputs kept) × IsTotalOf inputs total
   IsOutcome (Stopped stop) = (first : F) × IsFirst first × Links first (Halt stop)
 
--- Of works and a link that are functions: the total of all inputs that the link gave, with what it kept; or what it
--- halted with.
+-- the outcome of works and a link that are functions: the total of all inputs that the link gave, with what it kept;
+-- or what it halted with
 abbrev pub outcome_of : {I T K S : Type 0}
     → (List I → T) → Linked (List I) K S → Outcome T K S
 outcome_of total_of (Next inputs kept) = Finished (total_of inputs) kept

@@ -1,5 +1,5 @@
 -- What the total of all morsels is linked to: its wrong length, or a bucket of each partition.
--- Derived: the answer isn't said by morsels and buckets.
+-- To be believed of a crate used by itself: the answer isn't defined by morsels and buckets.
 use Rattle.std.specs.Prelude.{ℕ, List, map, Option, Some, None}
 use Rattle.std.specs.List.{flat_map}
 use Rattle.lists.specs.Least.{numbers_below}
@@ -17,7 +17,7 @@ use Rattle.buckets.specs.Plans.{rising, selection_of}
 abbrev pub all_breaks : List MorselRowsView → List ℕ
 all_breaks morsels = flat_map (λ rows. rows.breaks) morsels
 
--- their directory rows
+-- the directory rows of all morsels
 abbrev pub all_directory : List MorselRowsView → List DirectoryRow
 all_directory morsels = flat_map (λ rows. rows.directory) morsels
 
@@ -40,7 +40,7 @@ pub record LinkView : Type 0 where
 abbrev pub ToBuckets : Type 0
 ToBuckets = Linked (List BucketView) (List DirectoryRow) WrongLength
 
--- the wrong length, if there is one, or what comes otherwise
+-- the wrong length, if there is one; else what comes otherwise
 abbrev pub halt_or : Option WrongLength → ToBuckets → ToBuckets
 halt_or (Some wrong) next = Halt wrong
 halt_or None next = next

@@ -19,8 +19,8 @@ use std::alloc::Global;
 use std::marker::Model;
 use std::sync::Arc;
 
-/// Halts at a wrong length, and otherwise makes so many buckets of the rows of all morsels, which they
-/// share. The names, the breaks and the selection of the query are made here, once.
+/// Halts at a wrong length, and otherwise makes `parts` buckets of the rows of all morsels, which
+/// they share. The names, the breaks and the selection of the query are made here, once.
 #[derive(Drop)]
 pub struct PlanLink<'a> {
     query: &'a Query,
@@ -40,8 +40,8 @@ impl<'a> Model for PlanLink<'a> {
 }
 
 impl<'a> PlanLink<'a> {
-    /// The link of a query to so many buckets: as many as the morsels' rows have partitions. Rows of a
-    /// partition past the last bucket would be in none.
+    /// The link of a query to `parts` buckets: as many as the morsels' rows have partitions. Rows
+    /// of a partition past the last bucket would be in none.
     pub fn new(query: &'a Query, parts: u32) -> Self
         requires { parts ≤ MOST_PARTITIONS }
         ensures { result ≡ record { query = query.now; parts = parts } }

@@ -1,5 +1,5 @@
 -- The executions of one part, by their references modulo a number.
--- Derived: lemmas show that the parts are priced as all executions are, and no answer is said by them.
+-- Derived: lemmas show that the parts are priced as all executions are, and no answer is defined by them.
 use Rattle.std.specs.Prelude.{ℕ, List}
 use Rattle.lists.specs.Least.{part}
 use Rattle.probe.specs.Pricing.{Execution}

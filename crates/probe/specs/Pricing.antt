@@ -10,7 +10,7 @@ pub use Rattle.row_types.specs.declared.trade.Sale.{Sale}
 pub use Rattle.row_types.specs.declared.trade.Unknown.{Unknown}
 use Rattle.row_types.specs.declared.trade.Kind.TheVariants.{E}
 
--- the price of the first row that gives the execution's reference, where that row stands before the execution
+-- the price of the first row that gives the execution's reference, if that row comes before the execution
 abbrev pub price_of : List OrderRow → Execution → Option ℕ
 price_of rows execution = price_before rows execution.order_no execution.place
 
@@ -40,7 +40,7 @@ sale_at execution price =
       trade_no = execution.trade_no;
     }
 
--- the sale of an execution, where it has a price
+-- the sale of an execution, if it has a price
 abbrev pub sale_of : List OrderRow → Execution → Option Sale
 sale_of rows execution = option_map (sale_at execution) (price_of rows execution)
 

@@ -12,7 +12,7 @@ use Rattle.probe.specs.declared.selection.Locates.TheVariants.{All, Listed}
 use Rattle.probe.specs.declared.selection.Selection.{Selection}
 use Rattle.probe.specs.declared.selection.Span.{Span}
 
--- all locates, or those that are listed
+-- a selection has a locate: it has all, or those that are listed
 abbrev pub has_locate : {A : Type 0} → Locates A → ℕ → Bool
 has_locate All locate = true
 has_locate (Listed list) locate = is_among list locate
@@ -29,7 +29,7 @@ has_kind kinds C = kinds.c
 has_kind kinds P = kinds.p
 has_kind kinds Q = kinds.q
 
--- a time is in the span, where there is one
+-- a time is in the span, if there is one
 abbrev pub has_time : Option Span → ℕ → Bool
 has_time None time = true
 has_time (Some span) time = is_within span time

@@ -9,6 +9,7 @@ abbrev pub is_kept : List ℕ → (Sale → Bool) → Sale → Bool
 is_kept breaks selection sale =
     not (is_among breaks sale.trade_no) && (selection sale && nat_lt 0 sale.shares)
 
--- the unbroken selected sales of more than zero shares, in the list's order
+-- the sales of a list that no break names, that a selection admits and that have more than zero shares, in the list's
+-- order
 abbrev pub kept : List ℕ → (Sale → Bool) → List Sale → List Sale
 kept breaks selection sales = filter (is_kept breaks selection) sales

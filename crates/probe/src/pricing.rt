@@ -1,6 +1,6 @@
 //! Prices executions by the orders that gave their references.
-ghost use Rattle.std.specs.Prelude.{◌≡◌, ◌∷◌, ◌++◌, [], IfOk, List, OnOk, map, nat_eq};
-ghost use Rattle.std.specs.Prelude.{option_map, option_to_list};
+ghost use Rattle.std.specs.Prelude.{◌≡◌, ◌+◌, ◌≤◌, ◌∷◌, ◌++◌, [], IfOk, List, OnErr, OnOk, length, map};
+ghost use Rattle.std.specs.Prelude.{nat_eq, option_map, option_to_list, vec_capacity, vec_len};
 ghost use Rattle.std.specs.List.{IsDistinct};
 ghost use Rattle.lists.specs.Least.{least_by};
 ghost use Rattle.order_table.specs.declared.OrderRow.{OrderRow};
@@ -77,20 +77,36 @@ pub fn price_all<A: Allocator, T: Allocator + Clone>(
 }
 
 /// Prices executions in the same way, after others, whose sales and first one without a price are
-/// handed in: they become those of all.
+/// handed in: they become those of all. If there is no memory for the sales, they stay as they were.
 pub fn price_into<A: Allocator, P: PricesExecutions>(
     priced: &mut Priced<A>,
     prices: &P,
     executions: &[Execution],
 ) -> Result<(), OutOfMemory>
-    ensures { OnOk result ((rows : List OrderRow) (before : List TheExecution) → P.PricesBy rows prices.now →
+    ensures priced { OnOk result ((rows : List OrderRow) (before : List TheExecution) → P.PricesBy rows prices.now →
         IsPricingOf rows before priced.old → IsPricingOf rows (before ++ executions.now) priced.new) }
+    ensures sales { OnErr result (priced.new.sales.items ≡ priced.old.sales.items) }
+    ensures unknown { OnErr result (priced.new.unknown ≡ priced.old.unknown) }
+{
+    priced.sales.try_reserve(executions.len())?;
+    price_each(priced, prices, executions);
+    Ok(())
+}
+
+/// Prices executions as `price_into` does, in room that was taken for the sales of all of them.
+fn price_each<A: Allocator, P: PricesExecutions>(
+    priced: &mut Priced<A>,
+    prices: &P,
+    executions: &[Execution],
+)
+    requires room { vec_len priced.old.sales + length executions.now ≤ vec_capacity priced.old.sales }
+    ensures { (rows : List OrderRow) (before : List TheExecution) → P.PricesBy rows prices.now →
+        IsPricingOf rows before priced.old → IsPricingOf rows (before ++ executions.now) priced.new }
 {
     for execution in executions {
         match prices.price_before(execution.order_no, execution.place) {
-            Some(price) => priced.sales.push(sale_of(execution, price))?,
+            Some(price) => priced.sales.push_reserved(sale_of(execution, price)),
             None => priced.unknown = earlier(priced.unknown, unknown_of(execution)),
         }
     }
-    Ok(())
 }

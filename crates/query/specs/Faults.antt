@@ -16,7 +16,7 @@ use Rattle.outcomes.specs.declared.query_fault.QueryFault.TheVariants.{EmptyRang
 pub data Next : Type 0 where
   query : Next
   number : Next
-  -- after a number, which stands at a byte of the text
+  -- after a number, which is at a byte of the text
   unit : ℕ → ℕ → Next
   -- the end, `as` or `where`
   moment : Said → Next
@@ -41,11 +41,11 @@ pub data Next : Type 0 where
 abbrev pub Step : Type 0
 Step = Result Next QueryFault
 
--- a word that must be this one
+-- what a word leads to that must be this text
 abbrev pub expecting : List ℕ → Next → Word → Step
 expecting text next w = if reads_as text w then Ok next else Err (UnknownWord w.at)
 
--- what a word stands for, or the fault where it stands for nothing
+-- what a word stands for, or the fault if it stands for nothing
 abbrev pub valued : {A : Type 0} → Option A → QueryFault → (A → Step) → Step
 valued None fault next = Err fault
 valued (Some value) fault next = next value
@@ -75,7 +75,7 @@ opens said w =
     else if reads_as (codes "kind") w then opening w (is_some said.kinds) (kind_in said)
     else Err (UnknownWord w.at)
 
--- a width of so many units, whose number stands at a byte
+-- a width in seconds, whose number is at this byte of the text
 abbrev pub wide : ℕ → ℕ → Step
 wide at width = if is_width width then Ok (moment (only (Bars width))) else Err (BadNumber at)
 
@@ -86,7 +86,7 @@ bounded said since until =
     then Ok (more (record said { span = Some (record { since = since; until = until }) }))
     else Err EmptyRange
 
--- one word is read
+-- what one more word leads to: what must come next then, or a fault
 unfoldable pub step : Next → Word → Step
 step query w = begins w
 step number w = valued (count_of w.bytes) (BadNumber w.at) (λ count. Ok (unit w.at count))
@@ -114,19 +114,19 @@ step (kinds said) w =
     Ok (more (record said { kinds = Some some })))
 step (more said) w = expecting (codes "and") (condition said) w
 
--- the text ends
+-- what the end of the text leads to: the query, or the fault of an incomplete one
 abbrev pub ended : Next → Result Meaning QueryFault
 ended (moment said) = Ok (meaning_of said)
 ended (filter said) = Ok (meaning_of said)
 ended (more said) = Ok (meaning_of said)
 ended _ = Err Incomplete
 
--- what follows after a step, or the step's fault
+-- what comes after a step, or the step's fault
 abbrev pub continued : Step → (Next → Result Meaning QueryFault) → Result Meaning QueryFault
 continued (Ok next) rest = rest next
 continued (Err fault) rest = Err fault
 
--- the words are read one after the other, up to a fault
+-- what the words lead to, one after another: the query, or the first fault
 unfoldable pub read_from : Next → List Word → Result Meaning QueryFault
 read_from next [] = ended next
 read_from next (w ∷ ws) = continued (step next w) (λ then_next. read_from then_next ws)

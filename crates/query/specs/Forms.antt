@@ -20,7 +20,7 @@ abbrev pub ◌>>=◌ : {A B : Type 0}
 (Ok x) >>= f = f x
 (Err fault) >>= f = Err fault
 
--- the value of a word, or the fault where it has none
+-- the value of a word, or the fault if it has none
 abbrev pub value_or : {A : Type 0}
     → Option A → QueryFault → List Word → Result (A × List Word) QueryFault
 value_or None fault ws = Err fault
@@ -76,7 +76,7 @@ condition_of said (w ∷ ws) =
     else in_list kinds_of ws >>= (λ list. Ok (record said { kinds = Some list.0 }, list.1)))
     else Err (UnknownWord w.at)
 
--- so many units, whose number stands at byte `at`
+-- a width in seconds, whose number is at byte `at`
 abbrev pub width_at : ℕ → ℕ → List Word → Result (ℕ × List Word) QueryFault
 width_at at width ws = if is_width width then Ok (width, ws) else Err (BadNumber at)
 
@@ -113,7 +113,7 @@ after_as said words = do
   time ← timed after_of
   Ok (record said { as_of = Some time.0 }, time.1)
 
--- `as of` and a time, where `as` comes first
+-- `as of` and a time, if `as` comes first
 unfoldable pub moment_of : Said → List Word → Result (Said × List Word) QueryFault
 moment_of said words =
     if begins_with (codes "as") words then took (codes "as") words >>= after_as said

@@ -23,7 +23,7 @@ only what = record { what = what; as_of = None; symbols = None; span = None; kin
 abbrev pub all_kinds : Kinds
 all_kinds = record { e = true; c = true; p = true; q = true }
 
--- what was said, with all kinds where none were given
+-- what was said, with all kinds if none were given
 abbrev pub meaning_of : Said → Meaning
 meaning_of said =
     record {

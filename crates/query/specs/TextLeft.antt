@@ -4,7 +4,7 @@ use Rattle.std.specs.Prelude.{ℕ, ◌+◌, ◌<◌, ◌^◌, List, [], length, 
 use Rattle.std.specs.Borrow.{Bor}
 use Rattle.query.specs.Words.{Word, parts, words_from}
 
--- the parts of what stands after a separator, where there was one
+-- the parts of what comes after a separator, if there was one
 abbrev pub after_part : ℕ → Option (Bor (List ℕ)) → List (List ℕ)
 after_part separator None = []
 after_part separator (Some rest) = parts separator rest.now

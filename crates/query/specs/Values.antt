@@ -16,7 +16,7 @@ use Rattle.query.specs.declared.values.TheConstants.{COLON}
 abbrev pub number_from : List ℕ → ℕ
 number_from digits = fold (λ value digit. 10 * value + (digit - 48)) 0 digits
 
--- a word of one to five digits is their number
+-- the number that a word of one to five digits writes
 unfoldable pub count_of : List ℕ → Option ℕ
 count_of bytes =
     if (nat_lt 0 (length bytes) && nat_le (length bytes) 5) && list_all is_ascii_digit bytes
@@ -36,13 +36,13 @@ pair_at place bytes =
     if is_ascii_digit (slice_index bytes place) && is_ascii_digit (slice_index bytes (place + 1))
     then Some (10 * (slice_index bytes place - 48) + (slice_index bytes (place + 1) - 48)) else None
 
--- hours, minutes and seconds as a number of seconds, where they are on a clock
+-- hours, minutes and seconds as a number of seconds, if they are below 24, 60 and 60
 abbrev pub clock : ℕ → ℕ → ℕ → Option ℕ
 clock hours minutes seconds =
     if (nat_lt hours 24 && nat_lt minutes 60) && nat_lt seconds 60
     then Some (3600 * hours + 60 * minutes + seconds) else None
 
--- a word `HH:MM:SS` is the seconds since midnight
+-- the seconds since midnight that a word `HH:MM:SS` writes
 unfoldable pub clock_of : List ℕ → Option ℕ
 clock_of bytes =
     if length bytes == 8 && (slice_index bytes 2 == COLON && slice_index bytes 5 == COLON)
@@ -50,16 +50,16 @@ clock_of bytes =
     clock hours minutes seconds) (pair_at 6 bytes)) (pair_at 3 bytes)) (pair_at 0 bytes)
     else None
 
--- a time of the day, or its end
+-- the seconds since midnight that a word writes: a time of the day, or `24:00:00`, the day's end
 unfoldable pub time_of : List ℕ → Option ℕ
 time_of bytes = if bytes_eq bytes (codes "24:00:00") then Some SECONDS_OF_DAY else clock_of bytes
 
--- a word that is a list of symbols, with a comma between each two
+-- the symbols of a word that lists them, with a comma between each two
 unfoldable pub symbols_of : List ℕ → Option (List (List ℕ))
 symbols_of bytes = let symbols = parts COMMA bytes in
     if list_all is_symbol symbols then Some symbols else None
 
--- a kind's letter
+-- a word is the letter of a kind
 abbrev pub is_kind : List ℕ → Bool
 is_kind bytes =
     (bytes_eq bytes (codes "E") || bytes_eq bytes (codes "C"))
@@ -79,6 +79,6 @@ letters_of bytes =
       q = has_letter 81 bytes;
     }
 
--- a word that is a list of kinds, with a comma between each two
+-- the kinds of a word that lists them, with a comma between each two
 unfoldable pub kinds_of : List ℕ → Option Kinds
 kinds_of bytes = if list_all is_kind (parts COMMA bytes) then Some (letters_of bytes) else None

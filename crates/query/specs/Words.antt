@@ -1,11 +1,11 @@
--- The words of a text: what stands between its spaces.
+-- The words of a text: what is between its spaces.
 -- To be believed.
 use Rattle.std.specs.Prelude.{ℕ, ◌+◌, ◌==◌, nat_lt, Bool, false, ◌&&◌, ◌||◌, List, [], ◌∷◌, length, filter, codes}
 use Rattle.std.specs.List.{slice_split}
 use Rattle.std.specs.Str.{bytes_eq}
 use Rattle.query.specs.declared.words.TheConstants.{SPACE}
 
--- a word, and how many bytes of the text stand before it
+-- a word, and how many bytes of the text come before it
 pub record Word : Type 0 where
   pub at : ℕ
   pub bytes : List ℕ
@@ -18,7 +18,7 @@ word at bytes = record { at = at; bytes = bytes }
 abbrev pub reads_as : List ℕ → Word → Bool
 reads_as text w = bytes_eq w.bytes text
 
--- what stands between the bytes that part a text, empty parts too
+-- the parts of a text between the bytes that separate them, empty parts too
 abbrev pub parts : ℕ → List ℕ → List (List ℕ)
 parts separator text = slice_split (λ byte. byte == separator) text
 

@@ -16,7 +16,7 @@ use outcomes::QueryFault;
 use std::alloc::Allocator;
 
 /// Reads the query that a text spells, in time linear in its length. Of several faults it reports
-/// the first from the left. It takes memory for the list of symbols alone, so it runs out of memory
+/// the first from the left. It takes memory only for the list of symbols, so it runs out of memory
 /// only if the text has one.
 #[tactic(auto, using(crate::proofs::MeaningOrFault::told))]
 pub fn parse<A: Allocator + Clone>(alloc: A, text: &str) -> Result<Query<A>, QueryFault>

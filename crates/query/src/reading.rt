@@ -70,7 +70,7 @@ impl<A: Allocator + Clone> Reading<A> {
         }
     }
 
-    /// The whole query, where no word follows.
+    /// The whole query, if no word follows.
     pub(crate) fn into_query(self) -> Query<A>
         ensures meaning { result ≡ meaning_of self }
         ensures sound { CanBeSpelled result }
@@ -84,7 +84,7 @@ impl<A: Allocator + Clone> Reading<A> {
         }
     }
 
-    /// Reads `as of` and a time, where `as` comes next.
+    /// Reads `as of` and a time, if `as` comes next.
     #[tactic(auto, unfolding(crate::specs::Forms::moment_of))]
     pub(crate) fn read_moment(&mut self, words: &mut Words<'_>) -> Result<(), QueryFault>
         ensures ok { OnOk result (moment_of self.old words.old ≡ Ok (self.new, words.new)) }

@@ -11,7 +11,7 @@ use std::marker::Model;
 /// What parts the words of a text.
 pub const SPACE: u8 = b' ';
 
-/// A word, and the number of bytes that stand before it in the text.
+/// A word, and the number of bytes that come before it in the text.
 #[derive(Clone, Copy, Debug)]
 pub(crate) struct Word<'a> {
     pub(crate) at: usize,
@@ -45,7 +45,7 @@ fn first_place(text: &[u8], separator: u8) -> Option<usize>
     text.iter().position(|byte| *byte == separator)
 }
 
-/// What stands before the first separator, and what stands after it where there is one.
+/// What comes before the first separator, and what comes after it if there is one.
 pub(crate) fn cut(text: &[u8], separator: u8) -> (&[u8], Option<&[u8]>)
     ensures parts { parts separator text.now ≡ result.0.now ∷ after_part separator result.1 }
     ensures shorter { MatchOption result.1 (length result.0.now ≡ length text.now)

@@ -1,5 +1,5 @@
 -- What a rehearsal over a cut day file gives.
--- To be believed.
+-- To be believed of a crate used by itself.
 use Rattle.std.specs.Prelude.{◌≡◌, ℕ, ◌<◌, true, List, length, map, MatchOption}
 use Rattle.std.specs.List.{concat}
 use Rattle.lists.specs.Least.{numbers_below}
@@ -13,13 +13,13 @@ use Rattle.day_rows.specs.Messages.{first_wrong}
 use Rattle.rehearsals.specs.declared.rehearsing.Rehearsal.{Rehearsal}
 use Rattle.rehearsals.specs.declared.rehearsing.Rehearsal.TheVariants.{Finished, Missing}
 
--- the rehearsal has the answer to the query over the file
+-- the rehearsal has the answer to the query over the file (`IsAnswer`)
 abbrev pub IsFinished : List ℕ → Meaning → Rehearsal → Type 0
 IsFinished file query (Finished answer) = IsAnswer file query (told_by answer)
 IsFinished file query (Missing pipeline task) = ⊥
 
--- what a rehearsal gives: the first morsel that has not arrived; else, where a length of the file is wrong, the answer,
--- which tells it; else the first partition that has not arrived; else the answer
+-- what a rehearsal gives: the first morsel that has not arrived; else, if a length of the file is wrong, the answer,
+-- which says so; else the first partition that has not arrived; else the answer
 pub record IsRehearsed (runs : List (List ℕ)) (query : Meaning) (parts gatherers : ℕ) (events1 events2 : List Event)
     (rehearsal : Rehearsal) : Type 0 where
   pub frames : List PlacedBody
@@ -32,15 +32,17 @@ pub record IsRehearsed (runs : List (List ℕ)) (query : Meaning) (parts gathere
       (λ wrong. IsFinished (concat runs) query rehearsal))
       (λ task. rehearsal ≡ Missing 1 task)
 
--- each of so many tasks has arrived, at one of so many gatherers
+-- each task has arrived, at one of the gatherers; then a rehearsal has the answer (`all_arrived_answers`)
 abbrev pub HaveArrived : ℕ → ℕ → List Event → Type 0
 HaveArrived gatherers tasks events = (task : ℕ) → task < tasks → has_arrived gatherers events task ≡ true
 
--- so many tasks, each of which arrives once, in order, at the first gatherer
+-- the schedule in which each task arrives once, in order, at the first gatherer; by such schedules a rehearsal has
+-- the answer (`each_once_answers`)
 abbrev pub each_once : ℕ → List Event
 each_once tasks = map (λ task. Arrive 0 task) (numbers_below tasks)
 
--- two rehearsals tell the same: one answer, or one task that is missing
+-- two rehearsals report the same: one answer, or one missing task; over one cut, for one query, by the same
+-- schedules, all do (`one_rehearsal`)
 abbrev pub TellTheSame : Rehearsal → Rehearsal → Type 0
 TellTheSame (Finished one) (Finished other) = told_by one ≡ told_by other
 TellTheSame (Missing pipeline task) (Missing number other) = (pipeline ≡ number) × (task ≡ other)

@@ -5,8 +5,8 @@ ghost use Rattle.schedules.specs.declared.event.Event.{Event as TheEvent};
 ghost use Rattle.rehearsals.specs.Rehearsals.{HaveArrived, IsFinished, IsRehearsed, TellTheSame, each_once};
 ghost use Rattle.rehearsals.specs.declared.rehearsing.Rehearsal.{Rehearsal as TheRehearsal};
 
-/// The law of rehearsals: over one cut, for one query, by the same schedules, all tell the same. It does
-/// nothing when it runs.
+/// The law of rehearsals: over one cut, for one query, by the same schedules, all give the same. It
+/// does nothing when it runs.
 pub fn one_rehearsal()
     ensures { (runs : List (List ℕ)) (query : Meaning) (parts gatherers : ℕ) (events1 events2 : List TheEvent)
         (one other : TheRehearsal) →

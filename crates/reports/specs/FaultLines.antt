@@ -10,8 +10,8 @@ use Rattle.lists.specs.declared.limits.TheConstants.{MOST_MORSELS}
 use Rattle.outcomes.specs.declared.query_fault.QueryFault.{QueryFault}
 use Rattle.outcomes.specs.declared.query_fault.QueryFault.TheVariants as query
 
--- the text of a query's fault; a run that finds no memory for the query reports no fault of the query, so the last of
--- these never stands in a line
+-- the text of a query's fault; a run that has no memory for the query reports no fault of the query, so the last of
+-- these is never in a line
 abbrev pub query_fault_text : QueryFault → List ℕ
 query_fault_text (query.UnknownWord at) = codes "query byte " ++ decimal at ++ codes ": unknown word"
 query_fault_text (query.BadNumber at) = codes "query byte " ++ decimal at ++ codes ": bad number"
@@ -21,7 +21,7 @@ query_fault_text query.Incomplete = codes "query ends too early"
 query_fault_text query.EmptyRange = codes "query has an empty time range"
 query_fault_text query.OutOfMemory = codes "out of memory"
 
--- the text of a day file's fault; a message's type is a letter, and stands as its one byte
+-- the text of a day file's fault; a message's type is a letter, written as its one byte
 abbrev pub day_fault_text : DayFault → List ℕ
 day_fault_text (day.Truncated place) = codes "place " ++ decimal place ++ codes ": message runs past the end"
 day_fault_text (day.WrongLength place kind length wanted) =

@@ -1,4 +1,4 @@
--- What is told where there is no answer, or no job: on which device, and with which status.
+-- What is reported if there is no answer, or no job: on which device, and with which status.
 -- To be believed.
 use Rattle.std.specs.Prelude.{◌≡◌, ◌≤◌, ℕ, Bool, false, true, List, Result, Ok, Err, length, string_bytes, take}
 use Rattle.arguments.specs.declared.arguments.WordsFault.{WordsFault}
@@ -14,13 +14,13 @@ status_of_outcome (Err f) = status_of f
 
 module _ {L : Type 0} (Took : L → L → List ℕ → Type 0) (HasFlushed : L → Type 0) (has_failed : L → Bool)
     (before after : L) where
-  -- the device took the whole text and passed it on, or it failed and took some first bytes of it: perhaps none,
-  -- perhaps all
+  -- the device took the whole text and passed it on, or it failed and took some of the text's first bytes: perhaps
+  -- none, perhaps all
   pub record Delivered (text : List ℕ) : Type 0 where
     pub whole : has_failed after ≡ false → Took before after text × HasFlushed after
     pub part : has_failed after ≡ true → (count : ℕ) × Took before after (take count text)
 
-  -- what the device for errors has of an outcome: the line of its fault, and nothing where there is no fault
+  -- what an outcome leaves on the device for errors: the line of its fault, and nothing if there is no fault
   abbrev pub Reported : Result (Unit {0}) RunFault → Type 0
   Reported (Ok done) = after ≡ before
   Reported (Err f) = Delivered (line_of f)
@@ -29,8 +29,8 @@ module _ {K L : Type 0}
     (OutTook : K → K → List ℕ → Type 0) (OutHasFlushed : K → Type 0) (out_failed : K → Bool)
     (Took : L → L → List ℕ → Type 0) (HasFlushed : L → Type 0) (has_failed : L → Bool)
     (out out_after : K) (errors errors_after : L) (status : ℕ) where
-  -- the output took so many first bytes of a text, perhaps none or all, and failed, and the errors have the line of
-  -- that
+  -- the output took the first `written` bytes of a text, perhaps none or all, and failed, and the errors have the
+  -- line of that
   pub record IsCutShort (text : List ℕ) : Type 0 where
     pub written : ℕ
     pub within : written ≤ length text
@@ -38,15 +38,15 @@ module _ {K L : Type 0}
     pub status_is : status ≡ status_of (fault.WriteFailed written)
     pub reported : Delivered Took HasFlushed has_failed errors errors_after (line_of (fault.WriteFailed written))
 
-  -- help or the version is delivered to the output, and the errors have nothing; where that fails, they have the
-  -- line of a failed write
+  -- help or the version is delivered to the output, and the errors get nothing; if that fails, they get the line of a
+  -- failed write
   pub record Helped (text : List ℕ) : Type 0 where
     pub whole : out_failed out_after ≡ false
         → OutTook out out_after text × OutHasFlushed out_after × (status ≡ 0) × (errors_after ≡ errors)
     pub part : out_failed out_after ≡ true → IsCutShort text
 
-  -- help and the version go to the output, and what is wrong to the errors, of which want of memory is a fault's
-  -- line; the output takes nothing else
+  -- help and the version go to the output, and what is wrong goes to the errors; out of memory is reported by its
+  -- fault's line; the output takes nothing else
   abbrev pub Explained : WordsFault → Type 0
   Explained (words.Help text) = Helped (string_bytes text)
   Explained (words.Version text) = Helped (string_bytes text)

@@ -1,9 +1,9 @@
 //! Executions, and trades with their prices.
 
-/// What an Order Executed message tells (TotalView-ITCH 5.0, section 1.4.1).
+/// What an Order Executed message says (TotalView-ITCH 5.0, section 1.4.1).
 ///
-/// It is priced by the order whose reference it has. Its fields stand from wide to narrow, so that a
-/// row has 40 bytes, with no gap between two.
+/// It is priced by the order whose reference it has. Its fields are ordered from wide to narrow, so
+/// that a row has 40 bytes, with no gap between two.
 #[derive(Clone, Copy, PartialEq, Eq, Debug)]
 pub struct Execution {
     /// Of the message, in bytes from the file's start.
@@ -19,7 +19,7 @@ pub struct Execution {
     pub locate: u16,
 }
 
-/// The type of the message that told a trade.
+/// The type of the message that gave a trade.
 #[derive(Clone, Copy, PartialEq, Eq, Debug)]
 pub enum Kind {
     /// Order Executed (TotalView-ITCH 5.0, section 1.4.1).
@@ -32,10 +32,10 @@ pub enum Kind {
     Q,
 }
 
-/// A trade with its price.
+/// A trade with its price, be it broken or of no shares, until `keep` of `probe` drops those.
 #[derive(Clone, Copy, PartialEq, Eq, Debug)]
 pub struct Sale {
-    /// Of the message that told it, in bytes from the file's start.
+    /// Of the message that gave it, in bytes from the file's start.
     pub place: u64,
     /// In nanoseconds since midnight.
     pub time: u64,

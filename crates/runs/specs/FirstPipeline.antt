@@ -1,4 +1,4 @@
--- What the first pipeline gives, what the second then gives, and what is told of a wrong length.
+-- What the first pipeline gives, what the second then gives, and what is reported of a wrong length.
 -- Derived: no promise of a run cites it.
 use Rattle.std.specs.Prelude.{◌≡◌, ℕ, ◌<◌, ◌≤◌, All, List, Option, length}
 use Rattle.std.specs.List.{concat}
@@ -27,7 +27,7 @@ pub record IsScanOf (as_of : Option ℕ) (parts : ℕ) (total : ScanTotalView) (
   pub cut : AreRuns runs
   pub is : total ≡ total_of (inputs_of as_of parts runs)
 
--- this comes of the scans of a file that is cut into these runs, in so many partitions
+-- this comes of the scans of a file that is cut into these runs, in some number of partitions
 pub record IsOutcomeOf (query : Meaning) (outcome : Outcome TotalView (List DirectoryRow) FoundWrong)
     (runs : List (List ℕ)) : Type 0 where
   pub parts : ℕ

@@ -1,5 +1,5 @@
 -- What comes of the blocks of a source: what they are linked to, and what both pipelines give.
--- Derived: what is promised of a run is `Ran`.
+-- To be believed of a crate used by itself: what is promised of a run is `Ran`.
 use Rattle.std.specs.Prelude.{◌≡◌, ℕ, List, Result, Err}
 use Rattle.std.specs.List.{concat}
 use Rattle.outcomes.specs.declared.day_fault.DayFault.{DayFault}
@@ -42,7 +42,7 @@ module _ {S : Type 0} (GaveAt : S → ℕ → List ℕ → Type 0) (EndsAt : S �
   IsLinked source request link (Halt (WrongLength wrong)) = IsLinkedWhole source request link (Halt wrong)
   IsLinked source request link (Next inputs kept) = IsLinkedWhole source request link (Next inputs kept)
 
-  -- the same of attempts, whichever source and request these are of
+  -- what attempts are linked to, whichever source and request they are of
   abbrev pub LinksAttempts : LinkView → List (AttemptView S)
       → Linked (List BucketView) (List DirectoryRow) BlocksStop → Type 0
   LinksAttempts link attempts linked =
@@ -64,7 +64,7 @@ module _ {S : Type 0} (GaveAt : S → ℕ → List ℕ → Type 0) (EndsAt : S �
   IsOutcomeOfBlocks source limit query (pair.Stopped (Refused fault)) =
       IsBlocksFault GaveAt EndsAt FailsAt source limit fault
 
--- the answer tells the place where the source is truncated
+-- the answer reports the place where the source is truncated
 abbrev pub TellsTruncated : BlocksFault → Result (List ℕ) DayFault → Type 0
 TellsTruncated (blocks.Truncated place) told = told ≡ Err (Truncated place)
 TellsTruncated _ told = ⊥

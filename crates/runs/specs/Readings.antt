@@ -7,8 +7,8 @@ use Rattle.day_file.specs.Frames.{IsTruncatedAt}
 use Rattle.streaming.specs.Streams.{GaveAll, GaveMore, GaveSome, HasTooMany}
 use Rattle.block_scan.specs.Blocks.{GaveMoreAt, GaveWhole}
 
--- What is known of the source where an outcome of a run cites it, a field for each case. The comment of a field says
--- what it is for; each kind of source, below, says what it means there, and that may be less.
+-- what is known of a source after a run: a field for each thing that an outcome of a run may say of it. The comment
+-- of a field says what it is for; each kind of source, below, says what it means there, and that may be less.
 pub record Reading : Type 1 where
   -- all that the source had to give, which isn't more than the limit, was read, and is these bytes
   pub all : List ℕ → Type 0
@@ -23,15 +23,18 @@ pub record Reading : Type 1 where
   -- nothing was read of it
   pub untouched : Type 0
 
--- these bytes are truncated, or their cut by the target has no more morsels than are allowed
+-- bytes are truncated, or their cut by the target has no more morsels than are allowed
 abbrev pub IsTruncatedOrFew : ℕ → List ℕ → Type 0
 IsTruncatedOrFew target day =
     ((place : ℕ) × IsTruncatedAt day place)
     ⊎ ((runs : List (List ℕ)) × IsCutBy target runs day × (length runs ≤ MOST_MORSELS))
 
--- Of a stream, whose bytes come in order and are cut by the target: S is its states, of which these were before and
--- after. `Gave` says which bytes it gave from one state to a later one, and `HasEnded` that it said that no byte is
--- left. `failed` says how much it gave; that a call failed is a clause of its own, `read_failed` of `run`.
+-- what is known of a source S that is read in order, and whose bytes are cut by the target, from its states before
+-- and after. `all` says of bytes that it gave them up to its end, within the limit, and that they are truncated or
+-- have few enough morsels; `some` and `failed`, that it gave at most one byte more than the limit; `longer`, that it
+-- gave that one; `too_many`, that all it gave has too many morsels; `untouched`, that its state is the same. `Gave`
+-- says which bytes it gave from one state to a later one, and `HasEnded` that it said that no byte is left. That a
+-- call failed is a clause of its own, `read_failed` of `run`.
 abbrev pub of_stream : {S : Type 0} → (S → S → List ℕ → Type 0) → (S → Type 0) → ℕ → ℕ → S → S → Reading
 of_stream Gave HasEnded limit target before after = record {
   all = λ day. GaveAll Gave HasEnded limit before after day × IsTruncatedOrFew target day;
@@ -42,10 +45,11 @@ of_stream Gave HasEnded limit target before after = record {
   untouched = after ≡ before;
 }
 
--- Of a source that is read at places: S is sources. `GaveAt` says which bytes it gave to readings from a place on,
--- `EndsAt` that a reading at a place found none there, and `FailsAt` that one failed. It has no state that a reading
--- changes, so nothing is said where it was read in part or not at all. It is cut into no morsels, so they are never
--- too many.
+-- what is known of a source S that is read at places. `all` says of bytes that readings gave them from its start up
+-- to where one found no byte, within the limit; `longer`, that one gave a byte at the limit; `failed`, that one
+-- failed at some place. No reading changes the source, so `some` and `untouched` say nothing, and it is cut into no
+-- morsels, so they are never too many. `GaveAt` says which bytes it gave to readings from a place on, `EndsAt` that a
+-- reading at a place found none there, and `FailsAt` that one failed.
 abbrev pub of_blocks : {S : Type 0} → (S → ℕ → List ℕ → Type 0) → (S → ℕ → Type 0) → (S → ℕ → Type 0) → ℕ → S → Reading
 of_blocks GaveAt EndsAt FailsAt limit source = record {
   all = GaveWhole GaveAt EndsAt limit source;

@@ -15,7 +15,7 @@ use Rattle.outcomes.specs.declared.run_fault.RunFault.TheVariants as fault
 abbrev pub IsQuery : List ℕ → Type 0
 IsQuery words = (query : Meaning) × Means (words_of words) query
 
--- the words mean a query, all that the source had to give was read, and this is the answer to it
+-- the words mean a query, all that the source had to give was read, and this is the answer to the query over it
 pub record Answers (reading : Reading) (words : List ℕ) (answer : Result (List ℕ) DayFault) : Type 0 where
   pub query : Meaning
   pub day : List ℕ
@@ -33,16 +33,17 @@ module _ {K : Type 0} (reading : Reading) (Took : K → K → List ℕ → Type 
     pub took : Took sink_before sink_after text
     pub flushed : HasFlushed sink_after
 
-  -- the answer is a text, and the sink took so many of its first bytes: perhaps none, perhaps all
+  -- the answer is a text, and the sink took its first `written` bytes: perhaps none, perhaps all
   pub record Wrote (words : List ℕ) (sink_before sink_after : K) (written : ℕ) : Type 0 where
     pub text : List ℕ
     pub answers : Answers reading words (Ok text)
     pub within : written ≤ length text
     pub took : Took sink_before sink_after (take written text)
 
-  -- What each outcome of a run with this limit says: the whole text was written; or what the refusal says holds, and
-  -- the sink was left alone, or, where the sink failed, it took so many first bytes of the text. No line says that
-  -- memory was short: the last one says what was known of the words and the source by then.
+  -- what each outcome of a run says: the whole text was written; or what the refusal says holds, and the sink was
+  -- left alone; or the sink failed, and it took the first `written` bytes of the text. `OutOfMemory` says nothing of
+  -- memory: only that the source was untouched or the words are a query, and what is known of a source that was read
+  -- in part. Over `of_blocks`, whose `untouched` and `some` say nothing, the cases `Query` and `OutOfMemory` say less.
   abbrev pub Ran : List ℕ → ℕ → K → K → Result (Unit {0}) RunFault → Type 0
   Ran words limit sink_before sink_after (Ok done) = WroteAll words sink_before sink_after
   Ran words limit sink_before sink_after (Err (fault.Query f)) =

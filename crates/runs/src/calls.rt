@@ -1,4 +1,5 @@
-//! The calls that answer a query.
+//! The calls that answer a query, each in a module below this one: a module and an item next to it can't
+//! have the same name.
 pub(crate) mod ahead;
 pub(crate) mod answer;
 pub(crate) mod block_link;

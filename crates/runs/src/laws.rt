@@ -8,7 +8,7 @@ ghost use Rattle.runs.specs.Runs.{Answers};
 use block_scan::BlockSource;
 use streaming::Source;
 
-/// A stream that can have given one list of bytes alone, from one state to another, has one answer.
+/// A stream that can have given only one list of bytes, from one state to another, has one answer.
 pub fn one_run<S: Source>()
     ensures { ((a b : S) (xs ys : List ℕ) → S.Gave a b xs → S.Gave a b ys → xs ≡ ys) →
         (limit target : ℕ) (before after : S) (words : List ℕ) (one other : Result (List ℕ) TheDayFault) →
@@ -16,7 +16,8 @@ pub fn one_run<S: Source>()
         Answers (of_stream S.Gave S.HasEnded limit target before after) words other → one ≡ other }
 {}
 
-/// So has a source that is read at places and can have given one list of bytes alone, up to its end.
+/// A source that is read at places, and can have given only one list of bytes up to its end, has
+/// one answer.
 pub fn one_run_of_blocks<S: BlockSource>()
     ensures { (limit : ℕ) (source : S) →
         ((xs ys : List ℕ) → GaveWhole S.GaveAt S.EndsAt limit source xs →

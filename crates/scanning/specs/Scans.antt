@@ -1,5 +1,5 @@
 -- What is found in a morsel, and in the morsels of one cut.
--- Derived: the answer isn't said by morsels.
+-- To be believed of a crate used by itself: the answer isn't defined by morsels.
 use Rattle.std.specs.Prelude.{◌≡◌, ℕ, ◌<◌, ◌≤◌, ◌==◌, ◌&&◌, Bool, List, [], ◌∷◌, ◌++◌, All, length, map, nat_eq, Option, Some, None, filter_map}
 use Rattle.std.specs.Prelude.{option_to_list, if◌then◌else◌}
 use Rattle.std.specs.List.{concat}
@@ -22,24 +22,24 @@ pub record ScanInputView : Type 0 where
   pub as_of : Option ℕ
   pub parts : ℕ
 
--- they have equal morsels, one moment or both none, and one number of partitions
+-- both have equal morsels, one moment or none, and one number of partitions
 abbrev pub is_same_input : ScanInputView → ScanInputView → Bool
 is_same_input a b = is_same_morsel a.morsel b.morsel && option_eq nat_eq a.as_of b.as_of && (a.parts == b.parts)
 
 -- ---- what is found in one morsel
 
--- what is told of a frame of a wrong length
+-- what is reported of a frame of a wrong length
 abbrev pub wrong_at : PlacedBody → Option WrongLength
 wrong_at frame =
     if has_wrong_length frame.body
     then Some (record { place = frame.place; fault = length_fault_of frame.body })
     else None
 
--- the one of least place of what is told of frames
+-- of what is reported of frames of a wrong length, the one of least place
 abbrev pub wrong_in : List PlacedBody → Option WrongLength
 wrong_in frames = least_by (λ wrong. wrong.place) (filter_map wrong_at frames)
 
--- rows in partitions, and the least wrong length
+-- what contracts see of a scan: rows in partitions, and the wrong length of least place
 pub record ScanView : Type 0 where
   pub rows : MorselRowsView
   pub wrong : Option WrongLength
@@ -51,7 +51,7 @@ scan_of n as_of frames = record {
   wrong = wrong_in frames;
 }
 
--- where the old scan is of some frames, the new is of those and of these behind them
+-- if the old scan is of some frames, the new one is of those and of these after them
 abbrev pub TakesIn : Option ℕ → List PlacedBody → ScanView → ScanView → Type 0
 TakesIn as_of more old new =
     (n : ℕ) (frames : List PlacedBody) → 0 < n → n ≤ MOST_PARTITIONS →
@@ -63,7 +63,7 @@ scanned input = scan_of input.parts input.as_of (frames_of input.morsel)
 
 -- ---- what is found in morsels
 
--- the rows of each morsel, and the least wrong length of all
+-- what contracts see of a total: the rows of each morsel, and the wrong length of least place
 pub record ScanTotalView : Type 0 where
   pub morsels : List MorselRowsView
   pub wrong : Option WrongLength
@@ -72,7 +72,7 @@ pub record ScanTotalView : Type 0 where
 abbrev pub no_scans : ScanTotalView
 no_scans = record { morsels = []; wrong = None }
 
--- a total, and what one morsel more gives
+-- a total with what one morsel more gives
 abbrev pub with_scan : ScanTotalView → ScanView → ScanTotalView
 with_scan total scan = record {
   morsels = total.morsels ++ scan.rows ∷ [];
@@ -91,7 +91,7 @@ abbrev pub inputs_of : Option ℕ → ℕ → List (List ℕ) → List ScanInput
 inputs_of as_of parts runs =
     map (λ morsel. record { morsel = morsel; as_of = as_of; parts = parts }) (numbered 0 0 runs)
 
--- they are the inputs of the scans of one cut
+-- these are the inputs of the scans of one cut
 pub record AreOfOneCut (inputs : List ScanInputView) : Type 0 where
   pub runs : List (List ℕ)
   pub each : All IsRun runs

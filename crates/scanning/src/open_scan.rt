@@ -1,5 +1,5 @@
 //! A scan under way.
-ghost use Rattle.std.specs.Prelude.{◌≡◌, ◌*◌, ◌<◌, ◌≤◌, ℕ, [], ◌∷◌, IfOk, OnOk, Option};
+ghost use Rattle.std.specs.Prelude.{◌≡◌, ◌*◌, ◌<◌, ◌≤◌, ℕ, [], ◌∷◌, IfOk, OnErr, OnOk, Option};
 ghost use Rattle.lists.specs.declared.limits.TheConstants.{MOST_PARTITIONS};
 ghost use Rattle.day_file.specs.Placed.{placed_body};
 ghost use Rattle.scanning.specs.Scans.{TakesIn, scan_of};
@@ -54,10 +54,11 @@ impl OpenScan {
     }
 
     /// Takes in one frame more: its message, if that counts up to this moment, in seconds since
-    /// midnight, or its wrong length.
+    /// midnight, or its wrong length. If there is no memory for its row, the scan stays as it was.
     #[inline(always)]
     pub fn take_in(&mut self, as_of: Option<u32>, frame: Frame<'_>) -> Result<(), OutOfMemory>
-        ensures { OnOk result (TakesIn as_of (placed_body frame.entry ∷ []) self.old self.new) }
+        ensures taken { OnOk result (TakesIn as_of (placed_body frame.entry ∷ []) self.old self.new) }
+        ensures unchanged { OnErr result (self.new ≡ self.old) }
     {
         match read(frame.body) {
             Ok(message) => self.rows.add_counted(as_of, frame.place, &message)?,

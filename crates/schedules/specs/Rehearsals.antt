@@ -1,5 +1,5 @@
 -- What a pair of pipelines gives by two schedules.
--- To be believed.
+-- To be believed of a crate used by itself.
 use Rattle.std.specs.Prelude.{◌≡◌, ◌⊎◌, ℕ, List, Option, Some, None, length}
 use Rattle.schedules.specs.Schedules.{first_left}
 use Rattle.schedules.specs.declared.event.Event.{Event}
@@ -8,8 +8,9 @@ use Rattle.links.specs.declared.linked.Linked.TheVariants.{Next, Halt}
 use Rattle.schedules.specs.declared.rehearsed.Rehearsed.{Rehearsed}
 use Rattle.schedules.specs.declared.rehearsed.Rehearsed.TheVariants.{Finished, Stopped, Missing}
 
--- Which answers two schedules may have. The first pipeline has so many tasks. `IsFirst` says which totals of it there
--- may be, `Links` what one may be linked to, and `IsTotalOf` what a list of inputs of the second may add up to.
+-- Which answers two schedules may have. `tasks` is the number of tasks of the first pipeline, `IsFirst` says which
+-- totals it may have, `Links` what a total may be linked to, and `IsTotalOf` what a list of inputs of the second
+-- pipeline may add up to.
 module _ {F I T K S : Type 0} (tasks : ℕ) (IsFirst : F → Type 0) (Links : F → Linked (List I) K S → Type 0)
     (IsTotalOf : List I → T → Type 0) (gatherers : ℕ) (events1 events2 : List Event) where
   -- the first task that has not arrived, of the first pipeline, or else of the second; or else what comes of both

@@ -1,5 +1,5 @@
 -- Schedules: which tasks have arrived, and what an event makes of the gatherers' covered sets.
--- To be believed.
+-- To be believed of a crate used by itself.
 use Rattle.std.specs.Prelude.{◌≡◌, ℕ, ◌==◌, ◌&&◌, nat_lt, if◌then◌else◌, Bool, false, not, List, Option, All, map}
 use Rattle.std.specs.Prelude.{length, fold, find, slice_index_or, slice_set}
 use Rattle.std.specs.List.{list_any, range_with_len}
@@ -9,7 +9,7 @@ use Rattle.gathering.specs.Views.{GatheringView}
 use Rattle.schedules.specs.declared.event.Event.{Event}
 use Rattle.schedules.specs.declared.event.Event.TheVariants.{Arrive, Lose, Merge}
 
--- the event is an arrival of the task at one of so many gatherers
+-- the event is an arrival of the task at one of the gatherers
 abbrev pub brings : ℕ → ℕ → Event → Bool
 brings gatherers task (Arrive gatherer named) = nat_lt gatherer gatherers && (named == task)
 brings gatherers task (Lose named) = false
@@ -19,7 +19,7 @@ brings gatherers task (Merge into other) = false
 abbrev pub has_arrived : ℕ → List Event → ℕ → Bool
 has_arrived gatherers events task = list_any (brings gatherers task) events
 
--- the least of so many tasks that has not arrived
+-- the least of the tasks that has not arrived
 abbrev pub first_left : ℕ → ℕ → List Event → Option ℕ
 first_left gatherers tasks events =
     find (λ task. not (has_arrived gatherers events task)) (range_with_len 0 tasks)
@@ -40,11 +40,11 @@ set_of sets gatherer = slice_index_or sets gatherer empty
 abbrev pub some_covers : Sets → ℕ → Bool
 some_covers sets task = list_any (λ s. contains s task) sets
 
--- they are two of so many gatherers
+-- these are two different gatherers of those that there are
 abbrev pub are_two : ℕ → ℕ → ℕ → Bool
 are_two gatherers a b = nat_lt a gatherers && nat_lt b gatherers && not (a == b)
 
--- what an event makes of the sets, over so many tasks
+-- what an event makes of the sets of covered tasks
 abbrev pub after : ℕ → Event → Sets → Sets
 after tasks (Arrive gatherer task) sets =
     (if nat_lt task tasks

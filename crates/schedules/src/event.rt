@@ -12,7 +12,7 @@ use std::mem;
 use std::sync::Arc;
 
 /// One event of a schedule. Gatherers and tasks are numbered from 0. An event changes nothing if it
-/// names one that there isn't.
+/// names one that doesn't exist.
 #[derive(Clone, Copy, Debug, PartialEq, Eq)]
 pub enum Event {
     /// The task is run, and its piece is filed by the gatherer.

@@ -17,7 +17,8 @@ pub fn arrived_tasks_are_covered()
         ≡ (nat_lt task tasks && has_arrived gatherers events task) }
 {}
 
-/// Where each list of inputs has one total and each total is linked to one thing, two schedules have one answer.
+/// If each list of inputs has one total and each total is linked to one thing, two schedules have
+/// one answer.
 pub fn functions_have_one_rehearsal<A: Work, B: Work, L: Link<A, B>>()
     ensures { (link : L) (inputs : List A.Input) (total_of_first : List A.Input → A.Total)
         (linked : A.Total → TheLinked (List B.Input) L.Kept L.Stop) (total_of : List B.Input → B.Total)

@@ -9,7 +9,7 @@ use gathering::{Gathering, Inputs, OutOfMemory, Work};
 use std::alloc::{Allocator, Global};
 use std::sync::Arc;
 
-/// So many gatherings, which cover no task. They and their room are taken of this memory.
+/// A number of gatherings, which cover no task. They and their room are taken of this memory.
 pub(crate) fn empty_gatherings<W: Work, M: Allocator + Clone>(
     alloc: Global,
     memory: M,

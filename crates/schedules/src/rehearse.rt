@@ -16,8 +16,8 @@ use std::sync::Arc;
 
 /// Rehearses what `run_pair` does, on this thread alone: each pipeline has 1 to 64 gatherers, does
 /// the events of its schedule in order, and then merges all gatherers into the first. A task has
-/// arrived if some `Arrive` of its pipeline names it and a gatherer that there is. It runs the
-/// tasks of the pieces that arrive, and no other.
+/// arrived if some `Arrive` of its pipeline names it and a gatherer that exists. It runs the tasks
+/// of the pieces that arrive, and no other.
 ///
 /// It is refused if memory was refused to it.
 pub fn rehearse_pair<A: Work, B: Work, L: Link<A, B>>(

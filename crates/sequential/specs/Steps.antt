@@ -14,7 +14,7 @@ use Rattle.outcomes.specs.declared.day_fault.DayFault.TheVariants.{RepeatedRefer
 use Rattle.sequential.specs.declared.refused.Refused.{Refused}
 use Rattle.sequential.specs.declared.refused.Refused.TheVariants.{Day, OutOfMemory}
 
--- P of the day's fault; nothing is said where memory was refused
+-- P of the day's fault; nothing is said if memory was refused
 abbrev pub IfDay : Refused → (DayFault → Type 0) → Type 0
 IfDay (Day fault) P = P fault
 IfDay OutOfMemory P = Unit {0}

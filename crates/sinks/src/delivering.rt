@@ -30,7 +30,7 @@ pub fn deliver<K: Sink>(sink: &mut K, text: &[u8]) -> Result<(), WriteFailed>
     }
 }
 
-/// Writes a whole text that lies in pieces, one after another, and passes it on.
+/// Writes a whole text that is in pieces, one after another, and passes it on.
 pub fn deliver_pieces<K: Sink, A: Allocator>(
     sink: &mut K,
     pieces: &[Vec<u8, A>],
@@ -52,7 +52,7 @@ pub fn deliver_pieces<K: Sink, A: Allocator>(
     Ok(())
 }
 
-/// Writes all pieces, and tells how many bytes they have.
+/// Writes all pieces, and says how many bytes they have.
 fn put_pieces<K: Sink, A: Allocator>(
     sink: &mut K,
     pieces: &[Vec<u8, A>],

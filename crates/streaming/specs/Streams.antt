@@ -9,13 +9,13 @@ use Rattle.streaming.specs.declared.reading.CutReadFault.TheVariants as fault
 
 -- S is the states of a source, and `Gave` says which bytes it gave from one state to a later one.
 module _ {S : Type 0} (Gave : S → S → List ℕ → Type 0) where
-  -- the source gave some bytes, one more than the limit at most
+  -- the source gave some bytes, at most one more than the limit
   pub record GaveSome (limit : ℕ) (before after : S) : Type 0 where
     pub bytes : List ℕ
     pub gave : Gave before after bytes
     pub within : length bytes ≤ limit + 1
 
-  -- the source gave more than the limit: one byte more, for no other is asked
+  -- the source gave more than the limit: one byte more, since no more is asked for
   pub record GaveMore (limit : ℕ) (before after : S) : Type 0 where
     pub bytes : List ℕ
     pub gave : Gave before after bytes
@@ -31,8 +31,9 @@ module _ {S : Type 0} (Gave : S → S → List ℕ → Type 0) where
 abbrev pub HasTooMany : ℕ → List ℕ → Type 0
 HasTooMany target day = (runs : List (List ℕ)) × IsCutBy target runs day × (MOST_MORSELS < length runs)
 
--- What a refusal says of what the source gave. Where a call failed, or memory was short, that is only how many bytes
--- it may have given at most. That a call failed is a clause of its own, `failed` of `read_cut`.
+-- what each refusal of a source that is cut while it is read says of what the source gave. If a call failed, or
+-- memory ran out, that is only how many bytes it may have given at most; that a call failed is a clause of its own,
+-- `failed` of `read_cut`.
 abbrev pub IsReadFault : {S : Type 0} → (S → S → List ℕ → Type 0) → (S → Type 0)
     → ℕ → ℕ → S → S → CutReadFault → Type 0
 IsReadFault Gave HasEnded limit target before after fault.ReadFailed = GaveSome Gave limit before after

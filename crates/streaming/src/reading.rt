@@ -50,12 +50,12 @@ impl From<DeviceFailed> for CutReadFault {
     }
 }
 
-/// Reads a source of at most `limit` bytes to its end, and cuts what it gives meanwhile: each morsel
-/// is the shortest run of frames that has at least `target` bytes, or the rest. It asks for at most
-/// 65,536 bytes a call and for at most `limit` + 1 in all, and stops at the first call that fails.
-/// Beside the morsels it holds no more than such a piece and a morsel that is not full yet.
+/// Reads a source of at most `limit` bytes to its end, and cuts what it gives meanwhile: each
+/// morsel is the shortest run of frames that has at least `target` bytes, or the rest. It asks for
+/// at most 65,536 bytes a call and for at most `limit` + 1 in all, and stops at the first call that
+/// fails. Besides the morsels it holds no more than such a piece and a morsel that is not full yet.
 ///
-/// The listener is told of each morsel once it is cut, and of the last one at the source's end.
+/// The listener hears of each morsel once it is cut, and of the last one at the source's end.
 pub fn read_cut<S: Source, L: Listener>(
     alloc: Global,
     source: &mut S,

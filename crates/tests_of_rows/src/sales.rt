@@ -49,6 +49,35 @@ fn executions_are_priced_after_others(rt: HostRuntime) -> Result<(), Fail> {
 }
 
 #[test]
+fn pricing_that_is_refused_leaves_what_was_priced(rt: HostRuntime) -> Result<(), Fail> {
+    let table = OrderTable::build(rt.alloc(), &order_rows())?.table;
+    let executions = executions();
+    let mut refused = false;
+    for step in 1..100 {
+        let heap = LocalHeap::new(rt.alloc(), 16 * step)?;
+        let Ok(mut priced) = price_all(&heap, &table, &executions) else {
+            continue;
+        };
+        if price_into(&mut priced, &table, &executions).is_ok() {
+            assert!(rt; priced.sales.len() == 2);
+            break;
+        }
+        assert!(rt; priced.sales.as_slice() == [sale(9, 0, Kind::E, 5)].as_slice());
+        assert!(rt; priced.unknown.map(|unknown| unknown.place) == Some(80));
+        refused = true;
+    }
+    assert!(rt; refused);
+    let heap = LocalHeap::new(rt.alloc(), 16)?;
+    let mut priced = Priced {
+        sales: Vec::new(&heap),
+        unknown: None,
+    };
+    assert!(rt; price_into(&mut priced, &table, &executions).is_err());
+    assert!(rt; priced.sales.is_empty() && priced.unknown.is_none());
+    Ok(())
+}
+
+#[test]
 fn broken_and_empty_sales_go(rt: HostRuntime) -> Result<(), Fail> {
     let trade = |trade_no, shares| sale(trade_no, shares, Kind::P, 5);
     let mut sales = [trade(9, 5), trade(10, 0), trade(11, 7)].to_vec(rt.alloc())?;

@@ -49,9 +49,9 @@ impl<A: Allocator> Listing<A> {
         Listing { sales }
     }
 
-    /// Takes in the sales of `other`. Where there is no memory to merge the two in, they are sorted
-    /// where they lie. It is refused only where there is no memory for the sales of `other`, of which
-    /// there are some, and then leaves the listing as it was.
+    /// Takes in the sales of `other`. If there is no memory to merge the two, they are sorted in
+    /// place. It is refused only if there is no memory for the sales of `other`, of which there are
+    /// some, and then leaves the listing as it was.
     pub fn unite(&mut self, other: &Listing<A>) -> Result<(), OutOfMemory>
         requires { IsDistinct nat_eq (map (λ sale. sale.place) (self.old ++ other.now)) }
         ensures permutation { OnOk result (IsPermutation (self.old ++ other.now) self.new) }
@@ -102,8 +102,8 @@ impl<A: Allocator> Listing<A> {
     }
 }
 
-/// Puts sales in the order of their places. Where there is memory for it the rising runs that they come
-/// in are merged, and else they are sorted where they lie.
+/// Puts sales in the order of their places. If there is memory for it, the rising runs that they
+/// come in are merged; if not, they are sorted in place.
 fn put_by_place<A: Allocator>(sales: &mut Vec<Sale, A>)
     requires { IsDistinct nat_eq (map (λ sale. sale.place) sales.old.items) }
     ensures permutation { IsPermutation sales.old.items sales.new.items }

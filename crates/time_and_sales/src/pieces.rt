@@ -8,8 +8,9 @@ use std::alloc::Global;
 use std::thread;
 use std::thread::Threads;
 
-/// The texts that the calls of `text` with 0, 1 and so on give, in this order: each call has a thread
-/// of its own where one can be made. It is refused if a call is, or if there is no memory for the list.
+/// The texts that the calls of `text` with 0, 1 and so on give, in this order: each call has a
+/// thread of its own if one can be made. It is refused if a call is, or if there is no memory for
+/// the list.
 pub fn texts_of<R: Threads + Sync, F: Fn(usize) -> Result<Vec<u8>, OutOfMemory> + Sync>(
     rt: &R,
     alloc: Global,
@@ -37,8 +38,8 @@ fn all_of(
     Ok(texts)
 }
 
-/// The least numbers of ranges, the first of them 0: a number that is below the one before it gives
-/// way to that one.
+/// The least numbers of ranges: 0, then the greatest of the numbers so far, for each of them in
+/// turn.
 pub fn bounds_of(alloc: Global, numbers: &[u64]) -> Result<Vec<u64>, OutOfMemory>
     ensures some { IfOk result (λ bounds. 0 < length bounds.items) }
     ensures first { IfOk result (λ bounds. slice_index bounds.items 0 ≡ 0) }

@@ -21,9 +21,9 @@ use std::thread::Threads;
 /// How many bytes most lines have at most.
 const USUAL_LINE: usize = 48;
 
-/// The lines of the sales of all listings, by place, in pieces that stand for one text when they are
-/// joined. There are so many pieces, or one: each is of the sales in a range of places, which a thread
-/// of its own puts in order and writes. It is refused if a thread was refused memory.
+/// The lines of the sales of all listings, by place, in pieces that are one text when they are put
+/// together. There are `ranges` pieces, or one: each is of the sales in a range of places, which a
+/// thread of its own puts in order and writes. It is refused if a thread was refused memory.
 pub fn lines_in_ranges<R: Threads + Sync>(
     rt: &R,
     alloc: Global,
@@ -56,7 +56,7 @@ fn longest<'a>(listings: &[&'a Listing]) -> &'a [Sale] {
     longest
 }
 
-/// The places at which so many parts of the sales, one as long as the other, begin; but not the first.
+/// The places at which `parts` parts of the sales, of one length, begin, without the first.
 fn places_of(alloc: Global, sales: &[Sale], parts: u32) -> Result<Vec<u64>, OutOfMemory> {
     let mut places = Vec::new(alloc);
     for part in 1..parts {

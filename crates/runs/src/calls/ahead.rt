@@ -68,9 +68,10 @@ pub(crate) struct ScannedCut {
     pub(crate) scans: Vec<Piece<ScanWork>>,
 }
 
-/// Reads and cuts a source, as `read_cut` does. As many threads as the crew has workers meanwhile scan
-/// each morsel as soon as it is cut; where none can be made, the caller's does so once all are. It waits
-/// for them. What isn't scanned yet when the reading fails isn't scanned any more.
+/// Reads and cuts a source, as `read_cut` does. Meanwhile as many threads as the crew has workers
+/// scan each morsel as soon as it is cut; if none can be started, the caller's thread does so once
+/// all are cut. It waits for them. What isn't scanned yet when the reading fails isn't scanned any
+/// more.
 pub(crate) fn read_scanned<R: Threads + Wait + Sync, S: Source>(
     rt: &R,
     alloc: Global,

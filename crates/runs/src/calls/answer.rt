@@ -18,10 +18,10 @@ use std::alloc::Global;
 use std::sync::{Arc, Wait};
 use std::thread::Threads;
 
-/// Answers a query over a cut day file on threads: by two pipelines, each with the crew's workers. The
-/// first has a task for each morsel; the second, which doesn't run if a wrong length was found, one for
-/// each of so many partitions, from 1 to 256. Neither the crew nor the gate, the cut or the partitions
-/// change the answer.
+/// Answers a query over a cut day file on threads: by two pipelines, each with the crew's workers.
+/// The first has a task for each morsel; the second, which doesn't run if a wrong length was found,
+/// has one for each of `parts` partitions, from 1 to 256. Neither the crew nor the gate, the cut or
+/// the partitions change the answer.
 ///
 /// It waits for its threads. It is refused if memory was refused to the caller's thread.
 pub fn answer<G: Gate, R: Threads + Wait + Sync>(

@@ -38,7 +38,7 @@ impl<'a> Model for BlockLink<'a> {
 }
 
 impl<'a> BlockLink<'a> {
-    /// The link of a query to so many buckets.
+    /// The link of a query to `parts` buckets.
     pub fn new(query: &'a Query, parts: u32) -> Self
         requires { parts ≤ MOST_PARTITIONS }
         ensures { result ≡ record { query = query.now; parts = parts } }

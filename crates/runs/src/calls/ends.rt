@@ -24,7 +24,7 @@ pub(crate) fn query_of(alloc: Global, text: &str) -> Result<Query, RunFault>
     }
 }
 
-/// Writes the text of an answer to a sink, and tells its fault.
+/// Writes the text of an answer to a sink, and reports its fault.
 pub(crate) fn hand_over<K: Sink>(answer: Answer, sink: &mut K) -> Result<(), RunFault>
     requires { K.has_failed sink.old ≡ false }
     ensures handed { IsHandedOver K.Took K.HasFlushed sink.old sink.new (told_by answer) result }

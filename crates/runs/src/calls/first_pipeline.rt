@@ -6,7 +6,7 @@ ghost use Rattle.runs.specs.FirstPipeline.{wrong_fault};
 use answers::{Answer, DayFault};
 use scanning::WrongLength;
 
-/// What is told of a wrong length that the first pipeline found.
+/// What is reported of a wrong length that the first pipeline found.
 pub fn told_of(wrong: WrongLength) -> Answer
     ensures { told_by result ≡ Err (wrong_fault wrong) }
 {

@@ -21,10 +21,10 @@ use std::thread;
 use std::thread::Threads;
 use streaming::{CutReadFault, Source};
 
-/// Reads a whole day file from a source and cuts it into morsels meanwhile, which threads scan as soon
-/// as they are cut. Threads then find the answer to the query, which is written to a sink. Nothing is
-/// written before every refusal but that of the sink is past. After a refusal the source may have been
-/// read in part. It waits for the threads.
+/// Reads a whole day file from a source and cuts it into morsels meanwhile, which threads scan as
+/// soon as they are cut. Threads then find the answer to the query, which is written to a sink.
+/// Nothing is written until only the sink can still refuse. After a refusal the source may have
+/// been read in part. It waits for the threads.
 pub fn run<R: Threads + Wait + Sync, S: Source, K: Sink>(
     rt: &R,
     alloc: Global,

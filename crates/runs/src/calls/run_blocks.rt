@@ -24,12 +24,13 @@ use std::alloc::{AllocError, Global};
 use std::sync::{Arc, Wait};
 use std::thread::Threads;
 
-/// Answers a query over a whole day file that is read at places, as `run` does over one that is read in
-/// order: its blocks are the tasks of the first pipeline, and their bytes are not kept. The answer is that
-/// of the bytes that were read, each once. `length` is how many bytes the file is expected to have. It has
-/// effect on speed alone, and the crew on speed and memory. The morsel of the settings has no part in it.
+/// Answers a query over a whole day file that is read at places, as `run` does over one that is
+/// read in order: its blocks are the tasks of the first pipeline, and their bytes are not kept. The
+/// answer is that to the bytes that were read; some are read more than once, and then those of one
+/// reading count. `length` is how many bytes the file is expected to have: it only affects speed,
+/// and the crew only speed and memory. The morsel of the settings has no part in it.
 ///
-/// Nothing is written before every refusal but that of the sink is past. It waits for the threads.
+/// Nothing is written until only the sink can still refuse. It waits for the threads.
 pub fn run_blocks<R: Threads + Wait + Sync, S: BlockSource + Send + Sync, K: Sink>(
     rt: &R,
     alloc: Global,
@@ -53,10 +54,12 @@ pub fn run_blocks<R: Threads + Wait + Sync, S: BlockSource + Send + Sync, K: Sin
     hand_over(answer, sink)
 }
 
-/// Answers a query over all that a source gives at places, by two pipelines as `answer` does: the first has
-/// a task for each block of the division. Neither the division nor the crew or the gate change the answer.
+/// Answers a query over all that a source gives at places, by two pipelines as `answer` does: the
+/// first has a task for each block of the division. Neither the division nor the crew or the gate
+/// change the answer.
 ///
-/// It waits for its threads. A reading that fails is reported, but for one of a block that was read twice.
+/// It waits for its threads. A reading that fails is reported, unless it is one of a block that was
+/// read twice.
 pub fn answer_blocks<G: Gate, R: Threads + Wait + Sync, S: BlockSource + Send + Sync>(
     rt: &R,
     alloc: Global,
@@ -137,7 +140,7 @@ fn outcome_of_blocks<G: Gate, R: Threads + Wait + Sync, S: BlockSource + Send + 
     Ok(run_pair(rt, alloc, inputs, &link, crew, gate)?)
 }
 
-/// What is told where a source gives no rows: the place where it is truncated, or a refusal.
+/// What is reported if a source gives no rows: the place where it is truncated, or a refusal.
 fn answer_of_fault(fault: BlocksFault, limit: u64) -> Result<Answer, RunFault>
     ensures answers { IfOk result (λ answer. TellsTruncated fault (told_by answer)) }
     ensures refused { IfErr result (IsRefusedFor limit fault) }

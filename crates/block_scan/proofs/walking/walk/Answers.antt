@@ -25,7 +25,7 @@ returns-then-frame-target c =
 pub loop-frame-preserved : goal.loop-frame-preserved
 loop-frame-preserved c =
     walk_goes_on c.args.as_of c.into_iter-frame-iterator.result.frames c.loop-frame.frame-iterator.frames c.loop-frame.walked c.args.scan.now c.loop-frame.scan
-    c.take_in.new.self (placed_body c.in-Some.frame) c.next.new.self.frames c.loop-frame.invariant c.in-Some.ensures.steps.0 c.in_ok-take_in.ensures
+    c.take_in.new.self (placed_body c.in-Some.frame) c.next.new.self.frames c.loop-frame.invariant c.in-Some.ensures.steps.0 c.in_ok-take_in.ensures.taken
 
 pub returns : goal.returns
 returns c =

@@ -6,4 +6,5 @@ abbrev pub invariant-loop-task : goal.invariant-loop-task
 invariant-loop-task g l = record {
   inputs : l.gathering.inputs ≡ l.initial.gathering.inputs;
   covered : (t : ℕ) → t < l.task → contains l.gathering.covered t ≡ true;
+  kept : (t : ℕ) → contains l.initial.gathering.covered t ≡ true → contains l.gathering.covered t ≡ true;
 }

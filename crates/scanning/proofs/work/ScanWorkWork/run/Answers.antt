@@ -24,7 +24,7 @@ loop-frame-preserved c =
     c.next.new.self.frames c.loop-frame.scan c.take_in.new.self (subst (λ n. 0 < n) parts.value parts.some)
     (subst (λ n. n ≤ MOST_PARTITIONS) parts.value parts.most)
     c.loop-frame.invariant c.in-Some.ensures.steps.0
-    (subst (λ as_of. TakesIn as_of (placed_body c.in-Some.frame ∷ []) c.loop-frame.scan c.take_in.new.self) c.as_of-as_of.ensures c.in_ok-take_in.ensures)
+    (subst (λ as_of. TakesIn as_of (placed_body c.in-Some.frame ∷ []) c.loop-frame.scan c.take_in.new.self) c.as_of-as_of.ensures c.in_ok-take_in.ensures.taken)
 
 pub returns : goal.returns
 returns c =

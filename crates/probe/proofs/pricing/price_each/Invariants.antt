@@ -1,0 +1,14 @@
+use Rattle.std.proofs.Common.{◌≡◌, ◌+◌, ◌≤◌, ◌++◌, List, take, vec_capacity, vec_len}
+use Rattle.order_table.specs.declared.OrderRow.{OrderRow}
+use Rattle.probe.specs.Pricing.{Execution}
+use Rattle.probe.specs.PricedBefore.{IsPricingOf}
+use Rattle.probe.proofs.pricing.price_each.Given as goal
+
+-- those before, and the executions so far, in the room that was there
+abbrev pub invariant-loop-execution : goal.invariant-loop-execution
+invariant-loop-execution g l = record {
+  priced : (rows : List OrderRow) (before : List Execution) → g.P.PricesExecutions.PricesBy rows l.prices
+      → IsPricingOf rows before l.fn.priced → IsPricingOf rows (before ++ take l.execution-index l.executions) l.priced;
+  len : vec_len l.priced.sales ≤ vec_len l.fn.priced.sales + l.execution-index;
+  capacity : vec_capacity l.priced.sales ≡ vec_capacity l.fn.priced.sales;
+}
