@@ -7,7 +7,9 @@
 //   DEVICE_ROOM     how many bytes are taken before a write fails
 //   DEVICE_ERROR    the error of what fails; else that of a device
 //   DEVICE_DOES     a command for the shell, which is run before the reading DEVICE_AT
-// A process that doesn't end is ended after 20 seconds. At a failure it writes into the file DEVICE_MARK: `failed`, or `again` where a read or a write follows a failed one.
+//   DEVICE_NAME     the path of a file, each opening of which is noted
+// A process that doesn't end is ended after 20 seconds. It notes in the file DEVICE_MARK: `failed` at a failure, `again` if a
+// read or a write follows a failed one, and `opened`.
 typedef unsigned long size;
 
 void *dlsym(void *, const char *);
@@ -16,13 +18,15 @@ int unsetenv(const char *);
 unsigned alarm(unsigned);
 int system(const char *);
 long strtol(const char *, char **, int);
-int open(const char *, int, ...);
 int close(int);
+int strcmp(const char *, const char *);
 int *__errno_location(void);
 
 typedef long input(int, void *, size);
 typedef long input_at(int, void *, size, long);
 typedef long output(int, const void *, size);
+typedef int opening(const char *, int, ...);
+typedef int opening_at(int, const char *, int, ...);
 
 enum { NONE = -1, OUTPUT = 1, DEVICE_ERROR = 5, MOST_SECONDS = 20 };
 enum { WRITE_CREATE_APPEND = 02001 | 0100 };
@@ -33,9 +37,12 @@ static long readings, failed_readings, taken, failed_writes;
 static input *next_read;
 static input_at *next_pread;
 static output *next_write;
+static opening *next_open;
+static opening_at *next_openat;
+static const char *name;
 
-static long number(const char *name, long without) {
-    const char *text = getenv(name);
+static long number(const char *of, long without) {
+    const char *text = getenv(of);
     return text ? strtol(text, 0, 10) : without;
 }
 
@@ -43,6 +50,9 @@ __attribute__((constructor)) static void begin(void) {
     next_read = dlsym((void *)-1L, "read");
     next_pread = dlsym((void *)-1L, "pread");
     next_write = dlsym((void *)-1L, "write");
+    next_open = dlsym((void *)-1L, "open");
+    next_openat = dlsym((void *)-1L, "openat");
+    name = getenv("DEVICE_NAME");
     gives = number("DEVICE_GIVES", NONE);
     fails = number("DEVICE_FAILS", NONE);
     is_once = getenv("DEVICE_ONCE") != 0;
@@ -56,9 +66,9 @@ __attribute__((constructor)) static void begin(void) {
 }
 
 static void mark(const char *what, size length) {
-    const char *name = getenv("DEVICE_MARK");
-    if (!name) return;
-    int file = open(name, WRITE_CREATE_APPEND, 0600);
+    const char *path = getenv("DEVICE_MARK");
+    if (!path) return;
+    int file = next_open(path, WRITE_CREATE_APPEND, 0600);
     if (file < 0) return;
     next_write(file, what, length);
     close(file);
@@ -98,3 +108,22 @@ long write(int file, const void *from, size bytes) {
     if (count > 0) taken += count;
     return count;
 }
+
+static void note_opening(const char *path) {
+    if (name && strcmp(path, name) == 0) mark("opened\n", 7);
+}
+
+// (on this machine no file is too long for `open`, so that the two names of each are one call)
+int open(const char *path, int flags, int mode) {
+    note_opening(path);
+    return next_open(path, flags, mode);
+}
+
+int open64(const char *path, int flags, int mode) { return open(path, flags, mode); }
+
+int openat(int folder, const char *path, int flags, int mode) {
+    note_opening(path);
+    return next_openat(folder, path, flags, mode);
+}
+
+int openat64(int folder, const char *path, int flags, int mode) { return openat(folder, path, flags, mode); }

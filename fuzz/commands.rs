@@ -223,9 +223,9 @@ fn help_and_version() -> Vec<Case> {
         (&["--help"], 1_000, 3),
         (&["-h"], 1_000, 3),
         (&["-", "sales", "--help"], 1_000, 3),
-        (&["--version"], 1, 16),
-        (&["-V"], 1, 16),
-        (&["-", "sales", "-V"], 1, 16),
+        (&["--version"], 5, 15),
+        (&["-V"], 5, 15),
+        (&["-", "sales", "-V"], 5, 15),
     ];
     let failing = |step, writes: u32| (0..=writes + 1).map(move |call| Way { out: fails(step, call), ..WELL });
     let ways = |step, writes| std::iter::once(WELL).chain(failing(step, writes)).collect();

@@ -66,7 +66,7 @@ const OPTIONS: [(&str, &str, u64); 4] =
 const MORSEL: u64 = 1_048_576;
 
 const HELP: &str = include_str!("../bin/help");
-const VERSION: &str = "itch_bars 0.1.0\n";
+const VERSION: &str = include_str!("../bin/version");
 const USAGE: &str = "Usage: itch_bars [OPTIONS] <FILE> \"<QUERY>\"\n\n";
 const SEE_HELP: &str = "For more information, try '--help'.\n";
 

@@ -16,42 +16,48 @@ use outcomes::{Crew, Settings};
 use std::alloc::{AllocError, Global};
 use std::io;
 
-/// What `--version` tells behind the program's name.
-const VERSION: &str = "0.1.0";
+/// What `--version` says after the program's name: the version, its date as in `CHANGELOG.md`, and
+/// the logic that it was proved in, which `rt version` names.
+const VERSION: &str = "0.1.0 (2026-11-26, proved in Rattle's logic dac8208d650f15bf)";
 
 /// How the program is called: the query is one word, which a shell takes in quotes.
 const USAGE: &str = "itch_bars [OPTIONS] <FILE> \"<QUERY>\"";
 
-/// What help says behind the options.
+/// What help says after the options, in lines of at most 80 columns.
 const AFTER_HELP: &str = "\
-These numbers change the time and the memory that a run takes; no answer depends on them.
-Both are least for a file that is named, without --morsel: it isn't held in memory.
+These numbers change the time and the memory that a run takes, not its answer.
+A file that is named takes least of both without --morsel: it isn't held in
+memory.
 
 Queries:
-  sales        time and sales: a line for each sale of the day, by its place in the file
-  bars 5 m     a line for each security and interval of 5 minutes; s, m or h, 1 s to 24 h
-Behind either, if wanted:
+  sales        time and sales: a line for each sale, by its place in the file
+  bars 5 m     a line for each security and interval; s, m or h, 1 s to 24 h
+After either, if wanted:
   as of 16:00:00                       only messages up to this moment count
-Behind these, `where` and some of these, joined by `and`, each at most once:
+After these, `where` and some of these, joined by `and`, each at most once:
   symbol in MSFT,AAPL                  these securities
   time from 09:30:00 until 16:00:00    from the start on, before the end
-  kind in E,C,P,Q                      executions, executions with a price, trades, crosses
-Symbols are case-sensitive; one that the file doesn't have gives no lines, and is no fault. No
-spaces stand in a list. The whole grammar is in docs/FORMATS.md of the program's repository.
+  kind in E,C,P,Q                      executions, executions with a price,
+                                       trades, crosses
+Symbols are case-sensitive; one that the file doesn't have gives no lines, and
+is no fault. No spaces stand in a list. The whole grammar is in docs/FORMATS.md
+of the program's repository.
 
 Columns:
   sales        time,symbol,kind,price,shares,number
   bars         symbol,start,first,high,low,last,volume,trades,average
-Times are of the exchange's clock, prices in dollars. An average of 410.5075+12750/25850 is
-410.5075 dollars and 12750/25850 of a ten-thousandth of a dollar.
+Times are of the exchange's clock, prices in dollars. An average of
+410.5075+12750/25850 is 410.5075 dollars and 12750/25850 of a ten-thousandth
+of a dollar.
 
 Examples:
   itch_bars day.itch sales
   itch_bars day.itch \"bars 5 m where symbol in MSFT and kind in E,P\"
-  zcat day.itch.gz | itch_bars - \"sales as of 12:00:00 where symbol in MSFT,AAPL\"
+  zcat day.itch.gz | itch_bars - \"sales as of 12:00:00 where symbol in AAPL\"
 
 Output:
-The answer goes to standard output, and a fault to standard error as one line. The status is
+The answer goes to standard output: use > to write it to a file. A fault goes
+to standard error as one line. The status is
   0  the query was answered
   1  the file has a fault, or is too long
   2  the words or the query are wrong, or --morsel is too small for the file
@@ -191,7 +197,7 @@ fn workers_option<'a>(alloc: Global) -> Arg<'a>
         .action(ArgAction::Set)
         .value_parser(value_parser!(u32).range(1..=64))
         .default_value("4")
-        .help("Threads that work, 1 to 64: more take less time, up to one for each\nprocessor")
+        .help("Threads that work, 1 to 64: more take less time, up to\none for each processor")
 }
 
 /// The least size of a morsel.
@@ -206,8 +212,8 @@ fn morsel_option<'a>(alloc: Global) -> Arg<'a>
         .value_parser(value_parser!(u64).range(1..=1_073_741_824))
         .default_value("1048576")
         .help(
-            "Least size of the pieces in which standard input is held, 1 to\n1073741824; \
-            a file is held in them only if this is given, and\nover 65536 of them are refused",
+            "Least size of the pieces in which standard input is\nheld, 1 to 1073741824; \
+            over 65536 of them are refused.\nA file is held in such pieces only if this option is\ngiven",
         )
 }
 
@@ -223,7 +229,8 @@ fn partitions_option<'a>(alloc: Global) -> Arg<'a>
         .value_parser(value_parser!(u32).range(1..=256))
         .default_value("64")
         .help(
-            "Parts of the orders, 1 to 256, each looked up by itself: more take\nless memory at once",
+            "Parts of the orders, 1 to 256, that threads look up one\nby one: with small morsels \
+            more of them take more time\nand memory",
         )
 }
 
@@ -239,7 +246,7 @@ fn gatherers_option<'a>(alloc: Global) -> Arg<'a>
         .value_parser(value_parser!(u32).range(1..=8))
         .default_value("1")
         .help(
-            "Threads that put together what the workers find, 1 to 8: more help\nwhere one can't keep up with them",
+            "Threads that put together what the workers find, 1 to\n8: more help only if one can't keep up",
         )
 }
 

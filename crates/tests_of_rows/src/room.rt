@@ -57,3 +57,18 @@ fn each_partition_takes_its_room_or_all_are_refused(rt: HostRuntime) -> Result<(
     assert!(rt; enough.is_some_and(|step| step >= 27));
     Ok(())
 }
+
+/// Each partition takes room for as many rows as are asked for, and gives back what no row took.
+#[test]
+fn room_is_taken_for_so_many_rows_and_given_back(rt: HostRuntime) -> Result<(), Fail> {
+    let heap = LocalHeap::new(rt.alloc(), 4_096)?;
+    let without = MorselRows::new(&heap, 3, 0)?;
+    let beside = heap.used();
+    drop(without);
+    let mut rows = MorselRows::new(&heap, 3, 9)?;
+    let room = heap.used() - beside;
+    assert!(rt; room >= 3 * 9 * 16 && room <= 3 * 10 * 16, "{room}");
+    rows.shrink_to_fit();
+    assert!(rt; heap.used() == beside);
+    Ok(())
+}
