@@ -6,7 +6,7 @@
 //! It writes what itch_bars writes, to the byte. The threads read the file by blocks, and keep the rows of their frames in
 //! partitions. Then they take partitions: they price the executions of each by a hash map of its orders, leave out broken
 //! trades, and put the sales into ranges of the answer. Last they take ranges: they sort the sales of each and make its
-//! lines. `read` reads the blocks and does nothing with them, which bounds the time of any program that reads the file.
+//! lines. `read` reads the blocks and does nothing with them, so it takes the least time that any answer can take.
 use std::collections::{HashMap, HashSet};
 use std::fs::File;
 use std::hash::{BuildHasherDefault, Hasher};
@@ -14,7 +14,7 @@ use std::io::{self, Write};
 use std::os::unix::fs::FileExt;
 use std::sync::atomic::{AtomicUsize, Ordering};
 use std::sync::{Condvar, Mutex};
-use std::thread;
+use std::{iter, thread};
 
 /// How many partitions there are, and how many ranges.
 const PARTS: usize = 64;
@@ -63,16 +63,12 @@ struct Order {
     price: u32,
 }
 
-struct Execution {
-    reference: u64,
-    sale: Sale,
-}
-
-/// What a thread keeps of its blocks. Orders and executions are in partitions of references, other sales of trades.
+/// What a thread keeps of its blocks: orders and executions in partitions of their order references.
 struct Rows {
     orders: Parts<Order>,
-    executions: Parts<Execution>,
-    sales: Parts<Sale>,
+    /// Each with the reference of its order, and without a price.
+    executions: Parts<(u64, Sale)>,
+    other_sales: Vec<Sale>,
     broken: Vec<u64>,
     names: Vec<(u64, u16, [u8; 8])>,
 }
@@ -90,7 +86,8 @@ fn number<const N: usize>(body: &[u8], at: usize) -> u64 {
 
 impl Rows {
     fn new() -> Rows {
-        Rows { orders: parts(), executions: parts(), sales: parts(), broken: Vec::new(), names: Vec::new() }
+        let (orders, executions) = (parts(), parts());
+        Rows { orders, executions, other_sales: Vec::new(), broken: Vec::new(), names: Vec::new() }
     }
 
     /// Takes a message, for bars of so many seconds, or for a listing if they are 0.
@@ -106,13 +103,13 @@ impl Rows {
             b'U' => self.order(place, number::<8>(body, 19), number::<4>(body, 31)),
             b'E' => {
                 let (reference, sale) = (number::<8>(body, 11), sale(0, number::<4>(body, 19), number::<8>(body, 23)));
-                self.executions[reference as usize % PARTS].push(Execution { reference, sale });
+                self.executions[reference as usize % PARTS].push((reference, sale));
             }
             b'C' if body[31] == b'Y' => {
-                self.sale(sale(number::<4>(body, 32), number::<4>(body, 19), number::<8>(body, 23)));
+                self.other_sales.push(sale(number::<4>(body, 32), number::<4>(body, 19), number::<8>(body, 23)));
             }
-            b'P' => self.sale(sale(number::<4>(body, 32), number::<4>(body, 20), number::<8>(body, 36))),
-            b'Q' => self.sale(sale(number::<4>(body, 27), number::<8>(body, 11), number::<8>(body, 31))),
+            b'P' => self.other_sales.push(sale(number::<4>(body, 32), number::<4>(body, 20), number::<8>(body, 36))),
+            b'Q' => self.other_sales.push(sale(number::<4>(body, 27), number::<8>(body, 11), number::<8>(body, 31))),
             b'B' => self.broken.push(number::<8>(body, 11)),
             b'R' => self.names.push((place, number::<2>(body, 1) as u16, body[11..19].try_into().unwrap())),
             _ => {}
@@ -121,10 +118,6 @@ impl Rows {
 
     fn order(&mut self, place: u64, reference: u64, price: u64) {
         self.orders[reference as usize % PARTS].push(Order { reference, place, price: price as u32 });
-    }
-
-    fn sale(&mut self, sale: Sale) {
-        self.sales[sale.trade as usize % PARTS].push(sale);
     }
 }
 
@@ -145,19 +138,18 @@ impl Blocks {
     }
 
     /// Reads a block, and what its last frame may have in the next one.
-    fn read(&self, block: usize, bytes: &mut [u8]) -> io::Result<()> {
+    fn read(&self, block: usize, bytes: &mut [u8]) {
         let begin = block * BLOCK;
         let count = bytes.len().min(self.length - begin);
-        self.file.read_exact_at(&mut bytes[..count], begin as u64)
+        self.file.read_exact_at(&mut bytes[..count], begin as u64).unwrap();
     }
 
-    /// Takes the messages of a block. Blocks are read at once; only their frames are found in one block after another.
+    /// Takes the messages of a block. Where its first frame begins is known once the frames before it have been found.
     fn take(&self, block: usize, bytes: &mut [u8], rows: &mut Rows, seconds: u64) {
-        let read = self.read(block, bytes);
+        self.read(block, bytes);
         let (begin, end) = (block * BLOCK, self.length.min((block + 1) * BLOCK));
         let after = |place: usize| place + 2 + number::<2>(bytes, place - begin) as usize;
         let mut next = self.found.wait_while(self.next.lock().unwrap(), |next| next.0 != block).unwrap();
-        read.unwrap(); // while it holds the lock, so that no other thread waits in vain
         let mut place = next.1;
         while next.1 < end {
             next.1 = after(next.1);
@@ -173,7 +165,7 @@ impl Blocks {
     }
 }
 
-/// What each thread has made of the tasks that it took. It takes one after another, until none is left.
+/// What each thread makes of its tasks: it takes one after another, until none is left.
 fn on_threads<T: Send>(
     threads: usize,
     tasks: usize,
@@ -183,13 +175,9 @@ fn on_threads<T: Send>(
     let next = AtomicUsize::new(0);
     let work = || {
         let mut made = begin();
-        loop {
-            let task = next.fetch_add(1, Ordering::Relaxed);
-            if task >= tasks {
-                return made;
-            }
-            run(&mut made, task);
-        }
+        let mine = iter::repeat_with(|| next.fetch_add(1, Ordering::Relaxed)).take_while(|task| *task < tasks);
+        mine.for_each(|task| run(&mut made, task));
+        made
     };
     thread::scope(|scope| {
         let others: Vec<_> = (1..threads).map(|_| scope.spawn(work)).collect();
@@ -198,70 +186,64 @@ fn on_threads<T: Send>(
     })
 }
 
-/// Hands out the sales of one partition.
+/// Hands out the executions of one partition with their prices.
 fn price(rows: &[Rows], part: usize, mut hand: impl FnMut(Sale)) {
     let mut prices = HashMap::<u64, (u64, u32), Hash>::default();
     prices.reserve(rows.iter().map(|rows| rows.orders[part].len()).sum());
     for order in rows.iter().flat_map(|rows| &rows.orders[part]) {
         assert!(prices.insert(order.reference, (order.place, order.price)).is_none());
     }
-    for execution in rows.iter().flat_map(|rows| &rows.executions[part]) {
-        let (place, price) = prices[&execution.reference];
-        assert!(place < execution.sale.place);
-        hand(Sale { price, ..execution.sale });
+    for (reference, sale) in rows.iter().flat_map(|rows| &rows.executions[part]) {
+        let (place, price) = prices[reference];
+        assert!(place < sale.place);
+        hand(Sale { price, ..*sale });
     }
-    rows.iter().flat_map(|rows| &rows.sales[part]).for_each(|sale| hand(*sale));
 }
 
 /// The least keys of all ranges but the first. A sample makes the ranges about equal.
 fn bounds(rows: &[Rows]) -> Vec<u64> {
-    let executed = rows.iter().flat_map(|rows| &rows.executions).flatten().map(|execution| execution.sale.key);
-    let other = rows.iter().flat_map(|rows| &rows.sales).flatten().map(|sale| sale.key);
-    let mut keys: Vec<u64> = executed.chain(other).step_by(101).collect();
+    let executed = rows.iter().flat_map(|rows| &rows.executions).flatten().map(|(_, sale)| sale);
+    let sales = executed.chain(rows.iter().flat_map(|rows| &rows.other_sales));
+    let mut keys: Vec<u64> = sales.step_by(101).map(|sale| sale.key).collect();
     keys.sort_unstable();
     (1..PARTS).filter_map(|range| keys.get(range * keys.len() / PARTS).copied()).collect()
 }
 
 /// The name of each locate, by the last message that gives one.
-fn names(rows: &[Rows]) -> Vec<Option<[u8; 8]>> {
+fn names(rows: &[Rows]) -> Vec<Option<&[u8]>> {
     let mut given: Vec<_> = rows.iter().flat_map(|rows| &rows.names).collect();
     given.sort_unstable();
     let mut names = vec![None; 1 << 16];
-    given.iter().for_each(|(_, locate, name)| names[usize::from(*locate)] = Some(*name));
+    given.iter().for_each(|(_, locate, name)| names[usize::from(*locate)] = Some(name.trim_ascii_end()));
     names
 }
 
-/// Lines that are being made. What each call adds ends in the byte that it is given.
+/// Lines that are being made. What a call adds ends in the byte that it is given.
 #[derive(Default)]
 struct Text(Vec<u8>);
 
 impl Text {
-    fn name(&mut self, name: Option<[u8; 8]>, end: u8) -> &mut Text {
-        self.0.extend_from_slice(name.unwrap().trim_ascii_end());
+    fn bytes(&mut self, bytes: &[u8], end: u8) -> &mut Text {
+        self.0.extend_from_slice(bytes);
         self.0.push(end);
         self
     }
 
-    /// A number of at least so many digits.
-    fn number(&mut self, mut number: u64, least: usize, end: u8) -> &mut Text {
-        let (mut shown, mut at) = ([end; 21], 20);
-        while number > 0 || at > 20 - least {
+    /// A number, with zeros before it if its digits are fewer than asked.
+    fn number(&mut self, mut number: u64, digits: usize, end: u8) -> &mut Text {
+        let (mut shown, mut at) = ([0; 20], 20);
+        while number > 0 || at > 20 - digits {
             at -= 1;
             shown[at] = b'0' + (number % 10) as u8;
             number /= 10;
         }
-        self.0.extend_from_slice(&shown[at..]);
-        self
+        self.bytes(&shown[at..], end)
     }
 
     fn sum(&mut self, sum: u128, end: u8) -> &mut Text {
         match u64::try_from(sum) {
             Ok(sum) => self.number(sum, 1, end),
-            Err(_) => {
-                self.0.extend_from_slice(sum.to_string().as_bytes());
-                self.0.push(end);
-                self
-            }
+            Err(_) => self.bytes(sum.to_string().as_bytes(), end),
         }
     }
 
@@ -273,13 +255,13 @@ impl Text {
         self.number(seconds / 3_600, 2, b':').number(seconds / 60 % 60, 2, b':').number(seconds % 60, 2, end)
     }
 
-    fn sale(&mut self, sale: &Sale, name: Option<[u8; 8]>) {
-        self.clock(sale.time / SECOND, b'.').number(sale.time % SECOND, 9, b',').name(name, b',');
-        self.0.extend_from_slice(&[sale.kind, b',']);
-        self.dollars(u64::from(sale.price), b',').number(sale.shares, 1, b',').number(sale.trade, 1, b'\n');
+    fn sale(&mut self, sale: &Sale, name: &[u8]) {
+        self.clock(sale.time / SECOND, b'.').number(sale.time % SECOND, 9, b',').bytes(name, b',');
+        self.bytes(&[sale.kind], b',').dollars(u64::from(sale.price), b',');
+        self.number(sale.shares, 1, b',').number(sale.trade, 1, b'\n');
     }
 
-    fn bar(&mut self, sales: &[Sale], name: Option<[u8; 8]>, seconds: u64) {
+    fn bar(&mut self, sales: &[Sale], name: &[u8], seconds: u64) {
         let (first, last) = (sales[0], sales[sales.len() - 1]);
         let (mut high, mut low, mut volume, mut notional) = (0, u32::MAX, 0, 0);
         for sale in sales {
@@ -288,7 +270,7 @@ impl Text {
             volume += u128::from(sale.shares);
             notional += u128::from(sale.price) * u128::from(sale.shares);
         }
-        self.name(name, b',').clock(first.time / SECOND / seconds * seconds, b',');
+        self.bytes(name, b',').clock(first.time / SECOND / seconds * seconds, b',');
         for price in [first.price, high, low, last.price] {
             self.dollars(u64::from(price), b',');
         }
@@ -298,6 +280,11 @@ impl Text {
 }
 
 fn main() {
+    // A thread that panics ends the program, because others may wait for it.
+    std::panic::set_hook(Box::new(|panic| {
+        eprintln!("{panic}");
+        std::process::exit(101);
+    }));
     let words: Vec<String> = std::env::args().skip(1).collect();
     let [path, what, seconds, threads] = &words[..] else {
         panic!("plain FILE sales|bars|read SECONDS THREADS");
@@ -306,7 +293,7 @@ fn main() {
     let blocks = Blocks::of(path);
     let (count, buffer) = (blocks.length.div_ceil(BLOCK), || vec![0; BLOCK + LONGEST_FRAME]);
     if what == "read" {
-        on_threads(threads, count, buffer, |bytes, block| blocks.read(block, bytes).unwrap());
+        on_threads(threads, count, buffer, |bytes, block| blocks.read(block, bytes));
         return;
     }
     let take = |(bytes, rows): &mut (Vec<u8>, Rows), block| blocks.take(block, bytes, rows, seconds);
@@ -314,20 +301,21 @@ fn main() {
     let rows: Vec<Rows> = taken.into_iter().map(|(_, rows)| rows).collect();
     let (bounds, names) = (bounds(&rows), names(&rows));
     let broken: HashSet<u64, Hash> = rows.iter().flat_map(|rows| &rows.broken).copied().collect();
-    let ranges = on_threads(threads, PARTS, parts, |ranges, part| {
-        price(&rows, part, |sale| {
+    let ranges = on_threads(threads, PARTS, parts, |ranges: &mut Parts<Sale>, part| {
+        let mut keep = |sale: Sale| {
             if sale.shares > 0 && !broken.contains(&sale.trade) {
                 ranges[bounds.partition_point(|bound| *bound <= sale.key)].push(sale);
             }
-        });
+        };
+        price(&rows, part, &mut keep);
+        rows.iter().skip(part).step_by(PARTS).flat_map(|rows| &rows.other_sales).for_each(|sale| keep(*sale));
     });
-    drop(rows);
     let texts = on_threads(threads, PARTS, Vec::new, |texts, range| {
         let mut sales = ranges.iter().map(|parts| &parts[range][..]).collect::<Vec<_>>().concat();
         sales.sort_unstable_by_key(|sale| (sale.key, sale.place));
         let mut text = Text::default();
         for some in sales.chunk_by(|one, next| one.key == next.key) {
-            let name = names[usize::from(some[0].locate)];
+            let name = names[usize::from(some[0].locate)].unwrap();
             match seconds {
                 0 => text.sale(&some[0], name),
                 _ => text.bar(some, name, seconds),
