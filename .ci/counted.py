@@ -78,8 +78,8 @@ class Runner:
 
     def run(self, words, given=None, meet="", reading=0, first=0, room=None):
         """The counts of a run. `given` is its standard input, a file; `meet` says which threads wait for one another, `reading`
-        which reading of the caller does with the first of them, and `first` for which one all later ones do (counts.c); `room`
-        is how many bytes of addresses it may have."""
+        which reading of the caller does with the first of them, and `first` for the end of which one its starter waits (counts.c);
+        `room` is how many bytes of addresses it may have."""
 
         def limit():
             resource.setrlimit(resource.RLIMIT_CPU, (MOST_SECONDS, MOST_SECONDS))
@@ -111,6 +111,7 @@ HEADER = ">HcHHHI"
 ADD = struct.Struct(HEADER + "QcI8sI")
 EXECUTED = struct.Struct(HEADER + "QIQ")
 TRADE = struct.Struct(HEADER + "QcI8sIQ")
+NAMED = struct.Struct(HEADER + "8s20s")
 
 
 def head(layout, kind, locate, time):
@@ -127,6 +128,11 @@ def executed(reference, number, locate, time):
 
 def trade(number, locate, time):
     return TRADE.pack(*head(TRADE, b"P", locate, time), 0, b"B", 100, b"MSFT    ", 4_105_000, number)
+
+
+def named(locate, stock):
+    """A row of the stock directory."""
+    return NAMED.pack(*head(NAMED, b"R", locate, OPEN), stock, b"")
 
 
 # Half past nine, and the nanoseconds from then on until four.
@@ -182,3 +188,10 @@ def trades(count, locates=65_536):
     """Trades, each a bar of its own."""
     for number in range(count):
         yield trade(number, number * 40_503 % locates, time_of(number, count))
+
+
+def names(count):
+    """Names of all locates, again and again, and a trade of each of some."""
+    for number in range(count):
+        yield named(number % 65_536, b"%-8d" % number)
+    yield from trades(1_000)

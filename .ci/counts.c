@@ -9,7 +9,7 @@
 //   COUNTS_MEET     groups of threads, as `p1-4a5-8`: the threads 1 to 4 wait in the first reading of each (pread), and 5 to 8
 //                   in the first large allocation of each, until all of the group are there, for two minutes at most
 //   COUNTS_READING  a reading of thread 0 (read), counted from 1, that waits with the first of those groups
-//   COUNTS_FIRST    a thread: those of a greater number wait in the first large allocation of each until it has ended
+//   COUNTS_FIRST    a thread whose starter waits until it has ended
 typedef unsigned long size;
 
 void *__libc_malloc(size);
@@ -109,12 +109,6 @@ static void meet(char at) {
     }
 }
 
-// Waits until the thread that comes first has ended.
-static void give_way(void) {
-    long step = 0;
-    while (own > first && !__atomic_load_n(&threads[first].has_ended, __ATOMIC_SEQ_CST) && is_waiting(&step)) {}
-}
-
 static void hold(void *block, long sign) {
     if (!block) return;
     long now = add(&held, sign * (long)malloc_usable_size(block));
@@ -127,7 +121,6 @@ static void *allocated(void *block, size bytes) {
     if (bytes >= LARGE && !thread->has_allocated) {
         thread->has_allocated = 1;
         meet('a');
-        if (first) give_way();
     }
     add(&allocations, 1);
     add(&bytes_in_all, bytes);
@@ -169,7 +162,10 @@ int pthread_create(unsigned long *handle, const void *attributes, void *(*start)
     thread->starter = own;
     thread->start = start;
     thread->argument = argument;
-    return next_start(handle, attributes, run, thread);
+    int refused = next_start(handle, attributes, run, thread);
+    long step = 0;
+    while (number == first && !refused && !__atomic_load_n(&thread->has_ended, __ATOMIC_SEQ_CST) && is_waiting(&step)) {}
+    return refused;
 }
 
 static long called(const char *kind, int file, long place, size asked, long count) {

@@ -171,6 +171,7 @@ fn file_argument<'a>(alloc: Global) -> Arg<'a>
 {
     Arg::new(alloc, "FILE")
         .required(true)
+        // (written, though clap would choose it: only then does its contract keep the least number of values)
         .action(ArgAction::Set)
         .help("A day file, unpacked; - is standard input")
 }
