@@ -6,7 +6,7 @@
 //! It writes what itch_bars writes, to the byte. The threads read the file by blocks, and keep the rows of their frames in
 //! partitions. Then they take partitions: they price the executions of each by a hash map of its orders, leave out broken
 //! trades, and put the sales into ranges of the answer. Last they take ranges: they sort the sales of each and make its
-//! lines. `read` reads the blocks and does nothing with them, so it takes the least time that any answer can take.
+//! lines. `read` reads the blocks and does nothing with them, which shows how much of the time is reading.
 use std::collections::{HashMap, HashSet};
 use std::fs::File;
 use std::hash::{BuildHasherDefault, Hasher};
@@ -16,7 +16,7 @@ use std::sync::atomic::{AtomicUsize, Ordering};
 use std::sync::{Condvar, Mutex};
 use std::{iter, thread};
 
-/// How many partitions there are, and how many ranges.
+/// How many partitions there are, and at most how many ranges.
 const PARTS: usize = 64;
 const BLOCK: usize = 1 << 20;
 const LONGEST_FRAME: usize = 2 + u16::MAX as usize;
@@ -46,7 +46,7 @@ type Parts<T> = [Vec<T>; PARTS];
 
 #[derive(Clone, Copy)]
 struct Sale {
-    /// What sales are sorted by, before their places: the place itself, or what the bar is of.
+    /// What sales are sorted by, before their places: of a listing the place, of bars the locate and the interval.
     key: u64,
     place: u64,
     time: u64,
@@ -121,11 +121,11 @@ impl Rows {
     }
 }
 
-/// A file that is read by blocks. A frame is of the block that it begins in.
+/// A file that threads read by blocks. A frame belongs to the block that it begins in.
 struct Blocks {
     file: File,
     length: usize,
-    /// The first block whose frames haven't been found yet, and the place of its first frame.
+    /// The first block whose frames aren't found yet, and the place of its first frame.
     next: Mutex<(usize, usize)>,
     found: Condvar,
 }
@@ -137,7 +137,7 @@ impl Blocks {
         Blocks { file, length, next: Mutex::new((0, 0)), found: Condvar::new() }
     }
 
-    /// Reads a block, and what its last frame may have in the next one.
+    /// Reads a block, and enough of the next one for its last frame.
     fn read(&self, block: usize, bytes: &mut [u8]) {
         let begin = block * BLOCK;
         let count = bytes.len().min(self.length - begin);
@@ -200,7 +200,7 @@ fn price(rows: &[Rows], part: usize, mut hand: impl FnMut(Sale)) {
     }
 }
 
-/// The least keys of all ranges but the first. A sample makes the ranges about equal.
+/// The least key of each range after the first. They come from a sample of the sales, so the ranges are about equal.
 fn bounds(rows: &[Rows]) -> Vec<u64> {
     let executed = rows.iter().flat_map(|rows| &rows.executions).flatten().map(|(_, sale)| sale);
     let sales = executed.chain(rows.iter().flat_map(|rows| &rows.other_sales));
