@@ -168,9 +168,14 @@ fn a_run_that_is_refused_ahead_is_made_by_a_worker_or_the_caller(
     rt: HostRuntime,
 ) -> Result<(), Fail> {
     let alloc = rt.alloc();
-    for (refused, runs, rounds) in [(1, 9, [0, 1, 0]), (2, 10, [0, 1, 1])] {
+    // One worker that scans ahead goes on behind the refused run, so that only its task is missing.
+    for (ahead, refused, runs, rounds) in [
+        (1, 1, 9, [0, 1, 0]),
+        (2, 1, 9, [0, 1, 0]),
+        (2, 2, 10, [0, 1, 1]),
+    ] {
         let watch = Watch::refusing_runs(alloc, 4, refused)?;
-        let pieces = pieces_of(&rt, alloc, &watch, &ALL, 2)?;
+        let pieces = pieces_of(&rt, alloc, &watch, &ALL, ahead)?;
         assert!(rt; pieces.len() == 7 && watch.runs() == 8);
         let gate = Order::new(&[]);
         let inputs = shared_inputs_of(alloc, &watch, &NUMBERS)?;

@@ -290,3 +290,47 @@ fn runs_at_once(rt: HostRuntime) -> Result<(), Fail> {
     assert!(rt; !watch.gave_up() && !second.gave_up());
     Ok(())
 }
+
+/// A pipeline of one task has a worker, too.
+#[test]
+fn one_task_is_given_to_a_worker(rt: HostRuntime) -> Result<(), Fail> {
+    let alloc = rt.alloc();
+    let watch = Watch::shared(alloc)?;
+    let gate = Ledger::new(alloc, &watch)?;
+    let linked = Arc::try_clone(&watch)?;
+    let _ = outcome(&rt, alloc, &watch, linked, &[1], true, ONE, &gate)?;
+    assert!(rt; !gate.heard_wrong() && watch.runs() == 1);
+    assert!(rt; gate.tasks(1, 0) == [1, 0, 0, 0, 0, 0, 0, 0]);
+    Ok(())
+}
+
+/// Lets additions pass as soon as the first pipeline is done.
+#[derive(Drop)]
+struct Lifting {
+    watch: Arc<Watch, Global>,
+}
+
+impl Gate for Lifting {
+    fn before(&self, _pipeline: u8, _task: u32, _round: u8) {}
+
+    fn done(&self, _pipeline: u8) {
+        self.watch.refuse_additions(false);
+    }
+}
+
+/// What can be added to the total only once the gate has heard that all tasks are covered is added.
+#[test]
+fn a_pipeline_is_done_before_its_total(rt: HostRuntime) -> Result<(), Fail> {
+    let alloc = rt.alloc();
+    let watch = Watch::shared(alloc)?;
+    watch.refuse_additions(true);
+    let gate = Lifting {
+        watch: Arc::try_clone(&watch)?,
+    };
+    let linked = Arc::try_clone(&watch)?;
+    match outcome(&rt, alloc, &watch, linked, &NUMBERS, true, ONE, &gate)? {
+        Outcome::Stopped { stop } => assert!(rt; stop == 255),
+        Outcome::Finished { total: _, kept: _ } => assert!(rt; false),
+    }
+    Ok(())
+}

@@ -51,6 +51,19 @@ fn a_table_is_refused_until_there_is_room(rt: HostRuntime) -> Result<(), Fail> {
     Ok(())
 }
 
+/// A row takes 24 bytes.
+#[test]
+fn a_table_takes_room_for_its_rows_alone(rt: HostRuntime) -> Result<(), Fail> {
+    for factor in [1, 17, 40] {
+        let rows = forty_rows(rt.alloc(), factor)?;
+        let heap = LocalHeap::new(rt.alloc(), 16_384)?;
+        let built = OrderTable::build(&heap, rows.as_slice())?;
+        assert!(rt; built.repeated.is_none());
+        assert!(rt; heap.used() <= 42 * 24, "{factor}");
+    }
+    Ok(())
+}
+
 // The room that is enough for rows that rise is enough for others, which are sorted where they are.
 #[test]
 fn rows_are_sorted_where_they_are(rt: HostRuntime) -> Result<(), Fail> {
