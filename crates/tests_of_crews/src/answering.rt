@@ -53,8 +53,8 @@ fn shared(alloc: Global, bytes: &[u8]) -> Result<Arc<Memory<'_>, Global>, OutOfM
     Ok(Arc::new(alloc, Memory { bytes })?)
 }
 
-/// What is told of a query over these frames, with so many partitions.
-pub fn told_of_day<G: Gate, R: Threads + Wait + Sync>(
+/// The answer to a query over these frames, with so many partitions.
+pub fn answer_of_day<G: Gate, R: Threads + Wait + Sync>(
     rt: &R,
     alloc: Global,
     way: Way,
@@ -63,12 +63,12 @@ pub fn told_of_day<G: Gate, R: Threads + Wait + Sync>(
     parts: u32,
     crew: Crew,
     gate: &G,
-) -> Result<Told, Fail>
+) -> Result<Answer, Fail>
     requires { (0 < parts) × (parts ≤ MOST_PARTITIONS) }
 {
     let query = parse(alloc, query)?;
     let bytes = Day::of(alloc, forms)?.bytes;
-    let found = match way {
+    Ok(match way {
         Way::Morsels => {
             let cut = cut(alloc, &file_of(bytes)?, 1)?;
             answer(rt, alloc, &cut, &query, parts, crew, gate)?
@@ -87,6 +87,22 @@ pub fn told_of_day<G: Gate, R: Threads + Wait + Sync>(
             };
             answer_blocks(rt, alloc, &source, division, &query, settings, gate)?
         }
-    };
+    })
+}
+
+/// What is told of a query over these frames, with so many partitions.
+pub fn told_of_day<G: Gate, R: Threads + Wait + Sync>(
+    rt: &R,
+    alloc: Global,
+    way: Way,
+    query: &str,
+    forms: &[Form],
+    parts: u32,
+    crew: Crew,
+    gate: &G,
+) -> Result<Told, Fail>
+    requires { (0 < parts) × (parts ≤ MOST_PARTITIONS) }
+{
+    let found = answer_of_day(rt, alloc, way, query, forms, parts, crew, gate)?;
     Ok(told_of(alloc, found)?)
 }

@@ -39,16 +39,17 @@ fn told_by_blocks<R: Threads + Wait + Sync, S: BlockSource + Send + Sync>(
     (told, written)
 }
 
-/// A file that gives two bytes a call of a day, and fails from a place on.
+/// A file that gives two bytes a call of a day, and fails from a place on up to another one.
 #[derive(Drop)]
 struct Frail<'a> {
     bytes: &'a [u8],
-    fails_at: u64,
+    fails_from: u64,
+    fails_to: u64,
 }
 
 impl<'a> ReadsAt for Frail<'a> {
     fn get(&self, place: u64, into: &mut [u8]) -> Result<usize, DeviceFailed> {
-        if place >= self.fails_at {
+        if (self.fails_from..self.fails_to).contains(&place) {
             return Err(DeviceFailed);
         }
         let most = into.len().min(2);
@@ -71,30 +72,34 @@ fn copied(bytes: &[u8], place: u64, into: &mut [u8]) -> usize
     count
 }
 
-/// The limit, from which place on the device fails, the query, and what is told of 71 bytes.
+/// The limit, between which places the device fails, the query, and what is told of 71 bytes. One that is too
+/// long is refused before anything else of it is read.
 #[test]
 fn a_device_that_fails_or_is_too_long_leaves_the_sink_alone(rt: HostRuntime) -> Result<(), Fail> {
     let bytes = Day::of(rt.alloc(), &UNNAMED)?.bytes;
     let failed = Err(RunFault::ReadFailed);
+    let too_long = Err(RunFault::TooLong { limit: 70 });
     let unknown = Err(RunFault::Query(QueryFault::UnknownWord { at: 0 }));
     let table = [
-        (71, u64::MAX, "sales", Ok(())),
-        (70, u64::MAX, "sales", Err(RunFault::TooLong { limit: 70 })),
-        (71, 72, "sales", Ok(())),
-        (71, 71, "sales", failed),
-        (71, 70, "sales", failed),
-        (71, 0, "sales", failed),
-        (71, 0, "sale", unknown),
+        (71, 0, 0, "sales", Ok(())),
+        (70, 0, 0, "sales", too_long),
+        (70, 0, 70, "sales", too_long),
+        (71, 72, u64::MAX, "sales", Ok(())),
+        (71, 71, u64::MAX, "sales", failed),
+        (71, 70, u64::MAX, "sales", failed),
+        (71, 0, u64::MAX, "sales", failed),
+        (71, 0, u64::MAX, "sale", unknown),
     ];
-    for (limit, fails_at, text, want) in table {
+    for (limit, fails_from, fails_to, text, want) in table {
         let source = FileBlocks::of(Frail {
             bytes: bytes.as_slice(),
-            fails_at,
+            fails_from,
+            fails_to,
         });
         let (told, written) = told_by_blocks(&rt, rt.alloc(), source, 71, text, limit, 3);
         assert!(rt;
             told == want && written.is_empty() == want.is_err(),
-            "{limit} {fails_at}"
+            "{limit} {fails_from} {fails_to}"
         );
     }
     Ok(())

@@ -1,13 +1,13 @@
 //! A day that is answered by few workers, while a gate holds or counts their runs.
-use crate::answering::{HEADER, TWO, WAYS, Way, text, told_of_day};
-use executor::{Crew, FreeGate, Gate};
+use crate::answering::{HEADER, TWO, WAYS, Way, answer_of_day, text, told_of_day};
+use executor::{Answer, Crew, FreeGate, Gate};
 use std::alloc::Global;
 use std::process::Abort;
 use std::sync::Wait;
 use std::test::Fail;
 use std::thread::Threads;
 use tests_gates::{Counter, Heard, Hold, Warden};
-use tests_support::BROKEN_EARLIER;
+use tests_support::{BROKEN_EARLIER, Form};
 
 /// `sales` of a day whose one sale is broken is answered, with four tasks and 64 partitions.
 pub fn is_answered<G: Gate, R: Threads + Wait + Abort + Sync>(
@@ -74,4 +74,38 @@ fn slow_task_given_again(rt: HostRuntime) -> Result<(), Fail> {
 #[test]
 fn slow_worker_left_behind(rt: HostRuntime) -> Result<(), Fail> {
     is_answered_under(&rt, rt.alloc(), &[Hold::first(1, 0, Heard::Pipeline(2))])
+}
+
+/// The text has its header, and a piece for each worker. No piece of sales has more than twice its share of the lines.
+#[test]
+fn each_worker_makes_its_share_of_the_text(rt: HostRuntime) -> Result<(), Fail> {
+    let trades = [Form::P(100, 4_107_000, 12); 64];
+    for (way, query, workers, count, most) in [
+        (Way::Morsels, "sales", 1, 2, 64),
+        (Way::Morsels, "sales", 4, 5, 32),
+        (Way::Blocks, "sales", 4, 5, 32),
+        (Way::Blocks, "bars 1 m", 4, 5, 64),
+    ] {
+        let crew = Crew {
+            workers,
+            gatherers: 1,
+        };
+        match answer_of_day(&rt, rt.alloc(), way, query, &trades, 1, crew, &FreeGate)? {
+            Answer::Printed(text) => {
+                let pieces = text.pieces();
+                assert!(rt; pieces.len() == count, "{way:?} {query}");
+                assert!(rt;
+                    pieces.iter().all(|piece| lines_of(piece) <= most),
+                    "{way:?} {query}"
+                );
+            }
+            Answer::Faulty(_) => assert!(rt; false),
+        }
+    }
+    Ok(())
+}
+
+/// How many lines a piece has.
+fn lines_of(piece: &[u8]) -> usize {
+    piece.iter().filter(|byte| **byte == b'\n').count()
 }
