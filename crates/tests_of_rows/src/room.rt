@@ -66,7 +66,7 @@ fn room_is_taken_for_so_many_rows_and_given_back(rt: HostRuntime) -> Result<(), 
     let beside = heap.used();
     drop(without);
     let mut rows = MorselRows::new(&heap, 3, 9)?;
-    let room = heap.used() - beside;
+    let room = heap.used().saturating_sub(beside);
     assert!(rt; room >= 3 * 9 * 16 && room <= 3 * 10 * 16, "{room}");
     rows.shrink_to_fit();
     assert!(rt; heap.used() == beside);
