@@ -1,7 +1,7 @@
 -- What is known of a piece of a source that was read and scanned.
 -- To be believed of a crate used by itself: a promise of the program speaks of the whole source alone.
 use Rattle.std.specs.Prelude.{◌≡◌, ℕ, ◌+◌, ◌<◌, ◌≤◌, List, ◌++◌, length, take, drop, All}
-use Rattle.std.specs.Prelude.{Option, None, Some, Result, Ok, Err}
+use Rattle.std.specs.Prelude.{Bool, true, false, Option, None, Some, Result, Ok, Err}
 use Rattle.std.specs.List.{concat}
 use Rattle.lists.specs.declared.limits.TheConstants.{LONGEST_FILE, MOST_PARTITIONS}
 use Rattle.day_file.specs.Cuts.{AreBytes, IsRun}
@@ -47,6 +47,14 @@ IsFollowedBy piece old new (Err (Truncated place)) = (piece.tail ≡ Cut) × (pl
 IsFollowedBy piece old new (Err OutOfMemory) = Unit {0}
 IsFollowedBy piece old new (Err ReadFailed) = ⊥
 IsFollowedBy piece old new (Err TooLong) = ⊥
+
+-- there is no piece, since memory was refused
+abbrev pub wants_memory : Result Piece BlocksFault → Bool
+wants_memory (Ok piece) = false
+wants_memory (Err ReadFailed) = false
+wants_memory (Err TooLong) = false
+wants_memory (Err (Truncated place)) = false
+wants_memory (Err OutOfMemory) = true
 
 -- S is a source. `GaveAt` says which bytes it gave to readings from a place on, and `EndsAt` that one found none there.
 module _ {S : Type 0} (GaveAt : S → ℕ → List ℕ → Type 0) (EndsAt : S → ℕ → Type 0) where

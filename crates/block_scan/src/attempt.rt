@@ -13,7 +13,7 @@ use std::marker::Model;
 use std::sync::Arc;
 
 /// What came of a block: the piece that was found from its start on, or why there is none. That the source
-/// gave it is kept by the type.
+/// gave it is kept by the type, and that it isn't for want of memory: such a block is run again.
 #[derive(Drop)]
 pub struct Attempt<S: BlockSource> {
     pub(crate) source: Arc<S, Global>,
@@ -24,7 +24,8 @@ pub struct Attempt<S: BlockSource> {
 impl<S: BlockSource> Model for Attempt<S> {
     ghost use Rattle.std.specs.Arc.{arc_value};
     ghost use Rattle.block_scan.specs.Attempts.{AttemptView};
-    ghost use Rattle.block_scan.specs.Pieces.{IsAskable, IsTried};
+    ghost use Rattle.block_scan.specs.Pieces.{IsAskable, IsTried, wants_memory};
+    ghost use Rattle.std.specs.Prelude.{◌≡◌, false};
 
     ghost Value = { AttemptView S };
 
@@ -35,7 +36,8 @@ impl<S: BlockSource> Model for Attempt<S> {
     } };
 
     ghost invariant = { λ attempt. IsAskable attempt.request
-        × IsTried S.GaveAt S.EndsAt S.FailsAt (arc_value attempt.source) attempt.request attempt.found };
+        × IsTried S.GaveAt S.EndsAt S.FailsAt (arc_value attempt.source) attempt.request attempt.found
+        × (wants_memory attempt.found ≡ false) };
 }
 
 /// What came of each block, in the order of the blocks.
