@@ -8,7 +8,7 @@ use lists::limits::{LONGEST_FILE, MOST_TASKS};
 /// what a block costs beside its bytes is nothing, small enough that threads end together.
 const LEAST: u64 = 1 << 20;
 
-const MOST: u64 = 32 << 20;
+const MOST: u64 = 8 << 20;
 
 /// How many blocks each worker is to have.
 const EACH: u64 = 8;

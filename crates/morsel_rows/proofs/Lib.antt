@@ -2,3 +2,4 @@ pub mod JoinedPartitions
 pub mod MessagesOfPartition
 pub mod JoinedInPartitions
 mod SearchedRows
+mod PointNearby

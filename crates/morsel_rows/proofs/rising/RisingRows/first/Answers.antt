@@ -1,7 +1,6 @@
 use Rattle.std.proofs.Common.{◌∙◌, Some, ap, eqb, ltb, map, refl, rules, subst}
 use Rattle.std.specs.List.{find}
 use Rattle.std.specs.Slice.{IsItemAt}
-use Rattle.std.proofs.lemmas.List.Sorted.{IsPartitionPoint-from_clause, IsPartitionedBy-ltb}
 use Rattle.row_types.specs.declared.order.OrderRow.{OrderRow}
 use Rattle.order_table.proofs.RowsInOrder.{found_itself, found_another, found_none, rising_does_not_fall}
 use Rattle.morsel_rows.specs.NarrowRows.{widened}
@@ -15,13 +14,10 @@ returns-in-Some c =
     let rows = c.self.inside.rows.now in
     let rising = c.self.invariant.2 in
     let q = c.args.order_no in
-    let at = c.partition_point-at.result in
+    let at = c.point-at.result in
     let wide = map (widened start) rows in
     let up = rising_does_not_fall (λ (row : OrderRow). row.order_no) wide (rising_wide start rows rising) in
-    let apart = IsPartitionedBy-ltb (λ (row : Narrow). row.order_no) rows q (rising_does_not_fall (λ (row : Narrow). row.order_no) rows rising) in
-    let point = point_wide start rows rising q at
-    (IsPartitionPoint-from_clause (λ (row : Narrow). ltb row.order_no q) rows at c.partition_point-at.ensures.partitioned apart
-    (λ a r f called. search rules)) in
+    let point = point_wide start rows rising q at c.point-at.ensures in
     let row = c.in-Some.row.now in
     let within = c.in-Some.ensures.lookup.3.0 in
     ap Some c.widen.ensures
@@ -35,13 +31,10 @@ returns-in_default c =
     let rows = c.self.inside.rows.now in
     let rising = c.self.invariant.2 in
     let q = c.args.order_no in
-    let at = c.partition_point-at.result in
+    let at = c.point-at.result in
     let wide = map (widened start) rows in
     let up = rising_does_not_fall (λ (row : OrderRow). row.order_no) wide (rising_wide start rows rising) in
-    let apart = IsPartitionedBy-ltb (λ (row : Narrow). row.order_no) rows q (rising_does_not_fall (λ (row : Narrow). row.order_no) rows rising) in
-    let point = point_wide start rows rising q at
-    (IsPartitionPoint-from_clause (λ (row : Narrow). ltb row.order_no q) rows at c.partition_point-at.ensures.partitioned apart
-    (λ a r f called. search rules)) in
+    let point = point_wide start rows rising q at c.point-at.ensures in
     let row = c.in-Some.row.now in
     let within = c.in-Some.ensures.lookup.3.0 in
     found_another wide wide refl q at up point (widened start row) (length_wide start rows rising at within)
@@ -54,12 +47,9 @@ returns-in_default-2 c =
     let rows = c.self.inside.rows.now in
     let rising = c.self.invariant.2 in
     let q = c.args.order_no in
-    let at = c.partition_point-at.result in
+    let at = c.point-at.result in
     let wide = map (widened start) rows in
     let up = rising_does_not_fall (λ (row : OrderRow). row.order_no) wide (rising_wide start rows rising) in
-    let apart = IsPartitionedBy-ltb (λ (row : Narrow). row.order_no) rows q (rising_does_not_fall (λ (row : Narrow). row.order_no) rows rising) in
-    let point = point_wide start rows rising q at
-    (IsPartitionPoint-from_clause (λ (row : Narrow). ltb row.order_no q) rows at c.partition_point-at.ensures.partitioned apart
-    (λ a r f called. search rules)) in
+    let point = point_wide start rows rising q at c.point-at.ensures in
     found_none wide wide refl q at up point (past_wide start rows rising at (subst (IsItemAt rows at) c.in_default.is c.get.ensures.lookup).3)
     ∙ ap (find (λ (other : OrderRow). eqb other.order_no q)) c.self.view_is
