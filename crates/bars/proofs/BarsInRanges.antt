@@ -1,5 +1,5 @@
 -- The bars of many tables whose locates are in a range are those of the range of their union.
-use Rattle.std.proofs.Common.{◌≡◌, ℕ, zero, suc, ◌+◌, ◌^◌, ◌<◌, ◌≤◌, Bool, true, false, ◌&&◌, cond}
+use Rattle.std.proofs.Common.{◌≡◌, ℕ, zero, suc, ◌+◌, ◌^◌, ◌<◌, ◌≤◌, Bool, true, false, ◌&&◌, cond, All}
 use Rattle.std.proofs.Common.{List, [], ◌∷◌, ◌++◌, map, length, take, get_or, filter}
 use Rattle.std.proofs.Common.{Option, Some, None, Less, Bor, refl, sym, ap, ap₂, ◌∙◌, subst, arith}
 use Rattle.std.specs.List.{sum_by}
@@ -7,17 +7,19 @@ use Rattle.std.specs.List.Sorted.{IsNonDecreasingBy}
 use Rattle.std.proofs.lemmas.Bool.{and_parts, eqb-true}
 use Rattle.std.proofs.lemmas.Bool.Decides.{nat_tests}
 use Rattle.std.proofs.lemmas.Map.Keys.{sorted_head, sorted_tail}
-use Rattle.std.proofs.lemmas.List.{map-append, append-nil}
 use Rattle.std.proofs.lemmas.List.Concat.{flat_map-append}
 use Rattle.std.proofs.lemmas.List.Kept.{IsStrictlySortedBy-filter}
 use Rattle.std.proofs.lemmas.List.Elements.{filter-append, filter_agree}
-use Rattle.std.proofs.lemmas.List.Elements.{All-get_or, All-from_recursion}
+use Rattle.std.proofs.lemmas.List.Elements.{All-append, All-filter, All-get_or, All-from_recursion, All-map}
 use Rattle.std.proofs.lemmas.List.Sorted.{IsNonDecreasingBy-from_all_adjacent}
 use Rattle.time_and_sales.specs.Parted.{is_in_first}
 use Rattle.time_and_sales.proofs.RangesJoined.{filter_both, none_pass}
-use Rattle.bars.specs.Bars.{Key, Bar, key_cmp, found, under, all_bars, joined_all, IsByKey, IsUnionOf, AllSumsFit}
+use Rattle.row_types.specs.declared.trade.Sale.{Sale}
+use Rattle.bars.specs.Bars.{Key, Bar, key_cmp, found, under, all_bars, joined_all, IsByKey, IsTraded, IsUnionOf, AllSumsFit}
+use Rattle.bars.specs.Steps.{AreJoinedAlike, bar_of_one, bars_of}
 use Rattle.bars.specs.Texts.{bar_line, lines_text}
-use Rattle.bars.proofs.JoinedTables.{has, parts_more}
+use Rattle.bars.proofs.JoinedTables.{filter-map, has, parts_more}
+use Rattle.bars.proofs.BarsOfSales.{AreOfSame, AreOfSame-more}
 
 -- ---- by key is by locate
 
@@ -111,6 +113,14 @@ module _ (test : Bar → Bool) (same : IsOfLocates test) where
       go key false e =
           found_first (filter test table) key ∙ ap first (under_outside key table e) ∙ ap (joined_all None) (sym (under_outside key bars e))
 
+  -- ranges of what is joined alike are joined alike
+  pub alike_within : (one other : List Bar) → AreJoinedAlike one other → AreJoinedAlike (filter test one) (filter test other)
+  alike_within one other alike key = go (test (at key)) refl
+    where
+      go : (t : Bool) → test (at key) ≡ t → joined_all None (under key (filter test one)) ≡ joined_all None (under key (filter test other))
+      go true e = ap (joined_all None) (under_inside key one e) ∙ alike key ∙ sym (ap (joined_all None) (under_inside key other e))
+      go false e = ap (joined_all None) (under_outside key one e ∙ sym (under_outside key other e))
+
   pub sums_of_range : (bars : List Bar) → AllSumsFit bars → AllSumsFit (filter test bars)
   sums_of_range bars fit = record {
     volume = λ key. go (λ b. b.volume) (2 ^ 128) key (omega arith) (fit.volume key) (test (at key)) refl;
@@ -125,18 +135,41 @@ module _ (test : Bar → Bool) (same : IsOfLocates test) where
 
 -- ---- the loop over the tables
 
-pub range_more : (test : Bar → Bool) (tables : List (Bor (List Bar))) (i : ℕ) (table : Bor (List Bar)) (parts new : List (Bor (List Bar)))
-    (part : Bor (List Bar)) → i < length tables → table ≡ get_or tables i table → part.now ≡ filter test table.now
-    → all_bars (map (λ (p : Bor (List Bar)). p.now) parts) ≡ filter test (all_bars (map (λ (t : Bor (List Bar)). t.now) (take i tables)))
-    → new ≡ parts ++ part ∷ []
-    → all_bars (map (λ (p : Bor (List Bar)). p.now) new) ≡ filter test (all_bars (map (λ (t : Bor (List Bar)). t.now) (take (i + 1) tables)))
-range_more test tables i table parts new part within at is so_far made =
-    let now : Bor (List Bar) → List Bar = λ p. p.now in
-    ap (λ l. all_bars (map now l)) made ∙ ap all_bars (map-append now parts (part ∷ []))
-    ∙ flat_map-append (λ (t : List Bar). t) (map now parts) (part.now ∷ [])
-    ∙ ap₂ (λ l m. l ++ m) so_far (append-nil part.now ∙ is ∙ ap (λ (t : Bor (List Bar)). filter test t.now) at)
-    ∙ sym (filter-append test (all_bars (map now (take i tables))) (get_or tables i table).now)
-    ∙ ap (filter test) (sym (parts_more tables i table within))
+in_first_alike : (bounds : List ℕ) (width : ℕ) (sale : Sale)
+    → is_in_first locate_of bounds (bar_of_one width sale) ≡ is_in_first (λ (s : Sale). s.locate) bounds sale
+in_first_alike [] width sale = refl
+in_first_alike (low ∷ []) width sale = refl
+in_first_alike (low ∷ high ∷ bounds) width sale = refl
+
+-- the bars of one sale each of a range are the range of these bars
+pub range_more : (bounds : List ℕ) (width : ℕ) (sales part : List Sale) (so_far new ones : List Bar) → so_far ≡ filter (is_in_first locate_of bounds) ones
+    → part ≡ filter (is_in_first (λ (s : Sale). s.locate) bounds) sales → new ≡ so_far ++ map (bar_of_one width) part
+    → new ≡ filter (is_in_first locate_of bounds) (ones ++ map (bar_of_one width) sales)
+range_more bounds width sales part so_far new ones is of made =
+    let test = is_in_first locate_of bounds in
+    made
+    ∙ ap₂ (λ l m. l ++ map (bar_of_one width) m) is
+    (of ∙ sym (filter_agree (λ s. test (bar_of_one width s)) (is_in_first (λ (s : Sale). s.locate) bounds) (in_first_alike bounds width) sales))
+    ∙ ap (λ l. filter test ones ++ l) (sym (filter-map (bar_of_one width) test sales))
+    ∙ sym (filter-append test ones (map (bar_of_one width) sales))
+
+-- one table more
+pub same_more : (tables : List (Bor (List Bar))) (i : ℕ) (table : Bor (List Bar)) (width : ℕ) (sales : List Sale) (ones : List Bar) → i < length tables
+    → table ≡ get_or tables i table → table.now ≡ bars_of width sales
+    → AreOfSame ones (all_bars (map (λ (t : Bor (List Bar)). t.now) (take i tables)))
+    → AreOfSame (ones ++ map (bar_of_one width) sales) (all_bars (map (λ (t : Bor (List Bar)). t.now) (take (i + 1) tables)))
+same_more tables i table width sales ones within at is h =
+    let now : Bor (List Bar) → List Bar = λ t. t.now in
+    subst (AreOfSame (ones ++ map (bar_of_one width) sales))
+    (ap (λ l. all_bars (map now (take i tables)) ++ l) (sym is ∙ ap now at) ∙ sym (parts_more tables i table within))
+    (AreOfSame-more width ones (all_bars (map now (take i tables))) sales h)
+
+pub traded_in_range : (width : ℕ) (p : Sale → Bool) (sales part : List Sale) (so_far new : List Bar) → All IsTraded so_far
+    → All (λ sale. IsTraded (bar_of_one width sale)) sales → part ≡ filter p sales → new ≡ so_far ++ map (bar_of_one width) part → All IsTraded new
+traded_in_range width p sales part so_far new so traded of made =
+    subst (All IsTraded) (sym (made ∙ ap (λ l. so_far ++ map (bar_of_one width) l) of))
+    (All-append IsTraded so_far (map (bar_of_one width) (filter p sales)) so
+    (All-map IsTraded (bar_of_one width) (filter p sales) (All-filter p (λ s. IsTraded (bar_of_one width s)) sales traded)))
 
 -- ---- the lines
 

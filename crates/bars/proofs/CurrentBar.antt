@@ -1,17 +1,19 @@
 -- The bar that the next line is of, behind those whose lines are written.
-use Rattle.std.proofs.Common.{◌≡◌, ℕ, ◌+◌, ◌<◌, true, false, eqb, List, [], ◌∷◌, ◌++◌, All, None, map, take, get_or, length, Bor, Equal, Less, refl, sym, ap, ◌∙◌, subst, arith, ⊎_elim}
+use Rattle.std.proofs.Common.{◌≡◌, ℕ, ◌+◌, ◌<◌, true, false, eqb, List, [], ◌∷◌, ◌++◌, None, map, take, get_or, length, Equal, Less, refl, sym, ap, ◌∙◌, subst, arith, ⊎_elim}
 use Rattle.std.specs.Ordering.{is_gt, is_eq}
 use Rattle.std.proofs.lemmas.Bool.{eqb-true}
 use Rattle.std.proofs.lemmas.Bool.Decides.{nat_tests}
-use Rattle.std.proofs.lemmas.List.Elements.{All-get_or, Contains-push, Contains-push_cases}
+use Rattle.std.proofs.lemmas.List.Elements.{Contains-push, Contains-push_cases}
 use Rattle.bars.specs.Bars.{Bar, key_cmp, joined_all, joined_bar, IsByKey, IsUnionOf, CanJoin, SumsFit}
-use Rattle.bars.specs.Steps.{merged_tables, IsOrderOf}
+use Rattle.row_types.specs.declared.trade.Kind.TheVariants.{E}
+use Rattle.bars.specs.Steps.{merged_tables, IsOrderOf, bar_at}
+use Rattle.bars.specs.declared.keyed.Keyed.{Keyed}
 use Rattle.bars.specs.Texts.{bar_line, lines_text}
 use Rattle.std.specs.List.Sorted.{IsSorted}
-use Rattle.std.proofs.lemmas.List.{append-nil, length-map}
+use Rattle.std.proofs.lemmas.List.{append-nil}
 use Rattle.bars.proofs.Bars.{found_itself, tables_agree}
 use Rattle.bars.proofs.BarsInRanges.{lines-append}
-use Rattle.bars.proofs.JoinedTables.{IsUnionOf-none, union_more, next_not_before, seen_at}
+use Rattle.bars.proofs.JoinedTables.{IsUnionOf-none, union_more, next_not_before}
 use Rattle.bars.proofs.MergedTables.{found_as}
 use Rattle.bars.proofs.LastBar.{merged_after, merged_onto, below_last, below_more, less_from, turned, one_rises}
 
@@ -84,21 +86,22 @@ pub sorted_union : (bars sorted table : List Bar) → IsOrderOf bars sorted → 
 sorted_union bars sorted table h union = record { rise = union.rise; each = λ key. union.each key ∙ sym (ap (joined_all None) (h.each key)) }
 
 -- no bars have no union but that of none
-pub union_of_none : (sorted : List (Bor Bar)) (table : List Bar) → length sorted ≡ 0 → IsUnionOf (map (λ (b : Bor Bar). b.now) sorted) table → table ≡ []
+pub union_of_none : (sorted : List Keyed) (table : List Bar) → length sorted ≡ 0 → IsUnionOf (map bar_at sorted) table → table ≡ []
 union_of_none [] table e union = one_union [] table [] union (IsUnionOf-none [] refl)
 union_of_none (bar ∷ sorted) table e union = absurd (omega arith)
 
--- a bar of sorted bars is as all of them are
-pub at_has : (P : Bar → Type 0) (sorted : List (Bor Bar)) (i : ℕ) (d : Bor Bar) → i < length sorted → All P (map (λ (b : Bor Bar). b.now) sorted)
-    → P (get_or sorted i d).now
-at_has P sorted i d within all =
-    let n = length-map sorted (λ (b : Bor Bar). b.now) in
-    subst P (seen_at sorted i d d.now within) (All-get_or P (map (λ (b : Bor Bar). b.now) sorted) i d.now (omega (arith, n)) all)
-
 -- what `is_empty` tells
-pub not_none : (sorted : List (Bor Bar)) → eqb (length sorted) 0 ≡ false → 0 < length sorted
+pub not_none : (sorted : List Keyed) → eqb (length sorted) 0 ≡ false → 0 < length sorted
 not_none [] e = absurd (cc)
 not_none (bar ∷ sorted) e = omega arith
 
-pub none : (sorted : List (Bor Bar)) → eqb (length sorted) 0 ≡ true → length sorted ≡ 0
+pub none : (sorted : List Keyed) → eqb (length sorted) 0 ≡ true → length sorted ≡ 0
 none sorted e = eqb-true (length sorted) 0 e
+
+-- a sale beside its key where there is none
+abbrev pub no_keyed : Keyed
+no_keyed = record {
+  start = 0;
+  sale = record { ref_ptr = (0, 0); now = record { place = 0; time = 0; locate = 0; kind = E; price = 0; shares = 0; trade_no = 0 } };
+  locate = 0;
+}

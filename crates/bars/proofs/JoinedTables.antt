@@ -29,7 +29,7 @@ has bar key = eqb bar.locate key.locate && eqb bar.start key.start
 
 -- ---- bars of one key made one
 
-joined_all-append : (before : Option Bar) (xs ys : List Bar) → joined_all before (xs ++ ys) ≡ joined_all (joined_all before xs) ys
+pub joined_all-append : (before : Option Bar) (xs ys : List Bar) → joined_all before (xs ++ ys) ≡ joined_all (joined_all before xs) ys
 joined_all-append before [] ys = refl
 joined_all-append before (x ∷ xs) ys = joined_all-append (joined before (Some x)) xs ys
 
@@ -117,7 +117,7 @@ next_is_up_to sorted table i d bar rise within is to =
 
 -- ---- sorted bars of one key stand as before
 
-filter-map : {X Y : Type 0} (f : X → Y) (p : Y → Bool) (xs : List X) → filter p (map f xs) ≡ map f (filter (λ x. p (f x)) xs)
+pub filter-map : {X Y : Type 0} (f : X → Y) (p : Y → Bool) (xs : List X) → filter p (map f xs) ≡ map f (filter (λ x. p (f x)) xs)
 filter-map f p [] = refl
 filter-map f p (x ∷ xs) =
     elim (p (f x)) as (λ t. cond t (f x ∷ filter p (map f xs)) (filter p (map f xs)) ≡ map f (cond t (x ∷ filter (λ z. p (f z)) xs) (filter (λ z. p (f z)) xs)))
@@ -147,19 +147,36 @@ ties_have a b key h =
     let s = eqb-true a.start key.start p.1 in
     grind (arith, nat_tests)
 
-pub stable_under : (xs ys : List (Bor Bar)) → IsPermutation xs ys → IsStableByKey (λ (b : Bor Bar). (b.now.locate, b.now.start)) by_parts xs ys → (key : Key)
-    → under key (map (λ (b : Bor Bar). b.now) ys) ≡ under key (map (λ (b : Bor Bar). b.now) xs)
-stable_under xs ys perm stable key =
-    let now : Bor Bar → Bar = λ b. b.now in
-    let test : Bor Bar → Bool = λ b. has b.now key in
-    let same : filter test ys ≡ filter test xs = ⊎_elim
-    (λ none. no_items (filter test ys) (length_permutation _ _ (IsPermutation-filter test xs ys perm) ∙ ap length none) ∙ sym none)
-    (λ some.
-    let agree : (b : Bor Bar) → test b ≡ ties (λ x y. is_lt (by_parts (x.now.locate, x.now.start) (y.now.locate, y.now.start))) some.0 b =
-    λ b. sym (ties_have some.0.now b.now key some.1) in
-    filter_agree test _ agree ys ∙ stable some.0 ∙ sym (filter_agree test _ agree xs))
-    (some_passes test xs) in
-    filter-map now (λ b. has b key) ys ∙ ap (map now) same ∙ sym (filter-map now (λ b. has b key) xs)
+module _ {X : Type 0} (now : X → Bar) where
+  stable_under : (xs ys : List X) → IsPermutation xs ys → IsStableByKey (λ x. ((now x).locate, (now x).start)) by_parts xs ys → (key : Key)
+      → under key (map now ys) ≡ under key (map now xs)
+  stable_under xs ys perm stable key =
+      let test : X → Bool = λ x. has (now x) key in
+      let same : filter test ys ≡ filter test xs = ⊎_elim
+      (λ none. no_items (filter test ys) (length_permutation _ _ (IsPermutation-filter test xs ys perm) ∙ ap length none) ∙ sym none)
+      (λ some.
+      let agree : (x : X) → test x ≡ ties (λ x y. is_lt (by_parts ((now x).locate, (now x).start) ((now y).locate, (now y).start))) some.0 x =
+      λ x. sym (ties_have (now some.0) (now x) key some.1) in
+      filter_agree test _ agree ys ∙ stable some.0 ∙ sym (filter_agree test _ agree xs))
+      (some_passes test xs) in
+      filter-map now (λ b. has b key) ys ∙ ap (map now) same ∙ sym (filter-map now (λ b. has b key) xs)
+
+  -- what a stable sort by locate and start leaves
+  pub ordered : {F : Type 0} {g : Mut F (Bor X × Unit {0}) (ℕ × ℕ)} {f : F} (e : X) (xs sorted : List X) → IsPermutation xs sorted
+      → ((key : X → ℕ × ℕ) → ComputesKey g key f → IsSortedByKey key by_parts sorted)
+      → ((key : X → ℕ × ℕ) → ComputesKey g key f → IsStableByKey key by_parts xs sorted)
+      → ((f : F) (a : Bor X × Unit {0}) (r : ℕ × ℕ) (f' : F) → Called g f a r f' → r ≡ ((now a.0.now).locate, (now a.0.now).start))
+      → IsOrderOf (map now xs) (map now sorted)
+  ordered {g = g} {f = f} e xs sorted perm up stable h =
+      let computes = answers_always g (λ a r. r ≡ ((now a.0.now).locate, (now a.0.now).start)) f h in
+      let rise = up (λ x. ((now x).locate, (now x).start)) computes in
+      let n = length-map sorted now in
+      record {
+        rise = λ k d low within.
+            rw (get_or-map now sorted k e d (omega (arith, n)), get_or-map now sorted (k + 1) e d (omega (arith, n))) (rise k e low (omega (arith, n)));
+        each = stable_under xs sorted perm (stable (λ x. ((now x).locate, (now x).start)) computes);
+        permutation = IsPermutation-map now xs sorted perm;
+      }
 
 -- ---- the sales
 
@@ -168,7 +185,7 @@ none_under bar [] key p t = refl
 none_under bar (b ∷ table) key p t = rw (higher_misses bar b key p.0 t) (none_under bar table key p.1 t)
 
 -- a table has one bar of a key, or none
-under_table : (table : List Bar) (key : Key) → IsByKey table → (before : Option Bar) → joined_all before (under key table) ≡ joined before (found table key)
+pub under_table : (table : List Bar) (key : Key) → IsByKey table → (before : Option Bar) → joined_all before (under key table) ≡ joined before (found table key)
 under_table [] key up before = sym (joined_none before)
 under_table (bar ∷ table) key up before = go (has bar key) refl (under_table table key (sorted_tail key_cmp bar table up) before)
   where
@@ -232,23 +249,9 @@ seen bars = map (λ (b : Bor Bar). b.now) bars
 pub seen_at : (bars : List (Bor Bar)) (i : ℕ) (d : Bor Bar) (e : Bar) → i < length bars → get_or (seen bars) i e ≡ (get_or bars i d).now
 seen_at bars i d e h = get_or-map (λ (b : Bor Bar). b.now) bars i d e h
 
--- what a stable sort by locate and start leaves
-pub ordered : {F : Type 0} {g : Mut F (Bor (Bor Bar) × Unit {0}) (ℕ × ℕ)} {f : F} (bars sorted : List (Bor Bar)) → IsPermutation bars sorted
-    → ((key : Bor Bar → ℕ × ℕ) → ComputesKey g key f → IsSortedByKey key by_parts sorted)
-    → ((key : Bor Bar → ℕ × ℕ) → ComputesKey g key f → IsStableByKey key by_parts bars sorted)
-    → ((f : F) (a : Bor (Bor Bar) × Unit {0}) (r : ℕ × ℕ) (f' : F) → Called g f a r f' → r ≡ (a.0.now.now.locate, a.0.now.now.start))
-    → IsOrderOf (seen bars) (seen sorted)
-ordered {g = g} {f = f} bars sorted perm up stable h =
-    let computes = answers_always g (λ a r. r ≡ (a.0.now.now.locate, a.0.now.now.start)) f h in
-    let rise = up (λ b. (b.now.locate, b.now.start)) computes in
-    let n = length-map sorted (λ (b : Bor Bar). b.now) in
-    record {
-      rise = λ k d low within.
-          let e : Bor Bar = record { ref_ptr = (0, 0); now = d } in
-          rw (seen_at sorted k e d (omega (arith, n)), seen_at sorted (k + 1) e d (omega (arith, n))) (rise k e low (omega (arith, n)));
-      each = stable_under bars sorted perm (stable (λ b. (b.now.locate, b.now.start)) computes);
-      permutation = IsPermutation-map (λ (b : Bor Bar). b.now) bars sorted perm;
-    }
+-- a bar where there is none
+abbrev pub no_bar : Bar
+no_bar = record { locate = 0; start = 0; first_place = 0; first = 0; high = 0; low = 0; last_place = 0; last = 0; volume = 0; notional = 0; trades = 0 }
 
 -- the same by an equation of what was gathered
 pub ordered_of : (all bars sorted : List Bar) → bars ≡ all → IsOrderOf bars sorted → IsOrderOf all sorted

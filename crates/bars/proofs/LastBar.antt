@@ -25,7 +25,7 @@ use Rattle.bars.proofs.MergedTables.{merged_is}
 
 -- ---- the table of one more sale
 
-AreBarsOf-one : (width : ℕ) (sale : Sale) → AreBarsOf width (sale ∷ []) (bar_of_one width sale ∷ [])
+pub AreBarsOf-one : (width : ℕ) (sale : Sale) → AreBarsOf width (sale ∷ []) (bar_of_one width sale ∷ [])
 unfolding IsStrictlySortedBy
 AreBarsOf-one width sale = record { rise = (tt, tt); each = λ key. go key (has_key width key sale) refl }
   where

@@ -5,3 +5,4 @@ pub mod MergedTables
 pub mod JoinedTables
 pub mod LastBar
 pub mod SumsAreBounded
+pub mod BarsOfSales

@@ -1,13 +1,16 @@
 -- What the steps of making tables compute: the bar of one sale, two tables in one, bars in order.
 -- To be believed of a crate used by itself: the table of a bucket is defined by them.
-use Rattle.std.specs.Prelude.{◌≡◌, ℕ, ◌*◌, false, All, List, [], ◌∷◌}
+use Rattle.std.specs.Prelude.{◌≡◌, ℕ, ◌*◌, ◌<◌, ◌≤◌, false, All, List, [], ◌∷◌, None, length, map, nat_eq}
+use Rattle.std.specs.List.{IsDistinct}
 use Rattle.std.specs.declared.cmp.Ordering.{Ordering}
 use Rattle.std.specs.declared.cmp.Ordering.TheVariants.{Less, Equal, Greater}
 use Rattle.std.specs.Ordering.{is_gt}
-use Rattle.std.specs.List.Sorted.{IsPermutation, IsSorted}
+use Rattle.std.specs.List.Sorted.{IsNonDecreasingBy, IsPermutation, IsSorted}
+use Rattle.lists.specs.declared.limits.TheConstants.{SECONDS_OF_DAY, TRADE_LIMIT}
 use Rattle.row_types.specs.declared.trade.Sale.{Sale}
 use Rattle.bars.specs.declared.bar.Bar.{Bar}
-use Rattle.bars.specs.Bars.{Key, start_of, key_cmp, joined_bar, under}
+use Rattle.bars.specs.declared.keyed.Keyed.{Keyed}
+use Rattle.bars.specs.Bars.{IsTraded, Key, start_of, key_cmp, joined_all, joined_bar, under}
 
 -- the bar of one sale
 abbrev pub bar_of_one : ℕ → Sale → Bar
@@ -48,8 +51,46 @@ abbrev pub merged_tables : List Bar → List Bar → List Bar
 merged_tables [] other = other
 merged_tables (one ∷ others) other = put_before one (merged_tables others) other
 
+-- the table of the bars of some sales
+abbrev pub bars_of : ℕ → List Sale → List Bar
+bars_of width [] = []
+bars_of width (sale ∷ sales) = merged_tables (bar_of_one width sale ∷ []) (bars_of width sales)
+
 -- bars in the order of their keys, those of one key in the order that they had
 pub record IsOrderOf (bars sorted : List Bar) : Type 0 where
   pub rise : IsSorted key_cmp sorted
   pub each : (key : Key) → under key sorted ≡ under key bars
   pub permutation : IsPermutation bars sorted
+
+-- ---- bars that are made when their lines are written
+
+-- sales that their bars can be made of: their places differ, they are fewer than a file has room for and each of some
+-- shares, their locates rise, and the width is one of a day's
+pub record AreUnmade (width : ℕ) (sales : List Sale) : Type 0 where
+  pub places : IsDistinct nat_eq (map (λ sale. sale.place) sales)
+  pub count : length sales < TRADE_LIMIT
+  pub shares : All (λ sale. 0 < sale.shares) sales
+  pub within_day : (1 ≤ width) × (width ≤ SECONDS_OF_DAY)
+  pub locates : IsNonDecreasingBy (λ sale. sale.locate) sales
+  pub traded : All (λ sale. IsTraded (bar_of_one width sale)) sales
+
+-- the bar of one sale that stands beside its key
+abbrev pub bar_at : Keyed → Bar
+bar_at keyed =
+    record {
+      locate = keyed.locate;
+      start = keyed.start;
+      first_place = keyed.sale.now.place;
+      first = keyed.sale.now.price;
+      high = keyed.sale.now.price;
+      low = keyed.sale.now.price;
+      last_place = keyed.sale.now.place;
+      last = keyed.sale.now.price;
+      volume = keyed.sale.now.shares;
+      notional = keyed.sale.now.shares * keyed.sale.now.price;
+      trades = 1;
+    }
+
+-- of each key the bars of two lists, joined, are one bar
+abbrev pub AreJoinedAlike : List Bar → List Bar → Type 0
+AreJoinedAlike one other = (key : Key) → joined_all None (under key one) ≡ joined_all None (under key other)

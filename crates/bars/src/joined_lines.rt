@@ -1,14 +1,15 @@
-//! The lines of sorted bars, those of one key made one while the lines are written.
+//! The lines of the bars of sorted sales, which are made while the lines are written.
 ghost use Rattle.std.specs.Prelude.{◌≡◌, ◌<◌, All, IfOk, List, map};
 ghost use Rattle.std.specs.List.Sorted.{IsSorted};
 ghost use Rattle.lists.specs.declared.limits.TheConstants.{TIME_LIMIT};
 ghost use Rattle.time_and_sales.specs.Names.{last_row, name_text};
 ghost use Rattle.bars.specs.Bars.{AllSumsFit, IsTraded, IsUnionOf, key_cmp};
+ghost use Rattle.bars.specs.Steps.{bar_at};
 ghost use Rattle.bars.specs.Texts.{lines_text};
 ghost use Rattle.bars.specs.declared.bar.Bar.{Bar as TheBar};
 
 use crate::OutOfMemory;
-use crate::bar::Bar;
+use crate::keyed::{Keyed, count_keys};
 use crate::texts::write_bar;
 use std::alloc::Global;
 use time_and_sales::{Name, Names};
@@ -16,34 +17,34 @@ use time_and_sales::{Name, Names};
 /// How many bytes most lines have at most.
 const USUAL_LINE: usize = 72;
 
-/// The lines of sorted bars, those of one key made one, each under the name of its locate. No bar is
-/// kept but the one that the next line is of.
+/// The lines of the bars of sales in order of their keys, each under the name of its locate. No bar
+/// is made but the one that the next line is of.
 pub(crate) fn joined_lines(
     alloc: Global,
-    sorted: &[&Bar],
+    sorted: &[Keyed],
     names: &Names,
 ) -> Result<Vec<u8>, OutOfMemory>
-    requires rise { IsSorted key_cmp (map (λ bar. bar.now) sorted.now) }
-    requires traded { All IsTraded (map (λ bar. bar.now) sorted.now) }
-    requires sums { AllSumsFit (map (λ bar. bar.now) sorted.now) }
-    requires starts { All (λ bar. bar.start < TIME_LIMIT) (map (λ bar. bar.now) sorted.now) }
-    ensures { IfOk result (λ text. (all : List TheBar) → IsUnionOf (map (λ bar. bar.now) sorted.now) all →
+    requires rise { IsSorted key_cmp (map bar_at sorted.now) }
+    requires traded { All IsTraded (map bar_at sorted.now) }
+    requires sums { AllSumsFit (map bar_at sorted.now) }
+    requires starts { All (λ bar. bar.start < TIME_LIMIT) (map bar_at sorted.now) }
+    ensures { IfOk result (λ text. (all : List TheBar) → IsUnionOf (map bar_at sorted.now) all →
         text.items ≡ lines_text (λ locate. name_text locate (last_row names.now locate)) all) }
 {
     if sorted.is_empty() {
         return Ok(Vec::new(alloc));
     }
-    let mut text = Vec::with_capacity(alloc, sorted.len().saturating_mul(USUAL_LINE))?;
-    let mut current = *sorted[0];
+    let mut text = Vec::with_capacity(alloc, count_keys(sorted).saturating_mul(USUAL_LINE))?;
+    let mut current = sorted[0].bar();
     let mut name = names.name(current.locate);
     for i in 1..sorted.len() {
-        let bar = sorted[i];
-        if current.has_key_of(bar) {
-            current = current.join(bar);
+        let bar = sorted[i].bar();
+        if current.has_key_of(&bar) {
+            current = current.join(&bar);
         } else {
             write_bar(&mut text, &current, &name)?;
             name = next_name(names, name, current.locate, bar.locate);
-            current = *bar;
+            current = bar;
         }
     }
     write_bar(&mut text, &current, &name)?;

@@ -6,9 +6,11 @@
 
 mod bar;
 mod joined_lines;
+mod keyed;
 mod ranges;
 mod table;
 mod texts;
+mod unmade;
 
 pub use bar::Bar;
 pub use lists::OutOfMemory;
@@ -17,3 +19,4 @@ pub use row_types::Sale;
 pub use table::BarTable;
 pub use texts::{write_bar, write_header};
 pub use time_and_sales::Name;
+pub use unmade::UnmadeBars;

@@ -1,19 +1,20 @@
 //! The lines of many tables, of ranges of locates by threads.
 ghost use Rattle.std.specs.Prelude.{◌≡◌, ◌<◌, All, IfOk, List, drop, filter, length, map, nat_lt, not, slice_index};
 ghost use Rattle.std.specs.List.{flat_map};
-ghost use Rattle.std.specs.List.Sorted.{IsNonDecreasing};
+ghost use Rattle.std.specs.List.Sorted.{IsNonDecreasing, IsNonDecreasingBy, IsSorted};
 ghost use Rattle.lists.specs.declared.limits.TheConstants.{TIME_LIMIT};
 ghost use Rattle.time_and_sales.specs.Names.{last_row, name_text};
 ghost use Rattle.time_and_sales.specs.Parted.{is_in_first};
-ghost use Rattle.bars.specs.Bars.{AllSumsFit, IsByKey, IsTraded, IsUnionOf, all_bars};
-ghost use Rattle.bars.specs.Steps.{IsOrderOf};
+ghost use Rattle.bars.specs.Bars.{AllSumsFit, IsTraded, IsUnionOf, all_bars, key_cmp};
+ghost use Rattle.bars.specs.Steps.{AreJoinedAlike, bar_at};
 ghost use Rattle.bars.specs.Texts.{lines_text};
 ghost use Rattle.bars.specs.declared.bar.Bar.{Bar as TheBar};
 
 use crate::OutOfMemory;
-use crate::bar::Bar;
 use crate::joined_lines::joined_lines;
-use crate::table::{BarTable, in_order};
+use crate::keyed::{Keyed, append};
+use crate::unmade::UnmadeBars;
+use row_types::Sale;
 use std::alloc::Global;
 use std::thread::Threads;
 use time_and_sales::{Names, bounds_of, texts_of};
@@ -25,7 +26,7 @@ use time_and_sales::{Names, bounds_of, texts_of};
 pub fn lines_in_ranges<R: Threads + Sync>(
     rt: &R,
     alloc: Global,
-    tables: &[&BarTable],
+    tables: &[&UnmadeBars],
     names: &Names,
     ranges: u32,
 ) -> Result<Vec<Vec<u8>>, OutOfMemory>
@@ -41,24 +42,25 @@ pub fn lines_in_ranges<R: Threads + Sync>(
     lines_from(rt, alloc, tables, names, bounds.as_slice())
 }
 
-/// The bars of the longest table.
-fn longest<'a>(tables: &[&'a BarTable]) -> &'a [Bar] {
-    let mut longest: &[Bar] = &[];
+/// The sales of the longest table.
+fn longest<'a>(tables: &[&'a UnmadeBars]) -> &'a [Sale] {
+    let mut longest: &[Sale] = &[];
     for table in tables {
-        if longest.len() < table.items().len() {
-            longest = table.items();
+        let (sales, _) = table.parts();
+        if longest.len() < sales.len() {
+            longest = sales;
         }
     }
     longest
 }
 
-/// The locates with which `parts` parts of the bars, of one length, begin, without the first.
-fn locates_of(alloc: Global, bars: &[Bar], parts: u32) -> Result<Vec<u64>, OutOfMemory> {
+/// The locates with which `parts` parts of the sales, of one length, begin, without the first.
+fn locates_of(alloc: Global, sales: &[Sale], parts: u32) -> Result<Vec<u64>, OutOfMemory> {
     let mut locates = Vec::new(alloc);
     for part in 1..parts {
-        let before = bars.len() / parts as usize * part as usize;
-        if let Some(bar) = bars.get(before) {
-            locates.push(u64::from(bar.locate))?;
+        let before = sales.len() / parts as usize * part as usize;
+        if let Some(sale) = sales.get(before) {
+            locates.push(u64::from(sale.locate))?;
         }
     }
     Ok(locates)
@@ -69,7 +71,7 @@ fn locates_of(alloc: Global, bars: &[Bar], parts: u32) -> Result<Vec<u64>, OutOf
 fn lines_from<R: Threads + Sync>(
     rt: &R,
     alloc: Global,
-    tables: &[&BarTable],
+    tables: &[&UnmadeBars],
     names: &Names,
     bounds: &[u64],
 ) -> Result<Vec<Vec<u8>>, OutOfMemory>
@@ -102,7 +104,7 @@ fn lines_from<R: Threads + Sync>(
 /// The lines of the bars of all tables whose locates are in the first range.
 fn range_lines(
     alloc: Global,
-    tables: &[&BarTable],
+    tables: &[&UnmadeBars],
     names: &Names,
     bounds: &[u64],
 ) -> Result<Vec<u8>, OutOfMemory>
@@ -117,48 +119,75 @@ fn range_lines(
     joined_lines(alloc, sorted.as_slice(), names)
 }
 
-/// The bars of all tables whose locates are in the first range, in order of their keys.
+/// The sales of all tables whose locates are in the first range, in order of the keys of their bars.
 fn range_of<'a>(
     alloc: Global,
-    tables: &[&'a BarTable],
+    tables: &[&'a UnmadeBars],
     bounds: &[u64],
-) -> Result<Vec<&'a Bar>, OutOfMemory>
-    ensures order { IfOk result (λ sorted. IsOrderOf (filter (is_in_first (λ bar. bar.locate) bounds.now)
-        (all_bars (map (λ table. table.now) tables.now))) (map (λ bar. bar.now) sorted.items)) }
-    ensures traded { IfOk result (λ sorted. All IsTraded (map (λ bar. bar.now) sorted.items)) }
+) -> Result<Vec<Keyed<'a>>, OutOfMemory>
+    ensures rise { IfOk result (λ sorted. IsSorted key_cmp (map bar_at sorted.items)) }
+    ensures alike { IfOk result (λ sorted. AreJoinedAlike (map bar_at sorted.items)
+        (filter (is_in_first (λ bar. bar.locate) bounds.now) (all_bars (map (λ table. table.now) tables.now)))) }
+    ensures traded { IfOk result (λ sorted. All IsTraded (map bar_at sorted.items)) }
 {
-    let mut parts = Vec::with_capacity(alloc, tables.len())?;
-    for table in tables {
-        parts.push(within(table.items(), bounds))?;
-    }
-    in_order(alloc, parts.as_slice())
+    let mut keyed = gathered(alloc, tables, bounds)?;
+    keyed.sort_by_key(|one| one.key())?;
+    Ok(keyed)
 }
 
-/// The bars whose locates are in the first range.
-fn within<'a>(bars: &'a [Bar], bounds: &[u64]) -> &'a [Bar]
-    requires { IsByKey bars.now }
-    ensures { result.now ≡ filter (is_in_first (λ bar. bar.locate) bounds.now) bars.now }
+/// The sales of all tables whose locates are in the first range, each beside the key of its bar.
+fn gathered<'a>(
+    alloc: Global,
+    tables: &[&'a UnmadeBars],
+    bounds: &[u64],
+) -> Result<Vec<Keyed<'a>>, OutOfMemory>
+    ensures alike { IfOk result (λ keyed. AreJoinedAlike (map bar_at keyed.items)
+        (filter (is_in_first (λ bar. bar.locate) bounds.now) (all_bars (map (λ table. table.now) tables.now)))) }
+    ensures traded { IfOk result (λ keyed. All IsTraded (map bar_at keyed.items)) }
+{
+    let mut keyed = Vec::with_capacity(alloc, count_within(tables, bounds))?;
+    for table in tables {
+        let (sales, width) = table.parts();
+        append(&mut keyed, within(sales, bounds), width)?;
+    }
+    Ok(keyed)
+}
+
+/// How many sales of all tables are in the first range, for room for them to be made.
+fn count_within(tables: &[&UnmadeBars], bounds: &[u64]) -> usize {
+    let mut count = 0usize;
+    for table in tables {
+        let (sales, _) = table.parts();
+        count = count.saturating_add(within(sales, bounds).len());
+    }
+    count
+}
+
+/// The sales whose locates are in the first range.
+fn within<'a>(sales: &'a [Sale], bounds: &[u64]) -> &'a [Sale]
+    requires { IsNonDecreasingBy (λ sale. sale.locate) sales.now }
+    ensures { result.now ≡ filter (is_in_first (λ sale. sale.locate) bounds.now) sales.now }
 {
     match bounds {
         [] => &[],
-        [low] => from(bars, *low),
-        [low, high, ..] => from(below(bars, *high), *low),
+        [low] => from(sales, *low),
+        [low, high, ..] => from(below(sales, *high), *low),
     }
 }
 
-/// The bars whose locates are below this one.
-fn below(bars: &[Bar], locate: u64) -> &[Bar]
-    requires { IsByKey bars.now }
-    ensures value { result.now ≡ filter (λ bar. nat_lt bar.locate locate) bars.now }
-    ensures by_key { IsByKey result.now }
+/// The sales whose locates are below this one.
+fn below(sales: &[Sale], locate: u64) -> &[Sale]
+    requires { IsNonDecreasingBy (λ sale. sale.locate) sales.now }
+    ensures value { result.now ≡ filter (λ sale. nat_lt sale.locate locate) sales.now }
+    ensures locates { IsNonDecreasingBy (λ sale. sale.locate) result.now }
 {
-    &bars[..bars.partition_point(|bar| u64::from(bar.locate) < locate)]
+    &sales[..sales.partition_point(|sale| u64::from(sale.locate) < locate)]
 }
 
-/// The bars whose locates are this one or greater.
-fn from(bars: &[Bar], locate: u64) -> &[Bar]
-    requires { IsByKey bars.now }
-    ensures { result.now ≡ filter (λ bar. not (nat_lt bar.locate locate)) bars.now }
+/// The sales whose locates are this one or greater.
+fn from(sales: &[Sale], locate: u64) -> &[Sale]
+    requires { IsNonDecreasingBy (λ sale. sale.locate) sales.now }
+    ensures { result.now ≡ filter (λ sale. not (nat_lt sale.locate locate)) sales.now }
 {
-    &bars[bars.partition_point(|bar| u64::from(bar.locate) < locate)..]
+    &sales[sales.partition_point(|sale| u64::from(sale.locate) < locate)..]
 }

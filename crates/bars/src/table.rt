@@ -216,10 +216,7 @@ fn unite<A: Allocator + Clone>(alloc: A, parts: &[&[Bar]]) -> Result<Vec<Bar, A>
 }
 
 /// The bars of all parts in order of their keys.
-pub(crate) fn in_order<'a, A: Allocator>(
-    alloc: A,
-    parts: &[&'a [Bar]],
-) -> Result<Vec<&'a Bar, A>, OutOfMemory>
+fn in_order<'a, A: Allocator>(alloc: A, parts: &[&'a [Bar]]) -> Result<Vec<&'a Bar, A>, OutOfMemory>
     ensures { IfOk result (λ sorted. IsOrderOf (all_bars (map (λ part. part.now) parts.now))
         (map (λ bar. bar.now) sorted.items)) }
 {

@@ -1,4 +1,4 @@
--- The sales by place, and their table, are what a listing and a table of bars have.
+-- The sales by place are what a listing has.
 use Rattle.std.proofs.Common.{◌≡◌, ℕ, ltb, Bool, true, false, cond, List, [], ◌∷◌, map, nat_eq, Less, arith, IsPermutation, refl}
 use Rattle.std.specs.List.{AllByRecursion, IsDistinct}
 use Rattle.std.specs.List.Sorted.{IsStrictlySortedBy}
@@ -8,15 +8,7 @@ use Rattle.std.proofs.lemmas.List.Sorted.{IsPermutation-append_right, IsPermutat
 use Rattle.row_types.specs.declared.trade.Sale.{Sale}
 use Rattle.row_types.specs.SalesByPlace.{IsByPlace, place_cmp}
 use Rattle.time_and_sales.proofs.SortedByPlace.{one_listing}
-use Rattle.bars.specs.Bars.{AreBarsOf}
-use Rattle.bars.specs.Steps.{bar_of_one}
-use Rattle.bars.specs.declared.bar.Bar.{Bar}
-use Rattle.bars.proofs.Bars.{AreBarsOf-none, AreBarsOf-unique}
-use Rattle.bars.proofs.LastBar.{AreBarsOf-more}
-use Rattle.bars.proofs.MergedTables.{AreBarsOf-merged_tables}
-use Rattle.buckets.specs.Products.{bars_of, by_place, put_by_place}
-
--- ---- by place
+use Rattle.buckets.specs.Products.{by_place, put_by_place}
 
 kept_in : (P : Sale → Type 0) (sale : Sale) (xs : List Sale) → P sale → AllByRecursion P xs → AllByRecursion P (put_by_place sale xs)
 kept_in P sale [] one all = (one, tt)
@@ -86,15 +78,3 @@ pub listing_is_by_place : (sales listing : List Sale) → IsDistinct nat_eq (map
 listing_is_by_place sales listing apart h up =
     one_listing listing (by_place sales) up (by_place_rises sales apart)
     (IsPermutation-trans listing sales (by_place sales) (IsPermutation-sym sales listing h) (by_place_is sales))
-
--- ---- bars
-
-pub bars_of_are : (width : ℕ) (sales : List Sale) → AreBarsOf width sales (bars_of width sales)
-bars_of_are width [] = AreBarsOf-none width
-bars_of_are width (x ∷ xs) =
-    AreBarsOf-merged_tables (bar_of_one width x ∷ []) (bars_of width xs) _ refl width (x ∷ []) xs
-    (AreBarsOf-more width [] x [] (AreBarsOf-none width)) (bars_of_are width xs)
-
--- so a table of the sales is that one
-pub table_is : (width : ℕ) (sales : List Sale) (table : List Bar) → AreBarsOf width sales table → table ≡ bars_of width sales
-table_is width sales table are = AreBarsOf-unique width sales table (bars_of width sales) are (bars_of_are width sales)

@@ -1,9 +1,8 @@
 -- What is made of sales: a listing by place, or a table of bars.
 -- To be believed of a crate used by itself: the value of a bucket is one listing, or one table.
-use Rattle.std.specs.Prelude.{ℕ, nat_lt, List, [], ◌∷◌, if◌then◌else◌}
+use Rattle.std.specs.Prelude.{nat_lt, List, [], ◌∷◌, if◌then◌else◌}
 use Rattle.row_types.specs.declared.trade.Sale.{Sale}
-use Rattle.bars.specs.Steps.{bar_of_one, merged_tables}
-use Rattle.bars.specs.declared.bar.Bar.{Bar}
+use Rattle.bars.specs.Steps.{bars_of}
 use Rattle.meaning.specs.declared.query.What.{What}
 use Rattle.meaning.specs.declared.query.What.TheVariants.{Sales, Bars}
 use Rattle.buckets.specs.declared.product.Product.{Product}
@@ -19,11 +18,6 @@ put_by_place sale (first ∷ rest) =
 abbrev pub by_place : List Sale → List Sale
 by_place [] = []
 by_place (sale ∷ sales) = put_by_place sale (by_place sales)
-
--- the table of the bars of some sales
-abbrev pub bars_of : ℕ → List Sale → List Bar
-bars_of width [] = []
-bars_of width (sale ∷ sales) = merged_tables (bar_of_one width sale ∷ []) (bars_of width sales)
 
 -- what a query lists of sales
 abbrev pub product_of : What → List Sale → Product

@@ -43,7 +43,7 @@ impl Work for BucketWork {
             mut sales,
         } = trade(alloc, parts.as_slice())?;
         keep(&mut sales, input.breaks(), input.selection());
-        let product = product(alloc, sales, input.what())?;
+        let product = product(sales, input.what());
         Ok(Found {
             repeated,
             unknown,

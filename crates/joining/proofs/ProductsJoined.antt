@@ -11,7 +11,9 @@ use Rattle.row_types.specs.declared.trade.Sale.{Sale}
 use Rattle.bars.specs.Bars.{AllSumsFit, AreBarsOfEach, IsTraded, IsUnionOf, all_bars, all_sales}
 use Rattle.bars.specs.Texts.{IsWritable}
 use Rattle.bars.specs.declared.bar.Bar.{Bar}
+use Rattle.bars.specs.Steps.{bars_of}
 use Rattle.bars.proofs.JoinedTables.{union_of_bars}
+use Rattle.bars.proofs.BarsOfSales.{bars_of_are}
 use Rattle.bars.proofs.SumsAreBounded.{all_sums_fit, table_is_writable}
 use Rattle.row_types.specs.SalesByPlace.{IsByPlace}
 use Rattle.meaning.specs.Meaning.{Meaning}
@@ -21,9 +23,9 @@ use Rattle.row_types.specs.declared.directory.DirectoryRow.{DirectoryRow}
 use Rattle.day_rows.specs.DayRows.{IsStamped}
 use Rattle.day_rows.specs.Messages.{Placed}
 use Rattle.buckets.specs.FoundRows.{TotalView}
-use Rattle.buckets.specs.Products.{bars_of, by_place, product_of}
+use Rattle.buckets.specs.Products.{by_place, product_of}
 use Rattle.buckets.specs.declared.product.Product.{Product}
-use Rattle.buckets.proofs.ProductsOfSales.{bars_of_are, by_place_is, by_place_rises}
+use Rattle.buckets.proofs.ProductsOfSales.{by_place_is, by_place_rises}
 use Rattle.joining.specs.Gathered.{AreGatheredOf, AreProductsOf, listing_of, table_of}
 use Rattle.joining.proofs.BucketsOfMessages.{lists_in, lists_listable, products_found}
 

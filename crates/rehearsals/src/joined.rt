@@ -1,9 +1,9 @@
 //! What all buckets list, joined on one thread.
-ghost use Rattle.std.specs.Prelude.{◌≡◌, List, IfOk, filter_map, map};
+ghost use Rattle.std.specs.Prelude.{◌≡◌, ℕ, All, List, IfOk, filter_map, map};
 ghost use Rattle.std.specs.Arc.{arc_value};
 ghost use Rattle.row_types.specs.declared.trade.Sale.{Sale};
 ghost use Rattle.time_and_sales.specs.Names.{last_row, name_text};
-ghost use Rattle.bars.specs.Bars.{all_sales};
+ghost use Rattle.bars.specs.Bars.{AllSumsFit, AreBarsOf, AreBarsOfEach, IsTraded, all_bars, all_sales};
 ghost use Rattle.meaning.specs.declared.query.What.TheVariants.{Bars, Sales};
 ghost use Rattle.answers.specs.Answers.{IsAnswerToMessages, told_by};
 ghost use Rattle.day_rows.specs.Messages.{Placed};
@@ -11,7 +11,7 @@ ghost use Rattle.joining.specs.Gathered.{AreGatheredOf, AreProductsOf, IsTextOfA
 
 use crate::OutOfMemory;
 use answers::{Answer, Text, text_of_bars, text_of_sales};
-use bars::BarTable;
+use bars::{BarTable, UnmadeBars};
 use buckets::{BucketTotal, DayNames, Product};
 use joining::{fault_of, tables};
 use meaning::{Query, What};
@@ -86,8 +86,42 @@ fn text_of_tables(
         IsTextOfAll (Bars width) (λ locate. name_text locate (last_row names.now locate)) (all_sales lists) text) }
 {
     let tables = tables(alloc, &products)?;
-    let table = BarTable::merge_all(alloc, &tables)?;
+    let table = merged(alloc, &tables)?;
     text_of_bars(alloc, table.items(), names)
+}
+
+/// One table of bars that aren't made, those of one locate and start joined.
+fn merged(alloc: Global, unmade: &[&UnmadeBars]) -> Result<BarTable, OutOfMemory>
+    requires sums { AllSumsFit (all_bars (map (λ bars. bars.now) unmade.now)) }
+    ensures bars { IfOk result (λ all. (width : ℕ) (lists : List (List Sale)) →
+        AreBarsOfEach width lists (map (λ bars. bars.now) unmade.now) → AreBarsOf width (all_sales lists) all) }
+    ensures traded { IfOk result (λ all. All IsTraded all) }
+{
+    let tables = made(alloc, unmade)?;
+    let lent = lent(alloc, &tables)?;
+    BarTable::merge_all(alloc, &lent)
+}
+
+/// The tables of bars that aren't made.
+fn made(alloc: Global, unmade: &[&UnmadeBars]) -> Result<Vec<BarTable>, OutOfMemory>
+    ensures { IfOk result (λ tables. tables.items ≡ map (λ table. table.now) unmade.now) }
+{
+    let mut tables = Vec::with_capacity(alloc, unmade.len())?;
+    for bars in unmade {
+        tables.push(bars.table(alloc)?)?;
+    }
+    Ok(tables)
+}
+
+/// Where each of the tables stands.
+fn lent<'a>(alloc: Global, tables: &'a [BarTable]) -> Result<Vec<&'a BarTable>, OutOfMemory>
+    ensures { IfOk result (λ lent. map (λ table. table.now) lent.items ≡ tables.now) }
+{
+    let mut lent = Vec::with_capacity(alloc, tables.len())?;
+    for table in tables {
+        lent.push(table)?;
+    }
+    Ok(lent)
 }
 
 /// The listings among what is listed.

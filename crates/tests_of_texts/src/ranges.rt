@@ -4,7 +4,7 @@ ghost use Rattle.std.specs.List.{IsDistinct};
 ghost use Rattle.lists.specs.declared.limits.TheConstants.{TIME_LIMIT};
 ghost use Rattle.bars.specs.Bars.{AllSumsFit, AreBarsOf, IsTraded, all_bars};
 
-use bars::{BarTable, OutOfMemory, Sale, lines_in_ranges, write_bar};
+use bars::{BarTable, OutOfMemory, Sale, UnmadeBars, lines_in_ranges, write_bar};
 use probe::Kind;
 use std::alloc::Global;
 use std::test::Fail;
@@ -27,8 +27,8 @@ pub(crate) fn sale(place: u64, locate: u16, seconds: u8, price: u32) -> Sale
     }
 }
 
-/// The bars of sales by minutes.
-fn minutes(alloc: Global, sales: &[Sale]) -> Result<BarTable, OutOfMemory>
+/// The bars of sales by minutes, not made.
+fn minutes(alloc: Global, sales: &[Sale]) -> Result<UnmadeBars, OutOfMemory>
     requires places { IsDistinct nat_eq (map (λ sale. sale.place) sales.now) }
     requires count { length sales.now < 100 }
     requires shares { All (λ sale. 0 < sale.shares) sales.now }
@@ -37,12 +37,13 @@ fn minutes(alloc: Global, sales: &[Sale]) -> Result<BarTable, OutOfMemory>
     ensures traded { IfOk result (λ table. All IsTraded table) }
     ensures starts { IfOk result (λ table. All (λ bar. bar.start < TIME_LIMIT) table) }
 {
-    let table = BarTable::of_sales(alloc, sales, 60)?;
+    let sales = Vec::from_slice(alloc, sales)?;
+    let table = UnmadeBars::of_vec(sales, 60);
     Ok(table)
 }
 
 /// Tables of four locates, of which 7 has bars in all three, and 9 in two of them.
-fn tables(alloc: Global) -> Result<(BarTable, BarTable, BarTable), OutOfMemory>
+fn tables(alloc: Global) -> Result<(UnmadeBars, UnmadeBars, UnmadeBars), OutOfMemory>
     ensures sums { IfOk result (λ three. AllSumsFit (all_bars (three.0 ∷ three.1 ∷ three.2 ∷ []))) }
     ensures starts { IfOk result (λ three.
         All (λ bar. bar.start < TIME_LIMIT) (all_bars (three.0 ∷ three.1 ∷ three.2 ∷ []))) }
@@ -109,7 +110,10 @@ fn lines_of_bars_in_ranges_are_those_of_one_table(rt: HostRuntime) -> Result<(),
     let alloc = rt.alloc();
     let (one, other, third) = tables(alloc)?;
     let names = names(alloc)?;
-    let all = BarTable::merge_all(alloc, &[&one, &other, &third])?;
+    let first = one.table(alloc)?;
+    let second = other.table(alloc)?;
+    let last = third.table(alloc)?;
+    let all = BarTable::merge_all(alloc, &[&first, &second, &last])?;
     let want = lines(alloc, &all, &names)?;
     assert!(rt; want.as_slice() == LINES.as_bytes());
     for ranges in [1, 2, 3, 5, 100] {

@@ -2,7 +2,8 @@ use Rattle.std.proofs.Common.{IsPermutation, arith, nat_le, sym, ap, ◌∙◌, 
 use Rattle.std.proofs.lemmas.Bool.{and_parts, leb-true}
 use Rattle.buckets.specs.Products.{product_of}
 use Rattle.buckets.specs.declared.product.Product.TheVariants.{Listed, Tabled}
-use Rattle.buckets.proofs.ProductsOfSales.{listing_is_by_place, table_is}
+use Rattle.buckets.proofs.ProductsOfSales.{listing_is_by_place}
+use Rattle.bars.proofs.BarsOfSales.{table_is}
 use Rattle.buckets.proofs.making.product.Goals as goal
 
 pub of_vec-requires-clause-width : goal.of_vec-requires-clause-width
@@ -16,7 +17,7 @@ returns-in-Sales c =
     ap Listed (listing_is_by_place c.args.sales.items c.of_sales.result c.requires.places all c.of_sales.ensures.by_place)
     ∙ ap (λ what. product_of what c.args.sales.items) (sym c.in-Sales.is)
 
-pub returns-in_ok-table-in-Bars : goal.returns-in_ok-table-in-Bars
-returns-in_ok-table-in-Bars c =
-    ap Tabled (table_is c.in-Bars.width c.args.sales.items c.in_ok-table-in-Bars.table c.in_ok-table-in-Bars.ensures.bars)
+pub returns-in-Bars : goal.returns-in-Bars
+returns-in-Bars c =
+    ap Tabled (table_is c.in-Bars.width c.args.sales.items c.of_vec.result c.of_vec.ensures.bars)
     ∙ ap (λ what. product_of what c.args.sales.items) (sym c.in-Bars.is)

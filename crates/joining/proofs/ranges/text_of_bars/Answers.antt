@@ -3,8 +3,8 @@ use Rattle.std.specs.Arc.{arc_value}
 use Rattle.lists.specs.declared.limits.TheConstants.{TIME_LIMIT}
 use Rattle.bars.specs.Bars.{AllSumsFit, IsUnionOf, all_bars, all_sales}
 use Rattle.bars.specs.declared.bar.Bar.{Bar}
-use Rattle.buckets.specs.Products.{bars_of}
-use Rattle.buckets.proofs.ProductsOfSales.{bars_of_are}
+use Rattle.bars.specs.Steps.{bars_of}
+use Rattle.bars.proofs.BarsOfSales.{bars_of_are}
 use Rattle.joining.specs.Gathered.{table_of}
 use Rattle.joining.proofs.ProductsJoined.{on_ok, tables_starts, tables_sums, tables_union}
 use Rattle.joining.proofs.ranges.text_of_bars.Goals as goal
