@@ -210,15 +210,15 @@ def breaks(count):
         yield broken(count - 1 - number, OPEN)
 
 
-def mixed(count):
-    """All locates under one name; orders in no order; and then by turns an execution of each, a trade, and a break of another
-    number, in no order either. So each list that is sorted or searched is long, and nothing lies in it as it comes."""
+def mixed(count, reference):
+    """All locates under one name; orders; and then by turns an execution of each, a trade, and a break of another number, in no
+    order. So each list that is sorted or searched is long, and where the references don't rise nothing lies in it as it comes."""
     for number in range(65_536):
         yield named(number, b"MSFT    ")
     for number in range(count):
-        yield add(scattered(number), number % 65_536, time_of(number, 2 * count))
+        yield add(reference(number), number % 65_536, time_of(number, 2 * count))
     for number in range(count):
         time = time_of(count + number, 2 * count)
-        yield executed(scattered(number * 7_919 % count), number, number * 40_503 % 65_536, time)
+        yield executed(reference(number * 7_919 % count), number, number * 40_503 % 65_536, time)
         yield trade(count + number, number * 30_011 % 65_536, time)
         yield broken(scattered(number), time)
