@@ -76,13 +76,13 @@ class Runner:
                 file.write(frame)
         return path
 
-    def run(self, words, given=None, meet="", reading=0, first=0, room=None):
+    def run(self, words, given=None, meet="", reading=0, first=0, room=None, seconds=MOST_SECONDS):
         """The counts of a run. `given` is its standard input, a file; `meet` says which threads wait for one another, `reading`
         which reading of the caller does with the first of them, and `first` for the end of which one its starter waits (counts.c);
-        `room` is how many bytes of addresses it may have."""
+        `room` is how many bytes of addresses it may have, and `seconds` how much processor time it may take."""
 
         def limit():
-            resource.setrlimit(resource.RLIMIT_CPU, (MOST_SECONDS, MOST_SECONDS))
+            resource.setrlimit(resource.RLIMIT_CPU, (seconds, seconds))
             if room is not None:
                 resource.setrlimit(resource.RLIMIT_AS, (room, room))
 
@@ -112,6 +112,7 @@ ADD = struct.Struct(HEADER + "QcI8sI")
 EXECUTED = struct.Struct(HEADER + "QIQ")
 TRADE = struct.Struct(HEADER + "QcI8sIQ")
 NAMED = struct.Struct(HEADER + "8s20s")
+BROKEN = struct.Struct(HEADER + "Q")
 
 
 def head(layout, kind, locate, time):
@@ -133,6 +134,11 @@ def trade(number, locate, time):
 def named(locate, stock):
     """A row of the stock directory."""
     return NAMED.pack(*head(NAMED, b"R", locate, OPEN), stock, b"")
+
+
+def broken(number, time):
+    """A break of the trade of this match number."""
+    return BROKEN.pack(*head(BROKEN, b"B", 0, time), number)
 
 
 # Half past nine, and the nanoseconds from then on until four.
@@ -195,3 +201,24 @@ def names(count):
     for number in range(count):
         yield named(number % 65_536, b"%-8d" % number)
     yield from trades(1_000)
+
+
+def breaks(count):
+    """Trades, and breaks of all but some, from the last to the first."""
+    yield from trades(count)
+    for number in range(count - 1_000):
+        yield broken(count - 1 - number, OPEN)
+
+
+def mixed(count, reference):
+    """All locates under one name; orders; and then by turns an execution of each, a trade, and a break of another number, in no
+    order. So each list that is sorted or searched is long, and where the references don't rise nothing lies in it as it comes."""
+    for number in range(65_536):
+        yield named(number, b"MSFT    ")
+    for number in range(count):
+        yield add(reference(number), number % 65_536, time_of(number, 2 * count))
+    for number in range(count):
+        time = time_of(count + number, 2 * count)
+        yield executed(reference(number * 7_919 % count), number, number * 40_503 % 65_536, time)
+        yield trade(count + number, number * 30_011 % 65_536, time)
+        yield broken(scattered(number), time)

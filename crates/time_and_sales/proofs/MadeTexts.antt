@@ -1,6 +1,8 @@
 -- Texts taken from what calls made, and bounds that rise.
-use Rattle.std.proofs.Common.{◌≡◌, ℕ, ◌+◌, ◌-◌, ◌<◌, ◌≤◌}
-use Rattle.std.proofs.Common.{List, [], ◌∷◌, ◌++◌, get_or, map, length, Result, Ok, Err, IfOk, refl, sym, ap, ◌∙◌, subst, arith, append_assoc}
+use Rattle.std.proofs.Common.{◌≡◌, ◌⊎◌, ℕ, ◌+◌, ◌-◌, ◌<◌, ◌≤◌}
+use Rattle.std.proofs.Common.{List, [], ◌∷◌, ◌++◌, get_or, map, max, length, Result, Ok, Err, IfOk, inl, inr, refl, sym, ap, ap₂, ◌∙◌, subst, arith, append_assoc}
+use Rattle.std.proofs.Math.ListN.{get_or-append}
+use Rattle.std.proofs.Math.Nat.{eq-or-lt_of_le}
 use Rattle.std.specs.List.Sorted.{IsNonDecreasing}
 use Rattle.std.specs.Vec.Iter.{into_iter_items, into_iter_len}
 use Rattle.std.specs.declared.vec.IntoIter.{IntoIter}
@@ -49,3 +51,25 @@ pub last_is : (bounds new : List ℕ) (next : ℕ) → new ≡ bounds ++ next �
 last_is bounds new next made =
     let n = length_push bounds next in
     ap (λ l. get_or l (length l - 1) 0) made ∙ get_or_push bounds next 0 (length (bounds ++ next ∷ []) - 1) (omega (arith, n))
+
+next_at : (bounds new numbers : List ℕ) (at last number : ℕ) → length bounds ≡ at + 1 → get_or bounds (length bounds - 1) 0 ≡ last
+    → get_or numbers at 0 ≡ number → new ≡ bounds ++ max last number ∷ []
+    → ((i : ℕ) → i < at → get_or bounds (i + 1) 0 ≡ max (get_or bounds i 0) (get_or numbers i 0))
+    → (i : ℕ) → (i ≡ at) ⊎ (i < at) → get_or new (i + 1) 0 ≡ max (get_or new i 0) (get_or numbers i 0)
+next_at bounds new numbers at last number len is now made so_far i (inl e) =
+    let before : get_or new i 0 ≡ last =
+    ap (λ l. get_or l i 0) made ∙ get_or-append bounds (max last number ∷ []) 0 i (omega (arith, len, e))
+    ∙ ap (λ n. get_or bounds n 0) (omega (arith, len, e)) ∙ is in
+    ap (λ l. get_or l (i + 1) 0) made ∙ get_or_push bounds (max last number) 0 (i + 1) (omega (arith, len, e))
+    ∙ sym (ap₂ max before (ap (λ n. get_or numbers n 0) e ∙ now))
+next_at bounds new numbers at last number len is now made so_far i (inr less) =
+    let kept : (n : ℕ) → n < at + 1 → get_or new n 0 ≡ get_or bounds n 0 =
+    λ n h. ap (λ l. get_or l n 0) made ∙ get_or-append bounds (max last number ∷ []) 0 n (omega (arith, len, h)) in
+    kept (i + 1) (omega (arith, less)) ∙ so_far i less ∙ sym (ap (λ b. max b (get_or numbers i 0)) (kept i (omega (arith, less))))
+
+pub next_more : (bounds new numbers : List ℕ) (at last number : ℕ) → length bounds ≡ at + 1 → get_or bounds (length bounds - 1) 0 ≡ last
+    → get_or numbers at 0 ≡ number → new ≡ bounds ++ max last number ∷ []
+    → ((i : ℕ) → i < at → get_or bounds (i + 1) 0 ≡ max (get_or bounds i 0) (get_or numbers i 0))
+    → (i : ℕ) → i < at + 1 → get_or new (i + 1) 0 ≡ max (get_or new i 0) (get_or numbers i 0)
+next_more bounds new numbers at last number len is now made so_far i h =
+    next_at bounds new numbers at last number len is now made so_far i (eq-or-lt_of_le (omega (arith, h)))

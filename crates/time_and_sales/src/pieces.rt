@@ -1,5 +1,5 @@
 //! Texts that threads make side by side.
-ghost use Rattle.std.specs.Prelude.{◌≡◌, ℕ, ◌<◌, IfOk, Ok, length, map, slice_index, vec_len};
+ghost use Rattle.std.specs.Prelude.{◌≡◌, ℕ, ◌+◌, ◌<◌, IfOk, Ok, length, map, max, slice_index, vec_len};
 ghost use Rattle.std.specs.Fork.{GivesEach};
 ghost use Rattle.std.specs.List.Sorted.{IsNonDecreasing};
 
@@ -43,6 +43,9 @@ fn all_of(
 pub fn bounds_of(alloc: Global, numbers: &[u64]) -> Result<Vec<u64>, OutOfMemory>
     ensures some { IfOk result (λ bounds. 0 < length bounds.items) }
     ensures first { IfOk result (λ bounds. slice_index bounds.items 0 ≡ 0) }
+    ensures len { IfOk result (λ bounds. length bounds.items ≡ length numbers.now + 1) }
+    ensures next { IfOk result (λ bounds. (i : ℕ) → i < length numbers.now →
+        slice_index bounds.items (i + 1) ≡ max (slice_index bounds.items i) (slice_index numbers.now i)) }
     ensures rise { IfOk result (λ bounds. IsNonDecreasing bounds.items) }
 {
     let mut bounds = Vec::new(alloc);
