@@ -15,9 +15,9 @@ use morsel_rows::MorselRows;
 use std::alloc::Global;
 use std::marker::Model;
 
-/// In how many bytes of a day room is taken for one order row. There is one in about 60 bytes; with a tenth
+/// In how many bytes of a day room is taken for one order row. There is one in about 60 bytes; with a twentieth
 /// more room, hardly a list grows, though not all partitions have the same number of rows.
-const BYTES_AN_ORDER: u64 = 54;
+const BYTES_AN_ORDER: u64 = 57;
 
 /// The most bytes that room is taken for at once, so that a long block takes no more.
 const MOST_AT_ONCE: u64 = 32 << 20;
