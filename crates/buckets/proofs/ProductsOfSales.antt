@@ -1,5 +1,5 @@
 -- The sales by place are what a listing has.
-use Rattle.std.proofs.Common.{◌≡◌, ℕ, ltb, Bool, true, false, cond, List, [], ◌∷◌, map, nat_eq, Less, arith, IsPermutation, refl}
+use Rattle.std.proofs.Common.{◌≡◌, ltb, Bool, true, false, cond, List, [], ◌∷◌, map, nat_eq, Less, arith, IsPermutation, refl}
 use Rattle.std.specs.List.{AllByRecursion, IsDistinct}
 use Rattle.std.specs.List.Sorted.{IsStrictlySortedBy}
 use Rattle.std.proofs.lemmas.Bool.Decides.{nat_tests}

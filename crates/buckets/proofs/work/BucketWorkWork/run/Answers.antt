@@ -8,35 +8,36 @@ use Rattle.morsel_rows.specs.Partitions.{PartitionView}
 use Rattle.buckets.specs.BucketRows.{rows_of_parts}
 use Rattle.buckets.specs.FoundRows.{sales_in, trades_in}
 use Rattle.buckets.proofs.RowsApart.{few_sales, sales_apart}
+use Rattle.buckets.proofs.work.BucketWorkWork.run.Goals.{After-what}
 use Rattle.buckets.proofs.work.BucketWorkWork.run.Goals as goal
 
 -- by some breaks and some selection, what is listed is kept of the trades
 KeptOfTrades : PartitionView → List Sale → Type 0
 KeptOfTrades rows sales = (breaks : List ℕ) × (selection : Sale → Bool) × (sales ≡ sales_in breaks selection rows)
 
-kept_are : (c : goal.After-what) → KeptOfTrades (rows_of_parts c.in_ok-parts.parts.items) c.keep.new.sales.items
+kept_are : (c : After-what) → KeptOfTrades (rows_of_parts c.in_ok-parts.parts.items) c.keep.new.sales.items
 unfolding KeptOfTrades
 kept_are c =
     let trades = c.in_ok-repeated.ensures.sales ∙ ap (λ (parts : List (Bor PartitionView)). trades_in (rows_of_parts parts)) c.as_slice.ensures.value in
     (_, _, c.keep.ensures ∙ ap (kept _ _) trades)
 
-pub product-requires-clause-places : goal.product-requires-clause-places
+pub product-product-requires-clause-places : goal.product-product-requires-clause-places
 unfolding KeptOfTrades
-product-requires-clause-places c =
+product-product-requires-clause-places c =
     let (breaks, selection, are) = kept_are c in
     subst (λ (l : List Sale). IsDistinct nat_eq (map (λ (s : Sale). s.place) l)) (sym are)
     (sales_apart (rows_of_parts c.in_ok-parts.parts.items) c.in_ok-parts.ensures.by_place breaks selection)
 
-pub product-requires-clause-count : goal.product-requires-clause-count
+pub product-product-requires-clause-count : goal.product-product-requires-clause-count
 unfolding KeptOfTrades
-product-requires-clause-count c =
+product-product-requires-clause-count c =
     let (breaks, selection, are) = kept_are c in
     subst (λ (l : List Sale). length l < TRADE_LIMIT) (sym are)
     (few_sales (rows_of_parts c.in_ok-parts.parts.items) c.in_ok-parts.ensures.by_place breaks selection)
 
-pub product-requires-clause-shares : goal.product-requires-clause-shares
+pub product-product-requires-clause-shares : goal.product-product-requires-clause-shares
 unfolding KeptOfTrades
-product-requires-clause-shares c =
+product-product-requires-clause-shares c =
     let (breaks, selection, are) = kept_are c in
     subst (λ (l : List Sale). All (λ (s : Sale). 0 < s.shares) l) (sym are)
     (kept_have_shares breaks selection (trades_in (rows_of_parts c.in_ok-parts.parts.items)))
