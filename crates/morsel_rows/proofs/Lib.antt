@@ -3,3 +3,5 @@ pub mod MessagesOfPartition
 pub mod JoinedInPartitions
 mod SearchedRows
 mod PointNearby
+mod TakenRows
+mod Masks
