@@ -76,10 +76,10 @@ class Runner:
                 file.write(frame)
         return path
 
-    def run(self, words, given=None, meet="", reading=0, first=0, room=None, seconds=MOST_SECONDS):
+    def run(self, words, given=None, meet="", reading=0, first=(), room=None, seconds=MOST_SECONDS):
         """The counts of a run. `given` is its standard input, a file; `meet` says which threads wait for one another, `reading`
-        which reading of the caller does with the first of them, and `first` for the end of which one its starter waits (counts.c);
-        `room` is how many bytes of addresses it may have, and `seconds` how much processor time it may take."""
+        which reading of the caller does with the first of them, and `first` for the end of which ones their starter waits
+        (counts.c); `room` is how many bytes of addresses it may have, and `seconds` how much processor time it may take."""
 
         def limit():
             resource.setrlimit(resource.RLIMIT_CPU, (seconds, seconds))
@@ -88,7 +88,7 @@ class Runner:
 
         report = self.folder / "report"
         report.unlink(missing_ok=True)
-        counted = {"REPORT": report, "MEET": meet, "READING": reading, "FIRST": first}
+        counted = {"REPORT": report, "MEET": meet, "READING": reading, "FIRST": ",".join(map(str, first))}
         counted = {f"COUNTS_{key}": str(value) for key, value in counted.items()} | {"LD_PRELOAD": str(self.library)}
         words = [str(word) for word in words]
         with open(given or os.devnull, "rb") as source:

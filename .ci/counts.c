@@ -9,7 +9,7 @@
 //   COUNTS_MEET     groups of threads, as `p1-4a5-8`: the threads 1 to 4 wait in the first reading of each (pread), and 5 to 8
 //                   in the first large allocation of each, until all of the group are there, for two minutes at most
 //   COUNTS_READING  a reading of thread 0 (read), counted from 1, that waits with the first of those groups
-//   COUNTS_FIRST    a thread whose starter waits until it has ended
+//   COUNTS_FIRST    threads, as `5,10`, whose starter waits until each has ended
 typedef unsigned long size;
 
 void *__libc_malloc(size);
@@ -32,7 +32,7 @@ typedef long output(int, const void *, size);
 typedef void ender(int);
 typedef int starter(unsigned long *, const void *, void *(*)(void *), void *);
 
-enum { MOST_THREADS = 1024, MOST_GROUPS = 16, MOST_CALLS = 100000, WRITE_CREATE = 01 | 0100 | 01000 };
+enum { MOST_THREADS = 1024, MOST_GROUPS = 16, MOST_FIRST = 4, MOST_CALLS = 100000, WRITE_CREATE = 01 | 0100 | 01000 };
 // An allocation is large that no thread makes but for the rows or the text of a task. Microseconds of a wait, and their number.
 enum { LARGE = 2048, STEP = 1000, STEPS = 120000 };
 
@@ -56,7 +56,8 @@ struct call {
 static struct thread threads[MOST_THREADS];
 static struct group groups[MOST_GROUPS];
 static struct call calls[MOST_CALLS];
-static long started, group_count, first, joining, readings, call_count, allocations, bytes_in_all, held, most_held;
+static long first[MOST_FIRST];
+static long started, group_count, first_count, joining, readings, call_count, allocations, bytes_in_all, held, most_held;
 static __thread long own __attribute__((tls_model("initial-exec")));
 static input *next_read;
 static input_at *next_pread;
@@ -73,7 +74,10 @@ __attribute__((constructor)) static void begin(void) {
     next_start = dlsym((void *)-1L, "pthread_create");
     next_exit = dlsym((void *)-1L, "_exit");
     char *text = getenv("COUNTS_FIRST");
-    first = text ? strtol(text, 0, 10) : 0;
+    while (text && *text && first_count < MOST_FIRST) {
+        first[first_count++] = strtol(text, &text, 10);
+        text += *text == ',';
+    }
     text = getenv("COUNTS_MEET");
     while (text && *text && group_count < MOST_GROUPS) {
         struct group *group = &groups[group_count++];
@@ -155,6 +159,13 @@ static void *run(void *argument) {
     return given;
 }
 
+static int is_first(long number) {
+    for (long i = 0; i < first_count; i++) {
+        if (first[i] == number) return 1;
+    }
+    return 0;
+}
+
 int pthread_create(unsigned long *handle, const void *attributes, void *(*start)(void *), void *argument) {
     long number = add(&started, 1);
     if (number >= MOST_THREADS) return next_start(handle, attributes, start, argument);
@@ -164,7 +175,8 @@ int pthread_create(unsigned long *handle, const void *attributes, void *(*start)
     thread->argument = argument;
     int refused = next_start(handle, attributes, run, thread);
     long step = 0;
-    while (number == first && !refused && !__atomic_load_n(&thread->has_ended, __ATOMIC_SEQ_CST) && is_waiting(&step)) {}
+    int is_held = is_first(number) && !refused;
+    while (is_held && !__atomic_load_n(&thread->has_ended, __ATOMIC_SEQ_CST) && is_waiting(&step)) {}
     return refused;
 }
 

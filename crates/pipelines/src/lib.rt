@@ -13,5 +13,5 @@ pub use crew_threads::{Crew, FreeGate, Gate, KeepingPort, Port, Task, run_ahead,
 pub use dispatcher::{Dispatcher, Seat};
 pub use gathering::{Gathering, Inputs, OutOfMemory, Piece, Work};
 pub use links::{Link, Linked};
-pub use outcome::Outcome;
-pub use pair::{run_pair, run_second, total_of_pieces};
+pub use outcome::{Held, Outcome};
+pub use pair::{run_pair, run_pair_holding, run_second, run_second_holding, total_of_pieces};

@@ -7,15 +7,16 @@ ghost use Rattle.runs.specs.FirstPipeline.{IsOutcomeOf, IsScanOf};
 use crate::OutOfMemory;
 use crate::calls::first_pipeline::told_of;
 use answers::Answer;
-use buckets::{BucketTotal, DayNames};
+use buckets::{BucketWork, DayNames};
 use day_file::Cut;
 use joining::answer_in_ranges;
-use pipelines::{Crew, FreeGate, Gate, Outcome, run_pair, run_second};
+use pipelines::{Crew, FreeGate, Gate, Held, Outcome, run_pair_holding, run_second_holding};
 use planning::PlanLink;
 use query::Query;
 use scanning::{ScanTotal, WrongLength, scan_inputs};
 use std::alloc::Global;
 use std::sync::{Arc, Wait};
+use std::thread;
 use std::thread::Threads;
 
 /// Answers a query over a cut day file on threads: by two pipelines, each with the crew's workers.
@@ -39,12 +40,11 @@ pub fn answer<G: Gate, R: Threads + Wait + Sync>(
     let scans = scan_inputs(alloc, cut, query.as_of, parts)?;
     let inputs = Arc::new(alloc, scans)?;
     let link = PlanLink::new(query, parts);
-    let outcome = run_pair(rt, alloc, inputs, &link, crew, gate)?;
-    answer_of_outcome(rt, alloc, query, outcome, crew)
+    let held = run_pair_holding(rt, alloc, inputs, &link, crew, gate)?;
+    answer_of_held(rt, alloc, query, held, crew)
 }
 
-/// The answer that the total of the scans of a whole file gives. The second pipeline runs alone; what the
-/// scans found is freed when it is done.
+/// The answer that the total of the scans of a whole file gives. The second pipeline runs alone.
 pub(crate) fn answer_scans<R: Threads + Wait + Sync>(
     rt: &R,
     alloc: Global,
@@ -60,26 +60,33 @@ pub(crate) fn answer_scans<R: Threads + Wait + Sync>(
         IsAnswer (concat runs) query.now (told_by answer)) }
 {
     let link = PlanLink::new(query, parts);
-    let outcome = run_second(rt, alloc, total, &link, crew, &FreeGate)?;
-    answer_of_outcome(rt, alloc, query, outcome, crew)
+    let held = run_second_holding(rt, alloc, total, &link, crew, &FreeGate)?;
+    answer_of_held(rt, alloc, query, held, crew)
 }
 
 /// The answer that the outcome of both pipelines gives. As many threads as the crew has workers make its
-/// text.
-pub(crate) fn answer_of_outcome<R: Threads + Sync>(
+/// text. Meanwhile another one frees what the scans found, or the caller does first if none can be made.
+pub(crate) fn answer_of_held<R: Threads + Sync>(
     rt: &R,
     alloc: Global,
     query: &Query,
-    outcome: Outcome<BucketTotal, DayNames, WrongLength>,
+    held: Held<BucketWork, DayNames, WrongLength>,
     crew: Crew,
 ) -> Result<Answer, OutOfMemory>
-    requires outcome { (runs : List (List ℕ)) × IsOutcomeOf query.now outcome runs }
-    ensures { IfOk result (λ answer. (runs : List (List ℕ)) → IsOutcomeOf query.now outcome runs →
+    requires outcome { (runs : List (List ℕ)) × IsOutcomeOf query.now held.outcome runs }
+    ensures { IfOk result (λ answer. (runs : List (List ℕ)) → IsOutcomeOf query.now held.outcome runs →
         IsAnswer (concat runs) query.now (told_by answer)) }
 {
+    let Held { outcome, inputs } = held;
     match outcome {
         Outcome::Finished { total, kept } => {
-            answer_in_ranges(rt, alloc, query, total, &kept, crew.workers)
+            // (without a thread, what it was to free is let go with the error)
+            let freeing = thread::spawn(rt, move || drop(inputs)).ok();
+            let answer = answer_in_ranges(rt, alloc, query, total, &kept, crew.workers);
+            if let Some(freeing) = freeing {
+                freeing.join(rt);
+            }
+            answer
         }
         Outcome::Stopped { stop } => Ok(told_of(stop)),
     }

@@ -7,8 +7,8 @@ use Rattle.runs.specs.FirstPipeline.{AreRuns}
 use Rattle.runs.proofs.Answered.{given_by}
 use Rattle.runs.proofs.calls.answer.answer.Goals as goal
 
-pub answer_of_outcome-requires-clause-outcome : goal.answer_of_outcome-requires-clause-outcome
-answer_of_outcome-requires-clause-outcome g c lifetimes within =
+pub answer_of_held-requires-clause-outcome : goal.answer_of_held-requires-clause-outcome
+answer_of_held-requires-clause-outcome g c lifetimes within =
     let runs = c.args.cut.now in
     let cut : AreRuns runs = record {
       each = c.in_ok-scans.ensures.runs;
@@ -21,8 +21,8 @@ answer_of_outcome-requires-clause-outcome g c lifetimes within =
         parts = c.args.parts;
         some = c.requires.parts.0;
         cut = cut;
-        is = given_by runs c.args.query.now c.args.parts cut (arc_value c.in_ok-inputs.inputs) c.new-link.result c.in_ok-outcome.outcome
-            (c.in_ok-inputs.ensures.ok ∙ are) c.new-link.ensures c.in_ok-outcome.ensures;
+        is = given_by runs c.args.query.now c.args.parts cut (arc_value c.in_ok-inputs.inputs) c.new-link.result c.in_ok-held.held.outcome
+            (c.in_ok-inputs.ensures.ok ∙ are) c.new-link.ensures c.in_ok-held.ensures;
       },
     )
 
@@ -35,13 +35,13 @@ returns g c =
       within = c.in_ok-scans.ensures.within;
     } in
     let are = c.in_ok-scans.ensures.inputs ∙ ap (λ (m : Meaning). inputs_of m.as_of c.args.parts runs) c.query.view_is in
-    on_ok c.answer_of_outcome.result _ _
+    on_ok c.answer_of_held.result _ _
     (λ answer is.
     is runs (record {
       parts = c.args.parts;
       some = c.requires.parts.0;
       cut = cut;
-      is = given_by runs c.args.query.now c.args.parts cut (arc_value c.in_ok-inputs.inputs) c.new-link.result c.in_ok-outcome.outcome
-          (c.in_ok-inputs.ensures.ok ∙ are) c.new-link.ensures c.in_ok-outcome.ensures;
+      is = given_by runs c.args.query.now c.args.parts cut (arc_value c.in_ok-inputs.inputs) c.new-link.result c.in_ok-held.held.outcome
+          (c.in_ok-inputs.ensures.ok ∙ are) c.new-link.ensures c.in_ok-held.ensures;
     }))
-    c.answer_of_outcome.ensures
+    c.answer_of_held.ensures

@@ -6,20 +6,19 @@ use Rattle.pipelines.specs.declared.outcome.Outcome.TheVariants.{Stopped}
 use Rattle.runs.specs.LinkedBlocks.{IsOutcomeOfBlocks}
 use Rattle.runs.proofs.calls.run_blocks.answer_blocks.Goals as goal
 
-pub returns-in-Ok-Finished-clause-answers : goal.returns-in-Ok-Finished-clause-answers
-returns-in-Ok-Finished-clause-answers g c =
+pub returns-in-Finished-clause-answers : goal.returns-in-Finished-clause-answers
+returns-in-Finished-clause-answers g c =
     let S = g.S.BlockSource in
     let whole = subst (IsOutcomeOfBlocks S.GaveAt S.EndsAt S.FailsAt (arc_value c.args.source.now) c.args.settings.limit c.args.query.now)
-    c.in-Ok-Finished.field-0-is c.in-Ok-Finished.ensures.outcome in
+    c.in-Finished.is c.in-Ok.ensures.outcome in
     IfOk-weaker c.answer_whole.result _ _
     (λ answer answers. record { day = concat whole.runs; read = whole.gave; answers = answers whole.runs whole.is }) c.answer_whole.ensures.answers
 
-pub returns-in-Ok-Stopped-WrongLength-clause-answers : goal.returns-in-Ok-Stopped-WrongLength-clause-answers
-returns-in-Ok-Stopped-WrongLength-clause-answers g c =
+pub returns-in-WrongLength-clause-answers : goal.returns-in-WrongLength-clause-answers
+returns-in-WrongLength-clause-answers g c =
     let S = g.S.BlockSource in
-    let found = c.in-Ok-Stopped-WrongLength in
     let whole = subst (IsOutcomeOfBlocks S.GaveAt S.EndsAt S.FailsAt (arc_value c.args.source.now) c.args.settings.limit c.args.query.now)
-    (found.field-0-is ∙ ap Stopped found.field-0-0-is) found.ensures.outcome in
-    IfOk-weaker c.answer_whole-in-Ok-Stopped-WrongLength.result _ _
+    (c.in-Stopped.is ∙ ap Stopped c.in-WrongLength.is) c.in-Ok.ensures.outcome in
+    IfOk-weaker c.answer_whole-in-WrongLength.result _ _
     (λ answer answers. record { day = concat whole.runs; read = whole.gave; answers = answers whole.runs whole.is })
-    c.answer_whole-in-Ok-Stopped-WrongLength.ensures.answers
+    c.answer_whole-in-WrongLength.ensures.answers
