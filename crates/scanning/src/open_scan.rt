@@ -60,32 +60,6 @@ impl OpenScan {
         ensures taken { OnOk result (TakesIn as_of (placed_body frame.entry ∷ []) self.old self.new) }
         ensures unchanged { OnErr result (self.new ≡ self.old) }
     {
-        // The same is done of each type. But a type that many messages are of has code of its own so, in
-        // which the compiler knows the type: it tests it no more, and reads only what the row has.
-        match frame.body.first() {
-            Some(b'A') => self.take_in_message(as_of, frame),
-            Some(b'D') => self.take_in_message(as_of, frame),
-            Some(b'U') => self.take_in_message(as_of, frame),
-            Some(b'X') => self.take_in_message(as_of, frame),
-            _ => self.take_in_rare(as_of, frame),
-        }
-    }
-
-    /// The same, by code that stands once.
-    #[inline(never)]
-    fn take_in_rare(&mut self, as_of: Option<u32>, frame: Frame<'_>) -> Result<(), OutOfMemory>
-        ensures taken { OnOk result (TakesIn as_of (placed_body frame.entry ∷ []) self.old self.new) }
-        ensures unchanged { OnErr result (self.new ≡ self.old) }
-    {
-        self.take_in_message(as_of, frame)
-    }
-
-    /// The same, by code that stands wherever it is called.
-    #[inline(always)]
-    fn take_in_message(&mut self, as_of: Option<u32>, frame: Frame<'_>) -> Result<(), OutOfMemory>
-        ensures taken { OnOk result (TakesIn as_of (placed_body frame.entry ∷ []) self.old self.new) }
-        ensures unchanged { OnErr result (self.new ≡ self.old) }
-    {
         match read(frame.body) {
             Ok(message) => self.rows.add_counted(as_of, frame.place, &message)?,
             Err(fault) => {
