@@ -1,15 +1,27 @@
 -- All blocks of a source are of it, and so is what comes of them.
-use Rattle.std.proofs.Common.{◌≡◌, ℕ, suc, ◌<◌, List, [], ◌∷◌, ◌++◌, All, length, map, get_or, refl, sym, ap, ◌∙◌, subst, arith}
+use Rattle.std.proofs.Common.{◌≡◌, ℕ, zero, suc, ◌<◌, Option, Some, None, Result, Ok, Err, IsOk, is_some, true≢false, List, [], ◌∷◌, ◌++◌, All, length, map, get_or, refl, sym, ap, ◌∙◌, subst, arith}
 use Rattle.std.specs.Arc.{arc_value}
 use Rattle.std.specs.declared.sync.Arc.{Arc}
-use Rattle.std.specs.List.{AllByRecursion}
+use Rattle.std.specs.List.{AllByRecursion, AllWithin}
 use Rattle.std.proofs.lemmas.List.{get_or-map, length-map}
 use Rattle.std.proofs.lemmas.List.FromFn.{length-map-range_with_len}
 use Rattle.std.proofs.lemmas.List.Elements.{All-cons, All-map, All-nil, recursion_from_All}
 use Rattle.lists.specs.Least.{numbers_below}
-use Rattle.block_scan.specs.Attempts.{AreAttemptsOf, AreBlocks, AreOf, AttemptView, BlockView, Gives, block_at, blocks_of}
+use Rattle.block_scan.specs.Attempts.{AreAttemptsOf, AreBlocks, AreOf, AttemptView, BlockView, Gives, block_at, blocks_of, fault_or, first_fault_of}
 use Rattle.block_scan.specs.Pieces.{IsAskable}
+use Rattle.block_scan.specs.declared.fault.BlocksFault.{BlocksFault}
+use Rattle.block_scan.specs.declared.piece.Piece.{Piece}
 use Rattle.block_scan.specs.declared.request.Request.{Request}
+
+pub no_fault : (fault : BlocksFault) → None ≡ Some fault → ⊥
+no_fault fault is = true≢false (sym (ap is_some is))
+
+pub same_fault : {one other : BlocksFault} → Some one ≡ Some other → one ≡ other
+same_fault is = cc
+
+passed : (found : Result Piece BlocksFault) (other : Option BlocksFault) → IsOk found → fault_or found other ≡ other
+passed (Ok piece) other is = refl
+passed (Err fault) other is = absurd (true≢false (sym is))
 
 module _ {S : Type 0} where
   module _ (source : S) (request : Request) (count : ℕ) where
@@ -65,6 +77,24 @@ module _ {S : Type 0} where
   pub attempts_of : (blocks : List (BlockView S)) (attempts : List (AttemptView S)) (are : AreBlocks blocks) → AreOf blocks attempts
       → AreAttemptsOf are.source are.request attempts
   attempts_of blocks attempts are of = of_it are.source are.request blocks attempts are.some are.each of
+
+  -- ---- the first fault
+
+  pub first_found : (attempts : List (AttemptView S)) (k : ℕ) (v : AttemptView S) (fault : BlocksFault)
+      → AllWithin (λ a. IsOk a.found) attempts 0 k → k < length attempts → get_or attempts k v ≡ v → v.found ≡ Err fault
+      → first_fault_of attempts ≡ Some fault
+  first_found [] k v fault ok below here is = absurd (omega (arith, below))
+  first_found (a ∷ attempts) zero v fault ok below here is =
+      ap (λ (found : Result Piece BlocksFault). fault_or found (first_fault_of attempts)) (ap (λ (x : AttemptView S). x.found) here ∙ is)
+  first_found (a ∷ attempts) (suc k) v fault ok below here is =
+      passed a.found (first_fault_of attempts) (ok 0 a (omega arith) (omega arith))
+      ∙ first_found attempts k v fault (λ n d low less. ok (suc n) d (omega arith) (omega (arith, less))) (omega (arith, below)) here is
+
+  pub none_found : (attempts : List (AttemptView S)) → All (λ a. IsOk a.found) attempts → first_fault_of attempts ≡ None
+  none_found [] ok = refl
+  none_found (a ∷ attempts) ok =
+      passed a.found (first_fault_of attempts) (ok 0 a (omega arith))
+      ∙ none_found attempts (λ n d less. ok (suc n) d (omega (arith, less)))
 
 -- where an item of a loop over shared things stands
 pub at_index : {X Z : Type 0} (arcs : List (Arc X Z)) (i : ℕ) (arc : Arc X Z) (d : X) → i < length arcs → arc ≡ get_or arcs i arc

@@ -1,6 +1,6 @@
 -- The tasks of a source that is read at places: its blocks, and what came of them.
 -- To be believed of a crate used by itself: a promise of the program speaks of the whole source alone.
-use Rattle.std.specs.Prelude.{◌≡◌, ℕ, ◌+◌, ◌*◌, ◌<◌, ◌==◌, ◌&&◌, Bool, nat_eq, min, if◌then◌else◌, List, [], ◌∷◌, All, map, length, Result}
+use Rattle.std.specs.Prelude.{◌≡◌, ℕ, ◌+◌, ◌*◌, ◌<◌, ◌==◌, ◌&&◌, Bool, nat_eq, min, if◌then◌else◌, List, [], ◌∷◌, All, map, length, Option, Some, None, Result, Ok, Err}
 use Rattle.std.specs.Option.{option_eq}
 use Rattle.lists.specs.Least.{numbers_below}
 use Rattle.block_scan.specs.declared.fault.BlocksFault.{BlocksFault}
@@ -27,6 +27,11 @@ module _ (S : Type 0) where
 abbrev pub is_same_request : Request → Request → Bool
 is_same_request a b =
     (a.limit == b.limit) && option_eq nat_eq a.as_of b.as_of && (a.parts == b.parts) && (a.block == b.block)
+
+-- the fault, or where there is a piece the other fault
+abbrev pub fault_or : Result Piece BlocksFault → Option BlocksFault → Option BlocksFault
+fault_or (Ok _) other = other
+fault_or (Err fault) _ = Some fault
 
 module _ {S : Type 0} where
   -- both blocks are of equal sources, between the same places, and the same is asked of them
@@ -64,6 +69,11 @@ module _ {S : Type 0} where
     pub asks : IsAskable request
     pub some : 0 < length blocks
     pub each : All (λ block. (block.source ≡ source) × (block.request ≡ request)) blocks
+
+  -- the fault of the first attempt that has no piece
+  abbrev pub first_fault_of : List (AttemptView S) → Option BlocksFault
+  first_fault_of [] = None
+  first_fault_of (attempt ∷ attempts) = fault_or attempt.found (first_fault_of attempts)
 
   -- there is at least one attempt, and all are at blocks of this source for this request
   pub record AreAttemptsOf (source : S) (request : Request) (attempts : List (AttemptView S)) : Type 0 where

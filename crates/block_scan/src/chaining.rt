@@ -1,7 +1,8 @@
 //! Pieces put together to the whole of a source.
-ghost use Rattle.std.specs.Prelude.{◌≡◌, ◌≤◌, ◌<◌, All, Any, Err, MatchOption, map, length, IfErr, IfOk, IfSome, IsErr, IsOk, OnOk};
+ghost use Rattle.std.specs.Prelude.{◌≡◌, ◌≤◌, ◌<◌, All, Any, Err, MatchOption, Some, map, length, IfErr, IfOk, IfSome, IsErr, IsOk, OnOk};
 ghost use Rattle.std.specs.Arc.{arc_value};
-ghost use Rattle.block_scan.specs.Attempts.{AreAttemptsOf};
+ghost use Rattle.block_scan.specs.Attempts.{AreAttemptsOf, first_fault_of};
+ghost use Rattle.block_scan.specs.declared.fault.BlocksFault.{BlocksFault as TheFault};
 ghost use Rattle.block_scan.specs.Blocks.{IsBlocksFault};
 ghost use Rattle.block_scan.specs.ScannedBlocks.{IsScannedWhole};
 ghost use Rattle.block_scan.specs.Pieces.{IsAskable, IsChained, IsFollowedBy, IsGoneOn, IsJoined};
@@ -31,6 +32,7 @@ impl<S: BlockSource> Attempts<S> {
             AreAttemptsOf source request self.now →
             IsBlocksFault S.GaveAt S.EndsAt S.FailsAt source request.limit fault) }
         ensures unread { Any (λ attempt. IsErr attempt.found) self.now → IsErr result }
+        ensures first { (fault : TheFault) → first_fault_of self.now ≡ Some fault → result ≡ Err fault }
     {
         if let Some(fault) = self.first_fault() {
             return Err(fault);
@@ -41,7 +43,8 @@ impl<S: BlockSource> Attempts<S> {
 
     /// Why there is no piece of the first block that has none.
     fn first_fault(&self) -> Option<BlocksFault>
-        ensures { MatchOption result (All (λ attempt. IsOk attempt.found) self.now)
+        ensures first { result ≡ first_fault_of self.now }
+        ensures fault { MatchOption result (All (λ attempt. IsOk attempt.found) self.now)
             (λ fault. Any (λ attempt. (attempt.found ≡ Err fault)
             × IsBlocksFault S.GaveAt S.EndsAt S.FailsAt attempt.source attempt.request.limit fault) self.now) }
     {
