@@ -16,12 +16,12 @@ use Rattle.day_rows.specs.DayRows.{DayRows, joined, only_execution, only_order, 
 use Rattle.morsel_rows.specs.MoreRows.{BecomesJoined, with_execution, with_order, with_sale}
 use Rattle.morsel_rows.specs.Partitions.{PartitionView, partition_of}
 
-same_from_number : {X : Type 0} (f g : ℕ → X) (a n : ℕ) → ((b : ℕ) → a ≤ b → f b ≡ g b) → map f (range_with_len a n) ≡ map g (range_with_len a n)
+pub same_from_number : {X : Type 0} (f g : ℕ → X) (a n : ℕ) → ((b : ℕ) → a ≤ b → f b ≡ g b) → map f (range_with_len a n) ≡ map g (range_with_len a n)
 same_from_number f g a zero same = refl
 same_from_number f g a (suc n) same = ap₂ ◌∷◌ (same a (omega arith)) (same_from_number f g (a + 1) n (λ b h. same b (omega arith)))
 
 -- one item changed of those at all numbers
-set_one : {X : Type 0} (f g : ℕ → X) (a n i j : ℕ) → i < n → a + i ≡ j → ((b : ℕ) → (b ≡ j → ⊥) → f b ≡ g b)
+pub set_one : {X : Type 0} (f g : ℕ → X) (a n i j : ℕ) → i < n → a + i ≡ j → ((b : ℕ) → (b ≡ j → ⊥) → f b ≡ g b)
     → slice_set (map f (range_with_len a n)) i (g j) ≡ map g (range_with_len a n)
 set_one f g a zero i j h e other = absurd (omega arith)
 set_one f g a (suc n) zero j h e other =

@@ -2,3 +2,5 @@ pub mod JoinedPartitions
 pub mod MessagesOfPartition
 pub mod JoinedInPartitions
 mod SearchedRows
+mod TakenRows
+mod Masks

@@ -32,6 +32,17 @@ impl<A: Allocator> Model for Partition<A> {
 }
 
 impl<A: Allocator + Copy> Partition<A> {
+    /// No rows. It takes no memory.
+    pub(crate) fn new(alloc: A) -> Self
+        ensures { result ≡ no_rows_in }
+    {
+        Partition {
+            orders: OrderList::new(alloc),
+            executions: Vec::new(alloc),
+            own_priced: Vec::new(alloc),
+        }
+    }
+
     /// No rows, and room for `orders` order rows, which is taken at once. It is refused if there is
     /// no memory for them.
     pub(crate) fn with_room(alloc: A, orders: usize) -> Result<Self, OutOfMemory>

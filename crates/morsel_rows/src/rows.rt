@@ -1,6 +1,6 @@
 //! The rows of one morsel.
 ghost use Rattle.std.specs.Prelude.{◌≡◌, ℕ, ◌<◌, ◌≤◌, IfOk, MatchOption, OnErr, OnOk, Some};
-ghost use Rattle.std.specs.Prelude.{length, slice_get};
+ghost use Rattle.std.specs.Prelude.{length, slice_get, vec_len};
 ghost use Rattle.lists.specs.declared.limits.TheConstants.{MOST_PARTITIONS};
 ghost use Rattle.day_rows.specs.DayRows.{
   DayRows,
@@ -14,42 +14,55 @@ ghost use Rattle.day_rows.specs.DayRows.{
   only_sale,
   told,
 };
-ghost use Rattle.morsel_rows.specs.MoreRows.{BecomesJoined};
-ghost use Rattle.morsel_rows.specs.Partitions.{in_partitions};
+ghost use Rattle.morsel_rows.specs.MoreRows.{BecomesJoined, with_execution, with_order, with_partition, with_sale};
+ghost use Rattle.morsel_rows.specs.Partitions.{in_partitions, no_rows_in};
+ghost use Rattle.morsel_rows.specs.TakenPartitions.{rows_taken_at};
 
 use crate::OutOfMemory;
+use crate::numbers::number_of;
 use crate::partition::Partition;
 use day_rows::{Row, counts, row_of};
 use itch_messages::Message;
-use order_table::partition;
 use row_types::{DirectoryRow, Execution, OrderRow, Sale};
 use std::alloc::{Allocator, Global};
 use std::marker::Model;
 
+/// Each partition that has taken memory, at its number.
+type Taken<A> = Vec<Option<Box<Partition<A>, A>>, A>;
+
 /// What the messages of one morsel give: the rows of orders and trades in partitions, the others
 /// together, each list in the order of the messages.
+///
+/// A partition takes memory from its first row on, if it takes no room before, so a morsel of few
+/// rows has few lists, however many partitions there are.
 #[derive(Drop)]
 pub struct MorselRows<A: Allocator = Global> {
-    partitions: Vec<Partition<A>, A>,
+    /// How many partitions there are.
+    parts: u32,
+    /// Each partition that has taken memory, at its number; empty as long as there is none.
+    partitions: Taken<A>,
+    /// What is lent of a partition that has taken none.
+    no_rows: Partition<A>,
     breaks: Vec<u64, A>,
     directory: Vec<DirectoryRow, A>,
 }
 
 impl<A: Allocator> Model for MorselRows<A> {
-    ghost use Rattle.std.specs.Prelude.{◌<◌, ◌≤◌, length};
+    ghost use Rattle.std.specs.Prelude.{◌≡◌, ◌<◌, ◌≤◌};
     ghost use Rattle.lists.specs.declared.limits.TheConstants.{MOST_PARTITIONS};
-    ghost use Rattle.morsel_rows.specs.Partitions.{MorselRowsView};
+    ghost use Rattle.morsel_rows.specs.Partitions.{MorselRowsView, no_rows_in};
+    ghost use Rattle.morsel_rows.specs.TakenPartitions.{partitions_seen};
 
     ghost Value = { MorselRowsView };
 
     ghost view = { λ rows. record {
-      partitions = rows.partitions.items;
+      partitions = partitions_seen rows.parts rows.partitions.items;
       breaks = rows.breaks.items;
       directory = rows.directory.items;
     } };
 
-    ghost invariant = { λ rows.
-        (0 < length rows.partitions.items) × (length rows.partitions.items ≤ MOST_PARTITIONS) };
+    ghost invariant = { λ rows. (0 < rows.parts) × (rows.parts ≤ MOST_PARTITIONS)
+        × (rows.no_rows ≡ no_rows_in) };
 }
 
 impl<A: Allocator + Copy> MorselRows<A> {
@@ -59,16 +72,36 @@ impl<A: Allocator + Copy> MorselRows<A> {
         requires { (0 < parts) × (parts ≤ MOST_PARTITIONS) }
         ensures { IfOk result (λ rows. rows ≡ in_partitions parts no_rows) }
     {
-        let mut partitions = Vec::with_capacity(alloc, parts as usize)?;
-        for _ in 0..parts {
-            partitions.push(Partition::with_room(alloc, orders)?)?;
-        }
+        let partitions = with_rooms(alloc, parts, orders)?;
         Ok(MorselRows {
+            parts,
             partitions,
+            no_rows: Partition::new(alloc),
             breaks: Vec::new(alloc),
             directory: Vec::new(alloc),
         })
     }
+}
+
+/// The partitions that take memory at once: if there is to be room for `orders` order rows in each, all,
+/// and otherwise none.
+#[tactic(auto, using(crate::proofs::TakenRows::room_more))]
+fn with_rooms<A: Allocator + Copy>(
+    alloc: A,
+    parts: u32,
+    orders: usize,
+) -> Result<Taken<A>, OutOfMemory>
+    ensures { IfOk result (λ taken. (number : ℕ) → rows_taken_at taken.items number ≡ no_rows_in) }
+{
+    if orders == 0 {
+        return Ok(Vec::new(alloc));
+    }
+    let mut partitions = Vec::with_capacity(alloc, parts as usize)?;
+    for _ in 0..parts {
+        let partition = Box::new(alloc, Partition::with_room(alloc, orders)?)?;
+        partitions.push(Some(partition))?;
+    }
+    Ok(partitions)
 }
 
 impl<A: Allocator> MorselRows<A> {
@@ -78,7 +111,17 @@ impl<A: Allocator> MorselRows<A> {
         ensures { MatchOption result (length self.now.partitions ≤ number)
             (λ partition. slice_get self.now.partitions number ≡ Some partition.now) }
     {
-        self.partitions.get(number as usize)
+        if number >= self.parts {
+            return None;
+        }
+        let index = number as usize;
+        if index >= self.partitions.len() {
+            return Some(&self.no_rows);
+        }
+        match &self.partitions[index] {
+            Some(partition) => Some(partition),
+            None => Some(&self.no_rows),
+        }
     }
 
     /// The match numbers that breaks name.
@@ -97,6 +140,17 @@ impl<A: Allocator> MorselRows<A> {
         self.directory.as_slice()
     }
 
+    /// Gives memory back that is taken for further rows.
+    pub fn shrink_to_fit(&mut self)
+        ensures { self.new ≡ self.old }
+    {
+        shrink_all(self.partitions.as_mut_slice());
+        self.breaks.shrink_to_fit();
+        self.directory.shrink_to_fit();
+    }
+}
+
+impl<A: Allocator + Copy> MorselRows<A> {
     /// Adds the row of one more message, whose frame is at this place, in bytes from the file's
     /// start, if the message counts up to this moment, in seconds since midnight; one that is past
     /// it has no row. If there is no memory for it, the rows stay as they were.
@@ -121,13 +175,60 @@ impl<A: Allocator> MorselRows<A> {
         }
     }
 
-    /// Gives memory back that is taken for further rows.
-    pub fn shrink_to_fit(&mut self)
-        ensures { self.new ≡ self.old }
+    /// Puts a partition where there are no rows so far.
+    #[cold]
+    #[inline(never)]
+    fn put(&mut self, number: usize, partition: Partition<A>) -> Result<(), OutOfMemory>
+        requires { number < length self.old.partitions }
+        ensures put { OnOk result (self.new ≡ with_partition number partition self.old) }
+        ensures unchanged { OnErr result (self.new ≡ self.old) }
     {
-        shrink_all(self.partitions.as_mut_slice());
-        self.breaks.shrink_to_fit();
-        self.directory.shrink_to_fit();
+        let taken = Box::new(*self.partitions.allocator(), partition)?;
+        lengthen(&mut self.partitions, self.parts as usize)?;
+        self.partitions[number] = Some(taken);
+        Ok(())
+    }
+
+    /// Adds an order reference to a partition without rows.
+    #[cold]
+    #[inline(never)]
+    fn begin_order(&mut self, number: usize, row: OrderRow) -> Result<(), OutOfMemory>
+        requires { number < length self.old.partitions }
+        ensures added { OnOk result
+            (self.new ≡ with_partition number (with_order row no_rows_in) self.old) }
+        ensures unchanged { OnErr result (self.new ≡ self.old) }
+    {
+        let mut part = Partition::new(*self.partitions.allocator());
+        part.push_order(row)?;
+        self.put(number, part)
+    }
+
+    /// Adds an execution to a partition without rows.
+    #[cold]
+    #[inline(never)]
+    fn begin_execution(&mut self, number: usize, row: Execution) -> Result<(), OutOfMemory>
+        requires { number < length self.old.partitions }
+        ensures added { OnOk result
+            (self.new ≡ with_partition number (with_execution row no_rows_in) self.old) }
+        ensures unchanged { OnErr result (self.new ≡ self.old) }
+    {
+        let mut part = Partition::new(*self.partitions.allocator());
+        part.push_execution(row)?;
+        self.put(number, part)
+    }
+
+    /// Adds a sale to a partition without rows.
+    #[cold]
+    #[inline(never)]
+    fn begin_sale(&mut self, number: usize, row: Sale) -> Result<(), OutOfMemory>
+        requires { number < length self.old.partitions }
+        ensures added { OnOk result
+            (self.new ≡ with_partition number (with_sale row no_rows_in) self.old) }
+        ensures unchanged { OnErr result (self.new ≡ self.old) }
+    {
+        let mut part = Partition::new(*self.partitions.allocator());
+        part.push_sale(row)?;
+        self.put(number, part)
     }
 
     /// Adds one row.
@@ -151,9 +252,14 @@ impl<A: Allocator> MorselRows<A> {
         ensures added { OnOk result (BecomesJoined (only_order row) self.old self.new) }
         ensures unchanged { OnErr result (self.new ≡ self.old) }
     {
-        let number = partition(row.order_no, self.partitions.len() as u32) as usize;
-        let part = &mut self.partitions[number];
-        part.push_order(row)
+        let number = number_of(row.order_no, self.parts);
+        if number >= self.partitions.len() {
+            return self.begin_order(number, row);
+        }
+        match &mut self.partitions[number] {
+            Some(part) => part.push_order(row),
+            None => self.begin_order(number, row),
+        }
     }
 
     /// Adds an execution to the partition of its order reference.
@@ -162,9 +268,14 @@ impl<A: Allocator> MorselRows<A> {
         ensures added { OnOk result (BecomesJoined (only_execution row) self.old self.new) }
         ensures unchanged { OnErr result (self.new ≡ self.old) }
     {
-        let number = partition(row.order_no, self.partitions.len() as u32) as usize;
-        let part = &mut self.partitions[number];
-        part.push_execution(row)
+        let number = number_of(row.order_no, self.parts);
+        if number >= self.partitions.len() {
+            return self.begin_execution(number, row);
+        }
+        match &mut self.partitions[number] {
+            Some(part) => part.push_execution(row),
+            None => self.begin_execution(number, row),
+        }
     }
 
     /// Adds a sale to the partition of its place.
@@ -173,9 +284,14 @@ impl<A: Allocator> MorselRows<A> {
         ensures added { OnOk result (BecomesJoined (only_sale row) self.old self.new) }
         ensures unchanged { OnErr result (self.new ≡ self.old) }
     {
-        let number = (row.place % self.partitions.len() as u64) as usize;
-        let part = &mut self.partitions[number];
-        part.push_sale(row)
+        let number = number_of(row.place, self.parts);
+        if number >= self.partitions.len() {
+            return self.begin_sale(number, row);
+        }
+        match &mut self.partitions[number] {
+            Some(part) => part.push_sale(row),
+            None => self.begin_sale(number, row),
+        }
     }
 
     #[inline(always)]
@@ -197,11 +313,28 @@ impl<A: Allocator> MorselRows<A> {
     }
 }
 
+/// Makes a place for each of so many partitions.
+#[tactic(auto, using(crate::proofs::TakenRows::none_more))]
+fn lengthen<A: Allocator>(partitions: &mut Taken<A>, parts: usize) -> Result<(), OutOfMemory>
+    ensures same { (number : ℕ) →
+        rows_taken_at partitions.new.items number ≡ rows_taken_at partitions.old.items number }
+    ensures long { OnOk result (parts ≤ vec_len partitions.new) }
+{
+    let missing = parts.saturating_sub(partitions.len());
+    partitions.reserve(missing)?;
+    for _ in 0..missing {
+        partitions.push(None)?;
+    }
+    Ok(())
+}
+
 /// Gives memory back that the partitions take for further rows.
-fn shrink_all<A: Allocator>(partitions: &mut [Partition<A>])
+fn shrink_all<A: Allocator>(partitions: &mut [Option<Box<Partition<A>, A>>])
     ensures { partitions.new ≡ partitions.old }
 {
-    for partition in partitions.iter_mut() {
-        partition.shrink_to_fit();
+    for taken in partitions.iter_mut() {
+        if let Some(partition) = taken {
+            partition.shrink_to_fit();
+        }
     }
 }

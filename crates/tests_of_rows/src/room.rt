@@ -62,13 +62,24 @@ fn each_partition_takes_its_room_or_all_are_refused(rt: HostRuntime) -> Result<(
 #[test]
 fn room_is_taken_for_so_many_rows_and_given_back(rt: HostRuntime) -> Result<(), Fail> {
     let heap = LocalHeap::new(rt.alloc(), 4_096)?;
-    let without = MorselRows::new(&heap, 3, 0)?;
-    let beside = heap.used();
-    drop(without);
+    let mut one = MorselRows::new(&heap, 3, 1)?;
+    let with_one = heap.used();
+    one.shrink_to_fit();
+    let without = heap.used();
+    drop(one);
     let mut rows = MorselRows::new(&heap, 3, 9)?;
-    let room = heap.used().saturating_sub(beside);
-    assert!(rt; room >= 3 * 9 * 16 && room <= 3 * 10 * 16, "{room}");
+    let room = heap.used().saturating_sub(with_one);
+    assert!(rt; room >= 3 * 8 * 16 && room <= 3 * 9 * 16, "{room}");
     rows.shrink_to_fit();
-    assert!(rt; heap.used() == beside);
+    assert!(rt; heap.used() == without);
+    Ok(())
+}
+
+/// Where no room is asked for, partitions take no memory before they have rows.
+#[test]
+fn a_partition_without_rows_takes_no_memory(rt: HostRuntime) -> Result<(), Fail> {
+    let heap = LocalHeap::new(rt.alloc(), 4_096)?;
+    let rows = MorselRows::new(&heap, 3, 0)?;
+    assert!(rt; heap.used() == 0 && are_three_without_orders(&rows));
     Ok(())
 }

@@ -1,5 +1,5 @@
 use Rattle.std.proofs.Common.{◌≡◌}
 use Rattle.morsel_rows.proofs.rows.shrink_all.Given as goal
 
-abbrev pub invariant-loop-partition : goal.invariant-loop-partition
-invariant-loop-partition g l = l.partitions ≡ l.initial.partitions
+abbrev pub invariant-loop-taken : goal.invariant-loop-taken
+invariant-loop-taken g l = l.partitions ≡ l.initial.partitions

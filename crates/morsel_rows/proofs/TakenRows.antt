@@ -1,0 +1,122 @@
+-- Partitions that have taken memory, and those that haven't, as callers see them.
+use Rattle.std.proofs.Common.{◌≡◌, ℕ, zero, suc, ◌<◌, ◌≤◌, ◌%◌, List, [], ◌∷◌, ◌++◌, length, map, Option, None, Some, Box, slice_get, slice_index_or, slice_set}
+use Rattle.std.proofs.Common.{refl, subst, sym, ap, ◌∙◌, arith}
+use Rattle.std.proofs.lemmas.List.{get_or-set_same, get_or-set_other}
+use Rattle.std.proofs.lemmas.List.FromFn.{get_or-map-range_with_len, length-map-range_with_len}
+use Rattle.std.proofs.lemmas.Option.{slice_get-get_or}
+use Rattle.std.proofs.lemmas.Nat.{mod_below}
+use Rattle.lists.specs.Least.{numbers_below}
+use Rattle.row_types.specs.declared.directory.DirectoryRow.{DirectoryRow}
+use Rattle.day_rows.specs.DayRows.{DayRows, no_rows}
+use Rattle.morsel_rows.specs.MoreRows.{BecomesJoined, with_partition}
+use Rattle.morsel_rows.specs.Partitions.{MorselRowsView, PartitionView, no_rows_in, partition_of}
+use Rattle.morsel_rows.specs.TakenPartitions.{partitions_seen, rows_of_taken, rows_taken_at}
+use Rattle.morsel_rows.proofs.JoinedInPartitions.{same_from_number, set_one}
+
+module _ {Z : Type 0} where
+  -- a place more, without a partition
+  pub none_more : (taken : List (Option (Box PartitionView Z))) (number : ℕ) → rows_taken_at (taken ++ None ∷ []) number ≡ rows_taken_at taken number
+  none_more [] zero = refl
+  none_more [] (suc number) = refl
+  none_more (one ∷ taken) zero = refl
+  none_more (one ∷ taken) (suc number) = none_more taken number
+
+  -- a partition more, without rows
+  pub room_more : (taken : List (Option (Box PartitionView Z))) (one : Box PartitionView Z) → ((number : ℕ) → rows_taken_at taken number ≡ no_rows_in)
+      → one.value ≡ no_rows_in → (number : ℕ) → rows_taken_at (taken ++ Some one ∷ []) number ≡ no_rows_in
+  room_more [] one all is zero = is
+  room_more [] one all is (suc number) = refl
+  room_more (first ∷ taken) one all is zero = all zero
+  room_more (first ∷ taken) one all is (suc number) = room_more taken one (λ k. all (suc k)) is number
+
+  -- where each number has no rows, the partitions of no rows are seen
+  pub none_seen : (n : ℕ) (taken : List (Option (Box PartitionView Z))) → ((number : ℕ) → rows_taken_at taken number ≡ no_rows_in)
+      → partitions_seen n taken ≡ map (partition_of n no_rows) (numbers_below n)
+  none_seen n taken all = same_from_number (rows_taken_at taken) (partition_of n no_rows) 0 n (λ number low. all number)
+
+  -- past the last place there are no rows
+  pub none_past : (taken : List (Option (Box PartitionView Z))) (number : ℕ) → length taken ≤ number → rows_taken_at taken number ≡ no_rows_in
+  none_past [] number past = refl
+  none_past (one ∷ taken) zero past = absurd (omega arith)
+  none_past (one ∷ taken) (suc number) past = none_past taken number (omega arith)
+
+  -- what stands at a place is its partition
+  pub taken_is : (taken : List (Option (Box PartitionView Z))) (number : ℕ) (here : Option (Box PartitionView Z)) → number < length taken
+      → here ≡ slice_index_or taken number here → rows_taken_at taken number ≡ rows_of_taken here
+  taken_is [] number here within is = absurd (omega arith)
+  taken_is (one ∷ taken) zero here within is = ap rows_of_taken (sym is)
+  taken_is (one ∷ taken) (suc number) here within is = taken_is taken number here (omega arith) is
+
+  -- what stands at a place may be put there again
+  pub set_same : (taken : List (Option (Box PartitionView Z))) (number : ℕ) (here : Option (Box PartitionView Z))
+      → here ≡ slice_index_or taken number here → slice_set taken number here ≡ taken
+  set_same [] number here is = refl
+  set_same (one ∷ taken) zero here is = ap (λ it. it ∷ taken) is
+  set_same (one ∷ taken) (suc number) here is = ap (λ rest. one ∷ rest) (set_same taken number here is)
+
+module _ {Z : Type 0} (n : ℕ) where
+  -- there are as many as there are to be
+  pub length_seen : (taken : List (Option (Box PartitionView Z))) → length (partitions_seen n taken) ≡ n
+  length_seen taken = length-map-range_with_len (rows_taken_at taken) 0 n
+
+  -- the one of this number
+  pub at_seen : (taken : List (Option (Box PartitionView Z))) (number : ℕ) (d : PartitionView) → number < n
+      → slice_index_or (partitions_seen n taken) number d ≡ rows_taken_at taken number
+  at_seen taken number d below = get_or-map-range_with_len (rows_taken_at taken) 0 n number number d below (omega arith)
+
+  pub get_seen : (taken : List (Option (Box PartitionView Z))) (number : ℕ) → number < n
+      → slice_get (partitions_seen n taken) number ≡ Some (rows_taken_at taken number)
+  get_seen taken number below =
+      slice_get-get_or (partitions_seen n taken) number no_rows_in (rw (length_seen taken) below) ∙ ap Some (at_seen taken number no_rows_in below)
+
+  -- where each number has the same rows, the same are seen
+  pub seen_same : (one other : List (Option (Box PartitionView Z)))
+      → ((number : ℕ) → rows_taken_at one number ≡ rows_taken_at other number) → partitions_seen n one ≡ partitions_seen n other
+  seen_same one other same = same_from_number (rows_taken_at one) (rows_taken_at other) 0 n (λ number low. same number)
+
+  -- one partition more or another one is seen at its number
+  pub seen_set : (taken : List (Option (Box PartitionView Z))) (number : ℕ) (one : Option (Box PartitionView Z)) → number < n → number < length taken
+      → partitions_seen n (slice_set taken number one) ≡ slice_set (partitions_seen n taken) number (rows_of_taken one)
+  seen_set taken number one below within =
+      let f = rows_taken_at taken in
+      let g = rows_taken_at (slice_set taken number one) in
+      let at : g number ≡ rows_of_taken one = ap rows_of_taken (get_or-set_same taken number one None within) in
+      sym (set_one f g 0 n number number below (omega arith) (λ b other. sym (ap rows_of_taken (get_or-set_other taken number b one None other))))
+      ∙ ap (slice_set (partitions_seen n taken) number) at
+
+-- where a partition changes by one row more at its number, the changed rows are those of all messages
+module _ {Z : Type 0} (key : ℕ) (more : DayRows) (change : PartitionView → PartitionView)
+    (joins : (items : List PartitionView) (breaks : List ℕ) (directory : List DirectoryRow) (number : ℕ) (old next : PartitionView)
+    → number ≡ key % length items → old ≡ slice_index_or items number old → next ≡ change old
+    → BecomesJoined more (record { partitions = items; breaks = breaks; directory = directory })
+    (record { partitions = slice_set items number next; breaks = breaks; directory = directory })) where
+  pub taken_joins : (n : ℕ) (taken : List (Option (Box PartitionView Z))) (breaks : List ℕ) (directory : List DirectoryRow) (number : ℕ) (next : PartitionView)
+      → 0 < n → number ≡ key % n → next ≡ change (rows_taken_at taken number)
+      → BecomesJoined more (record { partitions = partitions_seen n taken; breaks = breaks; directory = directory })
+      (record { partitions = slice_set (partitions_seen n taken) number next; breaks = breaks; directory = directory })
+  taken_joins n taken breaks directory number next some number_is next_is =
+      let below : number < n = rw number_is (mod_below key n some) in
+      joins (partitions_seen n taken) breaks directory number (rows_taken_at taken number) next
+      (number_is ∙ ap (λ k. key % k) (sym (length_seen n taken))) (sym (at_seen n taken number (rows_taken_at taken number) below)) next_is
+
+  -- in the place of the partition that was there
+  pub set_joins : (n : ℕ) (taken : List (Option (Box PartitionView Z))) (breaks : List ℕ) (directory : List DirectoryRow) (number : ℕ) (one : Box PartitionView Z)
+      → 0 < n → number ≡ key % n → number < length taken → one.value ≡ change (rows_taken_at taken number)
+      → BecomesJoined more (record { partitions = partitions_seen n taken; breaks = breaks; directory = directory })
+      (record { partitions = partitions_seen n (slice_set taken number (Some one)); breaks = breaks; directory = directory })
+  set_joins n taken breaks directory number one some number_is within one_is =
+      let below : number < n = rw number_is (mod_below key n some) in
+      subst (λ (l : List PartitionView). BecomesJoined more (record { partitions = partitions_seen n taken; breaks = breaks; directory = directory })
+      (record { partitions = l; breaks = breaks; directory = directory })) (sym (seen_set n taken number (Some one) below within))
+      (taken_joins n taken breaks directory number one.value some number_is one_is)
+
+  -- in the place of none
+  pub begun_joins : (n : ℕ) (taken : List (Option (Box PartitionView Z))) (breaks : List ℕ) (directory : List DirectoryRow) (number : ℕ) (old new : MorselRowsView)
+      → 0 < n → number ≡ key % n → rows_taken_at taken number ≡ no_rows_in
+      → record { partitions = partitions_seen n taken; breaks = breaks; directory = directory } ≡ old
+      → new ≡ with_partition number (change no_rows_in) old → BecomesJoined more old new
+  begun_joins n taken breaks directory number old new some number_is none old_is new_is =
+      let from : MorselRowsView = record { partitions = partitions_seen n taken; breaks = breaks; directory = directory } in
+      subst (λ (v : MorselRowsView). BecomesJoined more old v) (sym new_is)
+      (subst (λ (v : MorselRowsView). BecomesJoined more v (with_partition number (change no_rows_in) v)) old_is
+      (taken_joins n taken breaks directory number (change no_rows_in) some number_is (ap change (sym none))))
