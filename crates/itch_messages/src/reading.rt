@@ -1,7 +1,7 @@
 //! Reading a body.
 ghost use Rattle.std.specs.Prelude.{◌≡◌, ◌≤◌, ◌↔◌, Some, true, length, IsErr, IfErr, IfOk};
 ghost use Rattle.itch_messages.specs.Body.{add_of, broken_of, cross_of, directory_of, executed_at_of, executed_of, header_of, replace_of, trade_of};
-ghost use Rattle.itch_messages.specs.Body.{FitsMessage, has_wrong_length, length_fault_of, message_of, message_of_kind};
+ghost use Rattle.itch_messages.specs.Body.{FitsMessage, has_wrong_length, kind_of, length_fault_of, message_of, message_of_kind};
 ghost use Rattle.itch_messages.specs.Layout.{length_of};
 
 use crate::fields::{text_at, u8_at, u16_at, u32_at, u48_at, u64_at};
@@ -161,6 +161,17 @@ fn message(kind: u8, body: &[u8]) -> Message
     }
 }
 
+/// The type of a body, which is its first byte; 0, which is no type, of an empty one.
+#[inline(always)]
+pub fn kind_of(body: &[u8]) -> u8
+    ensures { result ≡ kind_of body.now }
+{
+    if body.is_empty() {
+        return 0;
+    }
+    body[0]
+}
+
 /// The message that a body is, by the table of TotalView-ITCH 5.0, section 1. An empty body is
 /// `Skipped`, and so is a body of another type, at any length. `LengthFault` comes if and only if
 /// the first byte is one of the nine types and the length is not that type's. Side, cross type,
@@ -172,10 +183,19 @@ pub fn read(body: &[u8]) -> Result<Message, LengthFault>
     ensures message { IfOk result (λ message. message ≡ message_of body.now) }
     ensures fits { IfOk result FitsMessage }
 {
-    if body.is_empty() {
-        return Ok(Message::Skipped);
-    }
-    let kind = body[0];
+    read_of_kind(kind_of(body), body)
+}
+
+/// The same of a body whose type is known. Where it is one of a few types that a caller tests first,
+/// each has code of its own, with no further test of the type.
+#[inline(always)]
+pub fn read_of_kind(kind: u8, body: &[u8]) -> Result<Message, LengthFault>
+    requires { kind ≡ kind_of body.now }
+    ensures fault { IsErr result ↔ (has_wrong_length body.now ≡ true) }
+    ensures told { IfErr result (λ fault. fault ≡ length_fault_of body.now) }
+    ensures message { IfOk result (λ message. message ≡ message_of body.now) }
+    ensures fits { IfOk result FitsMessage }
+{
     let length = body.len();
     match wanted_length(kind) {
         None => Ok(Message::Skipped),

@@ -2,6 +2,7 @@
 ghost use Rattle.std.specs.Prelude.{◌≡◌, ◌*◌, ◌<◌, ◌≤◌, ℕ, [], ◌∷◌, IfOk, OnErr, OnOk, Option};
 ghost use Rattle.lists.specs.declared.limits.TheConstants.{MOST_PARTITIONS};
 ghost use Rattle.day_file.specs.Placed.{placed_body};
+ghost use Rattle.itch_messages.specs.Body.{kind_of};
 ghost use Rattle.scanning.specs.Scans.{TakesIn, scan_of};
 ghost use Rattle.scanning.specs.declared.open_scan.TheConstants.{BYTES_AN_ORDER, MOST_AT_ONCE};
 
@@ -9,7 +10,7 @@ use crate::OutOfMemory;
 use crate::output::Scanned;
 use crate::wrong::{WrongLength, earlier};
 use day_file::Frame;
-use itch_messages::read;
+use itch_messages::{kind_of, read_of_kind};
 use lists::limits::MOST_PARTITIONS;
 use morsel_rows::MorselRows;
 use std::alloc::Global;
@@ -60,7 +61,47 @@ impl OpenScan {
         ensures taken { OnOk result (TakesIn as_of (placed_body frame.entry ∷ []) self.old self.new) }
         ensures unchanged { OnErr result (self.new ≡ self.old) }
     {
-        match read(frame.body) {
+        // Of these types are nearly all messages of a day, so each has code of its own, which tests the
+        // type once and reads only what its row has.
+        match kind_of(frame.body) {
+            b'A' => self.take_in_kind(b'A', as_of, frame),
+            b'D' => self.take_in_kind(b'D', as_of, frame),
+            b'E' => self.take_in_kind(b'E', as_of, frame),
+            b'F' => self.take_in_kind(b'F', as_of, frame),
+            b'U' => self.take_in_kind(b'U', as_of, frame),
+            b'X' => self.take_in_kind(b'X', as_of, frame),
+            kind => self.take_in_rare(kind, as_of, frame),
+        }
+    }
+
+    /// The same of a frame of any type.
+    #[inline(never)]
+    fn take_in_rare(
+        &mut self,
+        kind: u8,
+        as_of: Option<u32>,
+        frame: Frame<'_>,
+    ) -> Result<(), OutOfMemory>
+        requires { kind ≡ kind_of frame.entry.body.now }
+        ensures taken { OnOk result (TakesIn as_of (placed_body frame.entry ∷ []) self.old self.new) }
+        ensures unchanged { OnErr result (self.new ≡ self.old) }
+    {
+        self.take_in_kind(kind, as_of, frame)
+    }
+
+    /// The same of a frame whose type is known.
+    #[inline(always)]
+    fn take_in_kind(
+        &mut self,
+        kind: u8,
+        as_of: Option<u32>,
+        frame: Frame<'_>,
+    ) -> Result<(), OutOfMemory>
+        requires { kind ≡ kind_of frame.entry.body.now }
+        ensures taken { OnOk result (TakesIn as_of (placed_body frame.entry ∷ []) self.old self.new) }
+        ensures unchanged { OnErr result (self.new ≡ self.old) }
+    {
+        match read_of_kind(kind, frame.body) {
             Ok(message) => self.rows.add_counted(as_of, frame.place, &message)?,
             Err(fault) => {
                 let place = frame.place;

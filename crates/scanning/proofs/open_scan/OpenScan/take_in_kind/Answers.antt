@@ -2,7 +2,7 @@ use Rattle.std.proofs.Common.{refl, ap, ◌∙◌, subst}
 use Rattle.day_file.specs.Placed.{placed_body}
 use Rattle.day_rows.proofs.RowsOfFrames.{right_length}
 use Rattle.scanning.proofs.ScanOfFrames.{AddsCounted, passes, reads}
-use Rattle.scanning.proofs.open_scan.OpenScan.take_in.Goals as goal
+use Rattle.scanning.proofs.open_scan.OpenScan.take_in_kind.Goals as goal
 
 pub returns-in_ok-add_counted-in-Ok-clause-taken : goal.returns-in_ok-add_counted-in-Ok-clause-taken
 returns-in_ok-add_counted-in-Ok-clause-taken c n frames some most so_far =
