@@ -82,7 +82,7 @@ impl OpenScan {
         as_of: Option<u32>,
         frame: Frame<'_>,
     ) -> Result<(), OutOfMemory>
-        requires { kind ≡ kind_of frame.entry.body.now }
+        requires { kind ≡ kind_of frame.body.now }
         ensures taken { OnOk result (TakesIn as_of (placed_body frame.entry ∷ []) self.old self.new) }
         ensures unchanged { OnErr result (self.new ≡ self.old) }
     {
@@ -97,7 +97,7 @@ impl OpenScan {
         as_of: Option<u32>,
         frame: Frame<'_>,
     ) -> Result<(), OutOfMemory>
-        requires { kind ≡ kind_of frame.entry.body.now }
+        requires { kind ≡ kind_of frame.body.now }
         ensures taken { OnOk result (TakesIn as_of (placed_body frame.entry ∷ []) self.old self.new) }
         ensures unchanged { OnErr result (self.new ≡ self.old) }
     {
