@@ -1,5 +1,5 @@
 -- The rows of the partitions of morsels, with those of one morsel more.
-use Rattle.std.proofs.Common.{◌≡◌, ℕ, ◌+◌, ◌<◌, ◌≤◌, List, [], ◌∷◌, ◌++◌, Some, Bor, flat_map, get_or, length, map, take, sym, ap, ap₂, ◌∙◌}
+use Rattle.std.proofs.Common.{◌≡◌, true, ℕ, ◌+◌, ◌<◌, ◌≤◌, List, [], ◌∷◌, ◌++◌, Some, Bor, flat_map, get_or, length, map, take, sym, ap, ap₂, ◌∙◌}
 use Rattle.std.specs.Arc.{arc_value}
 use Rattle.std.specs.List.{slice_get}
 use Rattle.std.specs.declared.alloc.Global.{Global}
@@ -8,6 +8,7 @@ use Rattle.std.proofs.lemmas.List.{append-nil, get_or_past, take_more}
 use Rattle.std.proofs.lemmas.List.Concat.{flat_map-append}
 use Rattle.std.proofs.lemmas.Option.{get_or_from_slice_get}
 use Rattle.lists.proofs.Lists.{map_more}
+use Rattle.morsel_rows.specs.SameRows.{is_same_partition, same_partition}
 use Rattle.morsel_rows.specs.Partitions.{MorselRowsView, PartitionView, joined_partitions, no_rows_in, partition_at}
 use Rattle.buckets.specs.BucketRows.{rows_at, rows_of_parts}
 
@@ -64,4 +65,15 @@ module _ (number i : ℕ) (morsels : List (Arc MorselRowsView Global)) (d : Arc 
       before
       ∙ sym (morsel_more
       ∙ ap (with_rows (joined_partitions (rows_at number (take i morsels)))) (get_or_past (arc_value (get_or morsels i d)).partitions number no_rows_in past)
+      ∙ joined_none (joined_partitions (rows_at number (take i morsels))))
+
+  -- it has one without rows
+  pub part_empty : (parts : List (Bor PartitionView)) (part : PartitionView) → rows_of_parts parts ≡ joined_partitions (rows_at number (take i morsels))
+      → slice_get (arc_value (get_or morsels i d)).partitions number ≡ Some part → true ≡ is_same_partition part no_rows_in
+      → rows_of_parts parts ≡ joined_partitions (rows_at number (take (i + 1) morsels))
+  part_empty parts part before there empty =
+      before
+      ∙ sym (morsel_more
+      ∙ ap (with_rows (joined_partitions (rows_at number (take i morsels))))
+      (get_or_from_slice_get (arc_value (get_or morsels i d)).partitions number part no_rows_in there ∙ same_partition part no_rows_in (sym empty))
       ∙ joined_none (joined_partitions (rows_at number (take i morsels))))

@@ -11,7 +11,7 @@ use morsel_rows::{MorselRows, Partition};
 use std::alloc::Global;
 use std::sync::Arc;
 
-/// The partition of this number of each morsel that has one.
+/// The partition of this number of each morsel that has rows there.
 pub(crate) fn parts_of<'a>(
     alloc: Global,
     number: u32,
@@ -23,7 +23,9 @@ pub(crate) fn parts_of<'a>(
     let mut parts = Vec::with_capacity(alloc, morsels.len())?;
     for morsel in morsels {
         if let Some(part) = morsel.partition(number) {
-            parts.push(part)?;
+            if !is_empty(part) {
+                parts.push(part)?;
+            }
         }
     }
     Ok(parts)
