@@ -9,9 +9,9 @@ loop-table-preserved c =
     let now : Bor (List Bar) → List Bar = λ table. table.now in
     let tables = c.args.tables.now in
     let i = c.loop-table.table-index in
-    ap (map now) c.in_ok-push.ensures.items ∙ map_more now c.loop-table.lent.items c.table-item.result
+    ap (map now) c.in_ok-push.ensures.items ∙ map_more now c.loop-table.lent.items _
     ∙ ap₂ (λ l z. l ++ z ∷ []) c.loop-table.invariant c.table-item.is
-    ∙ sym (take_more tables i c.table-item.result.now c.loop-table-test.true)
+    ∙ sym (take_more tables i c.table-item.result c.loop-table-test.true)
 
 pub returns : goal.returns
 returns c = c.loop-table.invariant ∙ take_all c.loop-table.table-index c.args.tables.now c.loop-table-test.false

@@ -1,6 +1,6 @@
 use Rattle.std.proofs.Common.{Bor, List, ap, map, sym, subst, ◌∙◌}
 use Rattle.std.proofs.lemmas.Result.{IfOk-weaker}
-use Rattle.bars.specs.Bars.{AllSumsFit, AreBarsOf, AreBarsOfEach, all_bars, all_sales}
+use Rattle.bars.specs.Bars.{AllSumsFit, AreBarsOfEach, all_bars}
 use Rattle.bars.specs.declared.bar.Bar.{Bar}
 use Rattle.rehearsals.proofs.joined.merged.Goals as goal
 

@@ -9,8 +9,8 @@ use Rattle.joining.specs.Gathered.{table_of}
 use Rattle.joining.proofs.ProductsJoined.{on_ok, tables_are, tables_sums, times_fit}
 use Rattle.rehearsals.proofs.joined.text_of_tables.Goals as goal
 
-pub merge_all-requires : goal.merge_all-requires
-merge_all-requires c =
+pub merged-requires : goal.merged-requires
+merged-requires c =
     let told = c.in_ok-tables.ensures.tables ∙ ap (λ l. filter_map table_of (map arc_value l)) c.deref.ensures.value in
     record {
       sums = subst (λ (l : List (Bor (List Bar))). AllSumsFit (all_bars (map (λ t. t.now) l))) (sym c.deref-2.ensures.value)
