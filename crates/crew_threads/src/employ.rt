@@ -10,22 +10,21 @@ use crate::gatherers::{Gatherer, channel_of};
 use crate::port::ChannelPort;
 use crate::worker::work;
 use crossbeam_channel::Sender;
-use dispatcher::{Claim, Dispatcher, Seat};
-use gathering::{Gathering, Inputs, OutOfMemory, Piece, Work};
+use dispatcher::{Dispatcher, Seat};
+use gathering::{Inputs, Piece, Work};
 use std::alloc::Global;
 use std::sync::{Arc, Wait};
 use std::thread::{Scope, Threads};
 
 /// Starts the workers of a pipeline, each with a seat of its own. One that can't be started is done
 /// without. The caller's thread receives from the channel that is given, and each other gatherer has its
-/// own. If the pipeline began with pieces, `begun` has them.
+/// own.
 pub(crate) fn start_workers<'s, E, W: Work + 's, G: Gate, R: Threads + Wait + Sync>(
     scope: &Scope<'s, E>,
     rt: &'s R,
     alloc: Global,
     inputs: &Arc<Inputs<W>, Global>,
     workers: u32,
-    begun: Option<&Gathering<W>>,
     own: Sender<Piece<W>>,
     others: &Vec<Gatherer<W>>,
     gate: &'s G,
@@ -34,7 +33,7 @@ pub(crate) fn start_workers<'s, E, W: Work + 's, G: Gate, R: Threads + Wait + Sy
     requires some_task { 0 < length (arc_value inputs.now) }
     requires workers { (0 < workers) × (workers ≤ MOST_WORKERS) }
 {
-    let Ok((dispatcher, mut seats)) = dispatcher_of(alloc, inputs.count(), workers, begun) else {
+    let Ok((dispatcher, mut seats)) = Dispatcher::new(alloc, inputs.count(), workers) else {
         return;
     };
     let Ok(dispatcher) = Arc::new(alloc, dispatcher) else {
@@ -53,52 +52,6 @@ pub(crate) fn start_workers<'s, E, W: Work + 's, G: Gate, R: Threads + Wait + Sy
             gate,
             pipeline,
         );
-    }
-}
-
-/// A dispatcher, and a seat for each worker. If the pipeline began with pieces, the caller has a seat too,
-/// which was given each task for the first time.
-fn dispatcher_of<W: Work>(
-    alloc: Global,
-    tasks: u32,
-    workers: u32,
-    begun: Option<&Gathering<W>>,
-) -> Result<(Dispatcher, Vec<Seat>), OutOfMemory>
-    requires tasks { (0 < tasks) × (tasks ≤ MOST_TASKS) }
-    requires workers { (0 < workers) × (workers ≤ MOST_WORKERS) }
-    ensures tasks { IfOk result (λ r. tasks_of r.0 ≡ tasks) }
-    ensures own { IfOk result (λ r. All (IsSeatOf r.0) r.1.items) }
-    ensures unused { IfOk result (λ r. All IsUnused r.1.items) }
-{
-    let Some(gathering) = begun else {
-        return Dispatcher::new(alloc, tasks, workers);
-    };
-    let (dispatcher, mut seats) = Dispatcher::new(alloc, tasks, workers + 1)?;
-    if let Some(mut seat) = seats.pop() {
-        mark_covered(&dispatcher, &mut seat, tasks, gathering);
-    }
-    Ok((dispatcher, seats))
-}
-
-/// Claims each task once, before any worker does, and marks those that are covered: workers pass over
-/// them.
-fn mark_covered<W: Work>(
-    dispatcher: &Dispatcher,
-    seat: &mut Seat,
-    tasks: u32,
-    gathering: &Gathering<W>,
-)
-    requires own { IsSeatOf dispatcher.now seat.old }
-    requires unused { IsUnused seat.old }
-    ensures { All (λ task. set.contains gathering.now.covered task ≡ true) (marked_tasks seat.new) }
-{
-    for _ in 0..tasks {
-        let Claim::Task { claim: _, task } = dispatcher.claim(seat) else {
-            return;
-        };
-        if gathering.covers(task) {
-            dispatcher.mark(seat, task);
-        }
     }
 }
 

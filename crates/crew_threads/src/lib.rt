@@ -3,12 +3,8 @@
 //! Workers claim tasks of a dispatcher, run them and send the pieces to gatherers, of which the
 //! caller's thread is the first. The caller runs itself what no worker brought. Neither the crew nor the
 //! schedule of its threads changes the total.
-//!
-//! Where inputs become known one after another, workers can run their tasks before all are there
-//! (`run_ahead`). The pipeline then begins with their pieces.
 #![tactic(auto)]
 
-mod ahead;
 mod employ;
 mod gate;
 mod gatherers;
@@ -17,7 +13,6 @@ mod port;
 mod runs;
 mod worker;
 
-pub use ahead::{Task, run_ahead};
 pub use gate::{FreeGate, Gate};
 pub use gatherers::{
     Gatherer, channel_of, gather_all, gather_until_covered, merge_all, start_gatherers,

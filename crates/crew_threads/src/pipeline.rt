@@ -12,14 +12,10 @@ use std::alloc::{AllocError, Global};
 use std::sync::{Arc, Wait};
 use std::thread::{Scope, Threads};
 
-/// The total of all inputs of one pipeline, which begins with the pieces of tasks that were run ahead, in
-/// whatever order, repeated or not; one of other work is dropped. If a task is missing then, it starts
-/// the crew's workers on threads of their own. The crew's gatherers gather: the caller's thread, and if
-/// there are more each on a thread of its own. A worker sends its pieces to the gatherer of its number
-/// modulo theirs. The caller's thread runs itself the tasks whose pieces no worker brought.
-///
-/// Where there are pieces, a task's first giving was its run ahead, whether or not that brought a piece:
-/// workers are given the missing tasks once, and otherwise each task twice.
+/// The total of all inputs of one pipeline. It starts the crew's workers on threads of their own, if there
+/// is a task. The crew's gatherers gather: the caller's thread, and if there are more each on a thread of its
+/// own. A worker sends its pieces to the gatherer of its number modulo theirs. The caller's thread runs itself
+/// the tasks whose pieces no worker brought.
 ///
 /// With one gatherer the pipeline is done as soon as all tasks are covered, whatever a slow worker still
 /// holds. With several it waits until all workers have ended, and then merges what was gathered.
@@ -32,7 +28,6 @@ pub fn run_pipeline<'s, E, W: Work + 's, G: Gate, R: Threads + Wait + Sync>(
     rt: &'s R,
     alloc: Global,
     inputs: Arc<Inputs<W>, Global>,
-    pieces: Vec<Piece<W>>,
     crew: Crew,
     gate: &'s G,
     pipeline: u8,
@@ -41,11 +36,7 @@ pub fn run_pipeline<'s, E, W: Work + 's, G: Gate, R: Threads + Wait + Sync>(
     ensures admissible { OnOk result (W.IsAdmissible (arc_value inputs)) }
 {
     let mut gathering = Gathering::new(alloc, Arc::try_clone(&inputs)?)?;
-    let is_begun = !pieces.is_empty();
-    for piece in pieces {
-        let _ = gathering.file(piece);
-    }
-    if gathering.first_missing().is_some() {
+    if inputs.count() > 0 {
         gather(
             scope,
             rt,
@@ -53,7 +44,6 @@ pub fn run_pipeline<'s, E, W: Work + 's, G: Gate, R: Threads + Wait + Sync>(
             &inputs,
             crew,
             &mut gathering,
-            is_begun,
             gate,
             pipeline,
         );
@@ -82,7 +72,7 @@ fn complete<W: Work, G: Gate>(
     }
 }
 
-/// Gathers what the crew's workers bring. The pipeline may have begun with the pieces that are gathered.
+/// Gathers what the crew's workers bring.
 fn gather<'s, E, W: Work + 's, G: Gate, R: Threads + Wait + Sync>(
     scope: &Scope<'s, E>,
     rt: &'s R,
@@ -90,7 +80,6 @@ fn gather<'s, E, W: Work + 's, G: Gate, R: Threads + Wait + Sync>(
     inputs: &Arc<Inputs<W>, Global>,
     crew: Crew,
     gathering: &mut Gathering<W>,
-    is_begun: bool,
     gate: &'s G,
     pipeline: u8,
 )
@@ -107,7 +96,6 @@ fn gather<'s, E, W: Work + 's, G: Gate, R: Threads + Wait + Sync>(
         alloc,
         inputs,
         crew.workers,
-        if is_begun { Some(&*gathering) } else { None },
         to,
         &others,
         gate,

@@ -9,9 +9,9 @@ pub mod laws;
 mod outcome;
 mod pair;
 
-pub use crew_threads::{Crew, FreeGate, Gate, KeepingPort, Port, Task, run_ahead, work};
+pub use crew_threads::{Crew, FreeGate, Gate, KeepingPort, Port, work};
 pub use dispatcher::{Dispatcher, Seat};
 pub use gathering::{Gathering, Inputs, OutOfMemory, Piece, Work};
 pub use links::{Link, Linked};
 pub use outcome::{Held, Outcome};
-pub use pair::{run_pair, run_pair_holding, run_second, run_second_holding, total_of_pieces};
+pub use pair::{run_first, run_pair, run_pair_holding, run_second, run_second_holding};

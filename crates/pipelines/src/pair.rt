@@ -6,7 +6,7 @@ ghost use Rattle.pipelines.specs.Outcomes.{IsOutcome};
 
 use crate::outcome::{Held, Outcome};
 use crew_threads::{Crew, Gate, run_pipeline};
-use gathering::{Inputs, OutOfMemory, Piece, Work};
+use gathering::{Inputs, OutOfMemory, Work};
 use links::{Link, Linked};
 use std::alloc::Global;
 use std::sync::{Arc, Wait};
@@ -61,24 +61,19 @@ pub fn run_pair_holding<A: Work, B: Work, L: Link<A, B>, G: Gate, R: Threads + W
             ensures { IfOk result (λ held.
                 IsOutcome (A.IsTotalOf (arc_value inputs)) (L.Links link.entry.now) B.IsTotalOf held.outcome) }
         {
-            let total = run_pipeline(scope, rt, alloc, inputs, Vec::new(alloc), crew, gate, 1)?;
+            let total = run_pipeline(scope, rt, alloc, inputs, crew, gate, 1)?;
             go_on(scope, rt, alloc, total, link, crew, gate, none)
         },
     )
 }
 
-/// The total of all inputs of one pipeline, some of whose tasks were run ahead: these are their pieces,
-/// in whatever order, repeated or not. One of other work is dropped. The tasks that no piece covers are
-/// run by the crew, as `run_pair` runs those of a pipeline, but each is given to a worker once: its first
-/// giving was its run ahead. If there is no piece at all, it is given twice.
-pub fn total_of_pieces<W: Work, G: Gate, R: Threads + Wait + Sync>(
+/// Runs the first pipeline alone, as `run_pair` does, and gives the total of all inputs.
+pub fn run_first<W: Work, G: Gate, R: Threads + Wait + Sync>(
     rt: &R,
     alloc: Global,
     inputs: &Arc<Inputs<W>, Global>,
-    pieces: Vec<Piece<W>>,
     crew: Crew,
     gate: &G,
-    pipeline: u8,
 ) -> Result<W::Total, OutOfMemory>
     ensures total { IfOk result (λ total. W.IsTotalOf (arc_value inputs.now) total) }
     ensures admissible { OnOk result (W.IsAdmissible (arc_value inputs.now)) }
@@ -91,7 +86,7 @@ pub fn total_of_pieces<W: Work, G: Gate, R: Threads + Wait + Sync>(
             ensures admissible { OnOk result (W.IsAdmissible (arc_value inputs.entry.now)) }
         {
             let inputs = Arc::try_clone(inputs)?;
-            run_pipeline(scope, rt, alloc, inputs, pieces, crew, gate, pipeline)
+            run_pipeline(scope, rt, alloc, inputs, crew, gate, 1)
         },
     )
 }
@@ -160,7 +155,7 @@ fn go_on<'s, E, A: Work, B: Work + 's, L: Link<A, B>, G: Gate, R: Threads + Wait
         Linked::Next { inputs, kept } => {
             let inputs = Arc::new(alloc, inputs)?;
             let shared = Arc::try_clone(&inputs)?;
-            let total = run_pipeline(scope, rt, alloc, shared, Vec::new(alloc), crew, gate, 2)?;
+            let total = run_pipeline(scope, rt, alloc, shared, crew, gate, 2)?;
             Ok(Held {
                 outcome: Outcome::Finished { total, kept },
                 inputs: Some(inputs),

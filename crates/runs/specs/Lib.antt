@@ -3,4 +3,4 @@ pub mod Runs
 pub mod FirstPipeline
 pub mod LinkedBlocks
 pub mod Sources
-pub mod CutRead
+pub mod Streamed

@@ -1,9 +1,9 @@
 //! The calls that answer a query, each in a module below this one: a module and an item next to it can't
 //! have the same name.
-pub(crate) mod ahead;
 pub(crate) mod answer;
 pub(crate) mod block_link;
 pub(crate) mod ends;
 pub(crate) mod first_pipeline;
 pub(crate) mod run;
 pub(crate) mod run_blocks;
+pub(crate) mod stream;

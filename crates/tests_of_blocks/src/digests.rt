@@ -5,7 +5,7 @@ ghost use Rattle.lists.specs.declared.limits.TheConstants.{LONGEST_FILE};
 use block_scan::{BlockSource, BlocksFault, Division, OutOfMemory, block_inputs};
 use lists::limits::LONGEST_FILE;
 use morsel_rows::{MorselRows, Partition};
-use pipelines::{Crew, FreeGate, total_of_pieces};
+use pipelines::{Crew, FreeGate, run_first};
 use scanning::ScanTotal;
 use std::alloc::Global;
 use std::sync::{Arc, Wait};
@@ -124,8 +124,7 @@ pub fn told_by_blocks<R: Threads + Wait + Sync, S: BlockSource + Send + Sync>(
         workers: division.blocks.clamp(1, 64),
         gatherers: 1,
     };
-    let pieces = Vec::new(alloc);
-    let attempts = total_of_pieces(rt, alloc, &inputs, pieces, crew, &FreeGate, 1)?;
+    let attempts = run_first(rt, alloc, &inputs, crew, &FreeGate)?;
     let total = attempts.join(alloc)?;
     Ok(digest_of_total(alloc, total)?)
 }

@@ -227,8 +227,8 @@ fn each_worker_has_its_gatherer(rt: HostRuntime) -> Result<(), Fail> {
     })
 }
 
-/// As if no thread, no seat or no dispatcher could be had, of a pipeline that begins with nothing, or with
-/// the piece of its first task.
+/// As if no thread, no seat or no dispatcher could be had, where nothing was gathered, or the piece of the
+/// first task.
 #[test]
 fn no_worker_is_left(rt: HostRuntime) -> Result<(), Fail> {
     let alloc = rt.alloc();

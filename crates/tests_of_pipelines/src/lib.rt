@@ -5,9 +5,9 @@
 #[cfg(test)]
 mod additions;
 #[cfg(test)]
-mod ahead;
-#[cfg(test)]
 mod event_lists;
+#[cfg(test)]
+mod first;
 #[cfg(test)]
 mod gatherers;
 #[cfg(test)]

@@ -5,7 +5,7 @@ use crate::gatherers::piece_of;
 use crate::link::OneAndTwo;
 use crate::threads::TWO;
 use linked_list_allocator::LocalHeap;
-use pipelines::{Crew, FreeGate, OutOfMemory, Outcome, run_pair, total_of_pieces};
+use pipelines::{Crew, FreeGate, OutOfMemory, Outcome, run_first, run_pair};
 use schedules::{Event, Rehearsed, rehearse_pair, rehearse_pipeline};
 use std::alloc::Global;
 use std::sync::{Arc, Wait};
@@ -181,18 +181,15 @@ fn sums_or_want_of_memory(rt: HostRuntime) -> Result<(), Fail> {
     Ok(())
 }
 
-/// The sum of 1, 2 and 4, where the pipeline begins with the piece of its second task.
-fn sum_of_pieces<R: Threads + Wait + Sync>(rt: &R, alloc: Global) -> Result<u128, OutOfMemory> {
-    let watch = Watch::shared(alloc)?;
-    let inputs = shared_inputs_of(alloc, &watch, &[1, 2, 4])?;
-    let mut pieces = Vec::new(alloc);
-    pieces.push(piece_of(alloc, &watch, 1, 2)?)?;
-    total_of_pieces(rt, alloc, &inputs, pieces, TWO, &FreeGate, 1)
+/// The sum of 1, 2 and 4, by the first pipeline alone.
+fn sum_of_one<R: Threads + Wait + Sync>(rt: &R, alloc: Global) -> Result<u128, OutOfMemory> {
+    let inputs = shared_inputs_of(alloc, &Watch::shared(alloc)?, &[1, 2, 4])?;
+    run_first(rt, alloc, &inputs, TWO, &FreeGate)
 }
 
 /// Run also with each allocation and each thread of the process refused in turn.
 #[test]
-fn sum_of_pieces_or_want_of_memory(rt: HostRuntime) -> Result<(), Fail> {
-    assert!(rt; sum_of_pieces(&rt, rt.alloc())? == 7);
+fn one_sum_or_want_of_memory(rt: HostRuntime) -> Result<(), Fail> {
+    assert!(rt; sum_of_one(&rt, rt.alloc())? == 7);
     Ok(())
 }

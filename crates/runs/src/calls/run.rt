@@ -5,24 +5,20 @@ ghost use Rattle.runs.specs.Readings.{of_stream};
 ghost use Rattle.runs.specs.Runs.{Ran, is_read_failed, is_write_failed};
 ghost use Rattle.runs.specs.Sources.{IsAnswered, IsSourceRefusal};
 
-use crate::OutOfMemory;
-use crate::calls::ahead::{ScannedCut, read_scanned};
 use crate::calls::answer::answer_scans;
 use crate::calls::ends::{hand_over, query_of};
+use crate::calls::stream::scan_source;
 use answers::{Answer, DayFault};
 use outcomes::{RunFault, Settings};
-use pipelines::{FreeGate, total_of_pieces};
 use query::Query;
-use scanning::scan_inputs;
 use sinks::Sink;
 use std::alloc::{AllocError, Global};
-use std::sync::{Arc, Wait};
-use std::thread;
+use std::sync::Wait;
 use std::thread::Threads;
 use streaming::{CutReadFault, Source};
 
-/// Reads a whole day file from a source and cuts it into morsels meanwhile, which threads scan as
-/// soon as they are cut. Threads then find the answer to the query, which is written to a sink.
+/// Reads a whole day file from a source, batch by batch, and cuts it into morsels, which threads scan
+/// while the next batch is read. Threads then find the answer to the query, which is written to a sink.
 /// Nothing is written until only the sink can still refuse. After a refusal the source may have
 /// been read in part. It waits for the threads.
 pub fn run<R: Threads + Wait + Sync, S: Source, K: Sink>(
@@ -61,9 +57,14 @@ fn answer_source<R: Threads + Wait + Sync, S: Source>(
         (of_stream S.Gave S.HasEnded settings.limit settings.morsel source.old source.new) settings.limit) }
     ensures read_failed { S.has_failed source.new ≡ is_read_failed result }
 {
-    let limit = settings.limit;
-    let scanned = match read_scanned(rt, alloc, source, query.as_of, settings) {
-        Ok(scanned) => scanned,
+    let Settings {
+        crew,
+        parts,
+        limit,
+        ..
+    } = settings;
+    let total = match scan_source(rt, alloc, source, query.as_of, settings) {
+        Ok(total) => total,
         Err(CutReadFault::ReadFailed) => return Err(RunFault::ReadFailed),
         Err(CutReadFault::TooLong) => return Err(RunFault::TooLong { limit }),
         Err(CutReadFault::Truncated { place }) => {
@@ -72,34 +73,8 @@ fn answer_source<R: Threads + Wait + Sync, S: Source>(
         Err(CutReadFault::TooManyMorsels) => return Err(RunFault::TooManyMorsels),
         Err(CutReadFault::OutOfMemory) => return Err(RunFault::OutOfMemory),
     };
-    match answer_cut(rt, alloc, scanned, query, settings) {
+    match answer_scans(rt, alloc, total, query, parts, crew) {
         Ok(answer) => Ok(answer),
         Err(AllocError) => Err(RunFault::OutOfMemory),
     }
-}
-
-/// The answer to a query over a cut day file, by the scans of its morsels; those that aren't there the
-/// crew does first. The bytes are freed on a thread of its own meanwhile, or by the caller if none can be
-/// made.
-fn answer_cut<R: Threads + Wait + Sync>(
-    rt: &R,
-    alloc: Global,
-    scanned: ScannedCut,
-    query: &Query,
-    settings: Settings,
-) -> Result<Answer, OutOfMemory>
-    ensures { IfOk result (λ answer. IsAnswer (concat scanned.cut) query.now (told_by answer)) }
-{
-    let Settings { crew, parts, .. } = settings;
-    let ScannedCut { cut, scans } = scanned;
-    let inputs = Arc::new(alloc, scan_inputs(alloc, &cut, query.as_of, parts)?)?;
-    drop(cut);
-    let total = total_of_pieces(rt, alloc, &inputs, scans, crew, &FreeGate, 1)?;
-    // (without a thread, what it was to free is let go with the error)
-    let freeing = thread::spawn(rt, move || drop(inputs)).ok();
-    let answer = answer_scans(rt, alloc, total, query, parts, crew);
-    if let Some(freeing) = freeing {
-        freeing.join(rt);
-    }
-    answer
 }

@@ -1,0 +1,94 @@
+//! A source that is read batch by batch, while threads scan the batch before.
+ghost use Rattle.std.specs.Prelude.{◌≡◌, ◌<◌, ◌≤◌, ◌+◌, ◌↔◌, All, length, false, true, IfErr, IfOk, IsErrOf, OnOk};
+ghost use Rattle.std.specs.List.{concat};
+ghost use Rattle.lists.specs.declared.limits.TheConstants.{LONGEST_FILE, MOST_MORSELS};
+ghost use Rattle.day_file.specs.Cuts.{AreBytes, IsRun};
+ghost use Rattle.scanning.specs.Scans.{inputs_from, total_of};
+ghost use Rattle.streaming.specs.Streams.{IsReadFault};
+ghost use Rattle.runs.specs.Streamed.{IsBatchRead, IsScanOfAll, IsScanOfBatch};
+
+use crate::OutOfMemory;
+use outcomes::Settings;
+use pipelines::{FreeGate, run_first};
+use scanning::{ScanTotal, batch_inputs};
+use std::alloc::Global;
+use std::sync::{Arc, Wait};
+use std::thread::{Threads, join_mut};
+use streaming::{Batch, BatchReader, CutReadFault, Source};
+
+/// What the scans of all that a source gives add up to. It is cut as `read_cut` cuts it, but batch by
+/// batch: the morsels of one are the tasks of a pipeline, while the caller reads the next one. So no more
+/// than two batches are in memory, and no bytes of those before. It waits for the threads.
+pub(crate) fn scan_source<R: Threads + Wait + Sync, S: Source>(
+    rt: &R,
+    alloc: Global,
+    source: &mut S,
+    as_of: Option<u32>,
+    settings: Settings,
+) -> Result<ScanTotal, CutReadFault>
+    requires source { S.has_failed source.old ≡ false }
+    ensures scanned { IfOk result (IsScanOfAll S.Gave S.HasEnded settings.limit settings.morsel
+        as_of settings.parts source.old source.new) }
+    ensures fault { IfErr result
+        (IsReadFault S.Gave S.HasEnded settings.limit settings.morsel source.old source.new) }
+    ensures failed { IsErrOf result CutReadFault.ReadFailed ↔ (S.has_failed source.new ≡ true) }
+{
+    let mut reader = BatchReader::new(alloc, settings.limit, settings.morsel)?;
+    let mut total = ScanTotal::empty(alloc);
+    let mut batch = reader.next_batch(source)?;
+    while !batch.is_last {
+        let (scans, next) = scan_and_read(rt, alloc, &batch, as_of, &settings, &mut reader, source);
+        batch = next?;
+        total.append(scans?)?;
+    }
+    total.append(scan(rt, alloc, &batch, as_of, &settings)?)?;
+    Ok(total)
+}
+
+/// Scans a batch on threads of its own, while the caller's thread reads the next one.
+fn scan_and_read<R: Threads + Wait + Sync, S: Source>(
+    rt: &R,
+    alloc: Global,
+    batch: &Batch,
+    as_of: Option<u32>,
+    settings: &Settings,
+    reader: &mut BatchReader,
+    source: &mut S,
+) -> (Result<ScanTotal, OutOfMemory>, Result<Batch, CutReadFault>)
+    requires source { S.has_failed source.old ≡ false }
+    requires within { batch.now.start + length (concat batch.now.cut) ≤ LONGEST_FILE }
+    requires few { batch.now.first + length batch.now.cut ≤ MOST_MORSELS }
+    ensures scans { IfOk result.0 (IsScanOfBatch as_of settings.now.parts batch.now) }
+    ensures next { IsBatchRead S.Gave S.HasEnded S.has_failed source.old source.new
+        reader.old reader.new result.1 }
+{
+    let mut scan = || -> Result<ScanTotal, OutOfMemory>
+        requires { (batch.now.start + length (concat batch.now.cut) ≤ LONGEST_FILE)
+            × (batch.now.first + length batch.now.cut ≤ MOST_MORSELS) }
+        ensures { IfOk result (IsScanOfBatch as_of settings.entry.now.parts batch.entry.now) }
+    { scan(rt, alloc, batch, as_of, settings) };
+    let mut read = || -> Result<Batch, CutReadFault>
+        requires { S.has_failed source.now ≡ false }
+        ensures { IsBatchRead S.Gave S.HasEnded S.has_failed source.entry.now source.exit.now
+            reader.entry.now reader.exit.now result }
+    { reader.next_batch(source) };
+    join_mut(rt, &mut scan, &mut read)
+}
+
+/// What the scans of a batch add up to: its morsels are the tasks of a pipeline.
+fn scan<R: Threads + Wait + Sync>(
+    rt: &R,
+    alloc: Global,
+    batch: &Batch,
+    as_of: Option<u32>,
+    settings: &Settings,
+) -> Result<ScanTotal, OutOfMemory>
+    requires within { batch.now.start + length (concat batch.now.cut) ≤ LONGEST_FILE }
+    requires few { batch.now.first + length batch.now.cut ≤ MOST_MORSELS }
+    ensures { IfOk result (IsScanOfBatch as_of settings.now.parts batch.now) }
+{
+    let Settings { crew, parts, .. } = *settings;
+    let inputs = batch_inputs(alloc, &batch.cut, batch.first, batch.start, as_of, parts)?;
+    let inputs = Arc::new(alloc, inputs)?;
+    run_first(rt, alloc, &inputs, crew, &FreeGate)
+}

@@ -1,0 +1,45 @@
+//! The first pipeline alone.
+use crate::gatherers::{Order, Run, TWO_AND_TWO};
+use crate::threads::{Ledger, ONE, TWO, counts};
+use pipelines::{FreeGate, run_first};
+use std::test::Fail;
+use tests_works::{NUMBERS, Watch, shared_inputs_of};
+
+#[test]
+fn one_pipeline_gives_each_task_to_a_worker(rt: HostRuntime) -> Result<(), Fail> {
+    let alloc = rt.alloc();
+    let watch = Watch::shared(alloc)?;
+    let gate = Ledger::new(alloc, &watch)?;
+    let inputs = shared_inputs_of(alloc, &watch, &NUMBERS)?;
+    assert!(rt; run_first(&rt, alloc, &inputs, ONE, &gate)? == 255);
+    assert!(rt; !gate.heard_wrong() && gate.tasks(1, 0) == [1; 8]);
+    assert!(rt; gate.tasks(1, 1) == [0; 8] && gate.tasks(1, 2) == [0; 8]);
+    assert!(rt; watch.runs() == 8);
+    assert!(rt; counts(&gate.done) == [1, 0] && counts(&gate.all_when_done) == [8, 0]);
+    Ok(())
+}
+
+/// Two of the tasks, each held until the other begins.
+const TOGETHER: [(Run, Run); 2] = [((1, 1, 0), (1, 2, 0)), ((1, 2, 0), (1, 1, 0))];
+
+#[test]
+fn workers_share_one_pipeline(rt: HostRuntime) -> Result<(), Fail> {
+    let alloc = rt.alloc();
+    for crew in [TWO, TWO_AND_TWO] {
+        let watch = Watch::shared(alloc)?;
+        let gate = Order::new(&TOGETHER);
+        let inputs = shared_inputs_of(alloc, &watch, &NUMBERS)?;
+        assert!(rt; run_first(&rt, alloc, &inputs, crew, &gate)? == 255);
+        assert!(rt; gate.rounds()[0] == 8 && !gate.gave_up());
+    }
+    Ok(())
+}
+
+#[test]
+fn no_inputs_have_a_total(rt: HostRuntime) -> Result<(), Fail> {
+    let alloc = rt.alloc();
+    let watch = Watch::shared(alloc)?;
+    let inputs = shared_inputs_of(alloc, &watch, &[])?;
+    assert!(rt; run_first(&rt, alloc, &inputs, ONE, &FreeGate)? == 0);
+    Ok(())
+}
