@@ -48,8 +48,9 @@ impl<R: Wait> Sending<'_, R> {
         ensures input { IfOk result (λ task. arc_value task.input ≡
             record { morsel = arc_value morsel.now; as_of = self.now.as_of; parts = self.now.parts }) }
     {
+        let (place, start) = (morsel.number(), morsel.start());
         let morsel = Arc::try_clone(morsel)?;
-        let input = ScanInput::of(morsel, self.as_of, self.parts);
+        let input = ScanInput::of(morsel, place, start, self.as_of, self.parts);
         let input = Arc::new(self.alloc, input)?;
         Ok(Task { number, input })
     }
