@@ -8,7 +8,7 @@ use Rattle.itch_messages.specs.Body.{is_skipped, message_of}
 use Rattle.itch_messages.specs.declared.message.Message.{Message}
 use Rattle.itch_messages.specs.declared.message.Message.TheVariants.{Add, Executed, ExecutedAt, Replace, Trade, Cross, Broken, Directory, Skipped}
 use Rattle.itch_messages.proofs.Sizes.{size_of, size_of-message_of}
-use Rattle.day_file.specs.Frames.{PlacedBody, StandsFor, spelling}
+use Rattle.day_file.specs.Frames.{PlacedBody, StandsFrom, spelling}
 use Rattle.day_file.proofs.Readings.{length-spelling}
 use Rattle.row_types.specs.declared.trade.Kind.TheVariants.{C}
 use Rattle.row_types.specs.declared.trade.Sale.{Sale}
@@ -71,8 +71,8 @@ room (frame ∷ frames) =
     ∙ length-append (option_to_list (own_priced_at frame.place (message_of frame.body))) (own_priced_sales (messages_of frames)) in
     omega (arith, more, here, first, second, length-spelling frame frames)
 
--- so a file has few of them, and no more that count
-pub few_trades : (as_of : Option ℕ) (bytes : List ℕ) (frames : List PlacedBody) → StandsFor frames bytes → length bytes ≤ 2 ^ 36
+-- so a file has few of them, and no more that count; nor does a part of it
+pub few_trades : {start : ℕ} (as_of : Option ℕ) (bytes : List ℕ) (frames : List PlacedBody) → StandsFrom start frames bytes → length bytes ≤ 2 ^ 36
     → length (executions (counted as_of (messages_of frames))) + length (own_priced_sales (counted as_of (messages_of frames))) < 2 ^ 31
 few_trades as_of bytes frames stands within =
     let all = room frames in

@@ -1,5 +1,5 @@
 -- The buckets that a plan has are those that the total is linked to.
-use Rattle.std.proofs.Common.{◌≡◌, ℕ, ◌≤◌, All, List, [], ◌∷◌, ◌++◌, Option, flat_map, map, refl, sym, ap, ap₂, ◌∙◌, subst, ⊎_elim}
+use Rattle.std.proofs.Common.{◌≡◌, ℕ, ◌≤◌, All, arith, List, [], ◌∷◌, ◌++◌, Option, flat_map, map, refl, sym, ap, ap₂, ◌∙◌, subst, ⊎_elim}
 use Rattle.std.specs.Arc.{arc_value}
 use Rattle.std.specs.List.{concat}
 use Rattle.std.specs.declared.alloc.Global.{Global}
@@ -9,10 +9,10 @@ use Rattle.std.proofs.lemmas.List.Elements.{All-cons, All-nil}
 use Rattle.std.proofs.lemmas.List.FromFn.{length-map-range_with_len}
 use Rattle.lists.specs.Least.{numbers_below}
 use Rattle.day_file.specs.Cuts.{MorselView}
-use Rattle.day_file.specs.Frames.{PlacedBody, StandsFor}
+use Rattle.day_file.specs.Frames.{PlacedBody, StandsFrom}
 use Rattle.day_file.specs.Kept.{numbered}
 use Rattle.day_file.specs.Walk.{frames_of}
-use Rattle.day_file.proofs.CutFrames.{frames_of_cut}
+use Rattle.day_file.proofs.CutFrames.{frames_of_runs}
 use Rattle.day_file.proofs.Laws.{places_rise}
 use Rattle.meaning.specs.Meaning.{Meaning}
 use Rattle.row_types.specs.declared.directory.DirectoryRow.{DirectoryRow}
@@ -105,7 +105,7 @@ module _ (as_of : Option ℕ) (n number : ℕ) where
       maps [] = refl
       maps (m ∷ ms) = ap₂ ◌∷◌ (partition_past n (rows_of (counted as_of (messages_of (frames_of m)))) number past) (maps ms)
 
--- each partition of the total of a cut has its rows by place
+-- each partition of the total of morsels of a cut that follow each other has its rows by place
 pub total_by_place : (inputs : List ScanInputView) (number : ℕ) → AreOfOneCut inputs
     → AreRowsByPlace (joined_partitions (map (partition_at number) (total_of inputs).morsels))
 total_by_place inputs number cut =
@@ -114,18 +114,18 @@ total_by_place inputs number cut =
     (λ past. subst AreRowsByPlace (sym (no_rows cut.as_of cut.parts number past morsels)) no_rows_by_place) (cases_lt number cut.parts))
   where
     morsels : List MorselView
-    morsels = numbered 0 0 cut.runs
+    morsels = numbered cut.first cut.start cut.runs
 
     frames : List PlacedBody
     frames = flat_map frames_of morsels
 
-    stands : StandsFor frames (concat cut.runs)
-    stands = frames_of_cut cut.runs cut.each
+    stands : StandsFrom cut.start frames (concat cut.runs)
+    stands = frames_of_runs cut.first cut.start cut.runs cut.each
 
     some : AreRowsByPlace (partition_of cut.parts (rows_of (counted_in cut.as_of cut.parts morsels)) number)
     some = partition_by_place cut.parts number (counted_in cut.as_of cut.parts morsels)
-        (counted_by_place cut.as_of (messages_of frames) (messages_by_place frames (places_rise 0 frames stands.places)))
-        (few_trades cut.as_of (concat cut.runs) frames stands cut.within)
+        (counted_by_place cut.as_of (messages_of frames) (messages_by_place frames (places_rise cut.start frames stands.places)))
+        (few_trades cut.as_of (concat cut.runs) frames stands (omega (arith, cut.within)))
 
 -- so has that of a total of one cut
 pub rows_by_place : (total : ScanTotalView) (number : ℕ) → IsTotal (λ inputs total. total ≡ total_of inputs) AreOfOneCut total

@@ -68,6 +68,8 @@ module _ {S : Type 0} (GaveAt : S → ℕ → List ℕ → Type 0) (EndsAt : S �
   of_one_cut source request asks total scanned = (
     inputs_of request.as_of request.parts scanned.runs,
     record {
+      first = 0;
+      start = 0;
       runs = scanned.runs;
       each = scanned.each;
       within = omega (arith, scanned.gave.within, asks.limit);

@@ -1,6 +1,6 @@
 -- What is found in a morsel, and in the morsels of one cut.
 -- To be believed of a crate used by itself: the answer isn't defined by morsels.
-use Rattle.std.specs.Prelude.{◌≡◌, ℕ, ◌<◌, ◌≤◌, ◌==◌, ◌&&◌, Bool, List, [], ◌∷◌, ◌++◌, All, length, map, nat_eq, Option, Some, None, filter_map}
+use Rattle.std.specs.Prelude.{◌≡◌, ℕ, ◌+◌, ◌<◌, ◌≤◌, ◌==◌, ◌&&◌, Bool, List, [], ◌∷◌, ◌++◌, All, length, map, nat_eq, Option, Some, None, filter_map}
 use Rattle.std.specs.Prelude.{option_to_list, if◌then◌else◌}
 use Rattle.std.specs.List.{concat}
 use Rattle.std.specs.Option.{option_eq}
@@ -79,6 +79,13 @@ with_scan total scan = record {
   wrong = least_by (λ wrong. wrong.place) (option_to_list total.wrong ++ option_to_list scan.wrong);
 }
 
+-- a total with another one: the morsels of both, and of their wrong lengths the one of least place
+abbrev pub with_scans : ScanTotalView → ScanTotalView → ScanTotalView
+with_scans total other = record {
+  morsels = total.morsels ++ other.morsels;
+  wrong = least_by (λ wrong. wrong.place) (option_to_list total.wrong ++ option_to_list other.wrong);
+}
+
 -- the total of inputs
 abbrev pub total_of : List ScanInputView → ScanTotalView
 total_of inputs = record {
@@ -86,17 +93,24 @@ total_of inputs = record {
   wrong = least_by (λ wrong. wrong.place) (filter_map (λ input. (scanned input).wrong) inputs);
 }
 
+-- the inputs of the scans of morsels of a cut that follow each other, of which the first has this number and begins at
+-- this place: those morsels, in order, with one moment and one number of partitions
+abbrev pub inputs_from : ℕ → ℕ → Option ℕ → ℕ → List (List ℕ) → List ScanInputView
+inputs_from first start as_of parts runs =
+    map (λ morsel. record { morsel = morsel; as_of = as_of; parts = parts }) (numbered first start runs)
+
 -- the inputs of the scans of a cut: its morsels, in order, with one moment and one number of partitions
 abbrev pub inputs_of : Option ℕ → ℕ → List (List ℕ) → List ScanInputView
-inputs_of as_of parts runs =
-    map (λ morsel. record { morsel = morsel; as_of = as_of; parts = parts }) (numbered 0 0 runs)
+inputs_of as_of parts runs = inputs_from 0 0 as_of parts runs
 
--- these are the inputs of the scans of one cut
+-- these are the inputs of the scans of morsels of one cut that follow each other
 pub record AreOfOneCut (inputs : List ScanInputView) : Type 0 where
+  pub first : ℕ
+  pub start : ℕ
   pub runs : List (List ℕ)
   pub each : All IsRun runs
-  pub within : length (concat runs) ≤ LONGEST_FILE
+  pub within : start + length (concat runs) ≤ LONGEST_FILE
   pub as_of : Option ℕ
   pub parts : ℕ
   pub some : 0 < parts
-  pub are : inputs ≡ inputs_of as_of parts runs
+  pub are : inputs ≡ inputs_from first start as_of parts runs

@@ -1,15 +1,16 @@
 //! The inputs of all scans of a cut.
-ghost use Rattle.std.specs.Prelude.{◌≡◌, ◌<◌, ◌≤◌, All, IfOk, OnOk, length};
+ghost use Rattle.std.specs.Prelude.{◌≡◌, ◌+◌, ◌<◌, ◌≤◌, All, IfOk, OnOk, length};
 ghost use Rattle.std.specs.List.{concat};
-ghost use Rattle.lists.specs.declared.limits.TheConstants.{LONGEST_FILE, MOST_PARTITIONS};
+ghost use Rattle.lists.specs.declared.limits.TheConstants.{LONGEST_FILE, MOST_MORSELS, MOST_PARTITIONS};
 ghost use Rattle.day_file.specs.Cuts.{AreBytes, IsRun};
-ghost use Rattle.scanning.specs.Scans.{inputs_of};
+ghost use Rattle.scanning.specs.Scans.{inputs_from, inputs_of};
 
 use crate::OutOfMemory;
 use crate::input::ScanInput;
 use crate::work::ScanWork;
 use day_file::Cut;
 use gathering::Inputs;
+use lists::limits::{LONGEST_FILE, MOST_MORSELS};
 use std::alloc::Global;
 use std::sync::Arc;
 
@@ -30,11 +31,35 @@ pub fn scan_inputs(
     ensures bytes { OnOk result (All AreBytes cut.now) }
     ensures within { OnOk result (length (concat cut.now) ≤ LONGEST_FILE) }
 {
+    let _ = cut.count();
+    batch_inputs(alloc, cut, 0, 0, as_of, parts)
+}
+
+/// The inputs of the scans of morsels of a cut that follow each other, where these were cut by themselves:
+/// the first is the morsel `first` of the whole file, and `start` bytes come before it. Otherwise they are
+/// as those of `scan_inputs`, and as that it is refused.
+pub fn batch_inputs(
+    alloc: Global,
+    cut: &Cut,
+    first: u32,
+    start: u64,
+    as_of: Option<u32>,
+    parts: u32,
+) -> Result<Inputs<ScanWork>, OutOfMemory>
+    requires parts { (0 < parts) × (parts ≤ MOST_PARTITIONS) }
+    requires within { start + length (concat cut.now) ≤ LONGEST_FILE }
+    requires few { first + length cut.now ≤ MOST_MORSELS }
+    ensures inputs { IfOk result (λ inputs. inputs ≡ inputs_from first start as_of parts cut.now) }
+    ensures runs { OnOk result (All IsRun cut.now) }
+    ensures bytes { OnOk result (All AreBytes cut.now) }
+{
     let count = cut.count();
     let mut inputs = Vec::with_capacity(alloc, count as usize)?;
     for number in 0..count {
         let morsel = Arc::try_clone(cut.morsel(number))?;
-        inputs.push(Arc::new(alloc, ScanInput::of(morsel, as_of, parts))?)?;
+        let place = start + morsel.start();
+        let input = ScanInput::of(morsel, first + number, place, as_of, parts);
+        inputs.push(Arc::new(alloc, input)?)?;
     }
     Ok(Inputs::of(inputs))
 }

@@ -11,7 +11,7 @@ mod work;
 mod wrong;
 
 pub use input::ScanInput;
-pub use inputs::scan_inputs;
+pub use inputs::{batch_inputs, scan_inputs};
 pub use lists::OutOfMemory;
 pub use open_scan::OpenScan;
 pub use output::Scanned;

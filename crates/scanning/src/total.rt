@@ -1,7 +1,7 @@
 //! What the scans of morsels add up to.
 ghost use Rattle.std.specs.Prelude.{◌≡◌, OnErr, OnOk, map};
 ghost use Rattle.std.specs.Arc.{arc_value};
-ghost use Rattle.scanning.specs.Scans.{no_scans, with_scan};
+ghost use Rattle.scanning.specs.Scans.{no_scans, with_scan, with_scans};
 
 use crate::OutOfMemory;
 use crate::output::Scanned;
@@ -48,6 +48,18 @@ impl ScanTotal {
         let rows = Arc::try_clone(scanned.rows())?;
         self.morsels.push(rows)?;
         self.wrong = earlier(self.wrong, scanned.wrong());
+        Ok(())
+    }
+
+    /// Takes in what the scans of other morsels give, which come after these. Their rows move, and nothing
+    /// is copied. Without memory it stays as it was, and the others are let go.
+    pub fn append(&mut self, other: ScanTotal) -> Result<(), OutOfMemory>
+        ensures ok { OnOk result (self.new ≡ with_scans self.old other) }
+        ensures err { OnErr result (self.new ≡ self.old) }
+    {
+        let ScanTotal { mut morsels, wrong } = other;
+        self.morsels.append(&mut morsels)?;
+        self.wrong = earlier(self.wrong, wrong);
         Ok(())
     }
 

@@ -35,10 +35,9 @@ impl Work for ScanWork {
 
     fn run(alloc: Global, input: &ScanInput) -> Result<Scanned, OutOfMemory> {
         let as_of = input.as_of();
-        let morsel = input.morsel();
-        let bytes = morsel.bytes().len() as u64;
+        let bytes = input.bytes().len() as u64;
         let mut scan = OpenScan::new(alloc, input.parts(), bytes)?;
-        for frame in morsel.frames() {
+        for frame in input.frames() {
             scan.take_in(as_of, frame)?;
         }
         scan.finish(alloc)

@@ -4,7 +4,7 @@ use Rattle.lists.proofs.Lists.{map_more}
 use Rattle.day_file.specs.Cuts.{MorselView}
 use Rattle.scanning.specs.Scans.{ScanInputView}
 use Rattle.scanning.proofs.MorselInputs.{inputs_all, inputs_more}
-use Rattle.scanning.proofs.inputs.scan_inputs.Goals as goal
+use Rattle.scanning.proofs.inputs.batch_inputs.Goals as goal
 
 pub loop-number-preserved : goal.loop-number-preserved
 loop-number-preserved c =
