@@ -214,7 +214,8 @@ fed_follows cutter fed runs h f =
     subst (Follow cutter.target ((cutter.cut ++ h.beyond) ++ runs)) (sym h.joined)
     (full_follow cutter.target (cutter.cut ++ h.beyond) runs cutter.rest h.full f)
 
-full_are_whole : (target : ℕ) (runs : List (List ℕ)) → All (IsFullRun target) runs → IsWhole (concat runs)
+-- full runs are whole frames
+pub full_are_whole : (target : ℕ) (runs : List (List ℕ)) → All (IsFullRun target) runs → IsWhole (concat runs)
 full_are_whole target [] h = IsWhole-nil
 full_are_whole target (run ∷ runs) h =
     let first : IsFullRun target run = h 0 run (omega arith) in

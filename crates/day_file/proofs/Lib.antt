@@ -11,6 +11,7 @@ pub mod Moved
 pub mod OneCut
 pub mod Pieces
 pub mod Readings
+pub mod TakenOut
 pub mod Walks
 pub mod CutFrames
 pub mod BodyBytes

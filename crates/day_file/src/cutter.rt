@@ -1,9 +1,10 @@
-ghost use Rattle.std.specs.Prelude.{◌≡◌, ◌≤◌, ◌<◌, ◌+◌, ◌++◌, ◌⊎◌, [], ℕ, List, length, drop, IfErr, IfOk, IfSome, IsNone, OnErr, OnOk, vec_len};
+ghost use Rattle.std.specs.Prelude.{◌≡◌, ◌≤◌, ◌<◌, ◌+◌, ◌++◌, ◌⊎◌, [], ℕ, List, length, drop, IfErr, IfOk, IfSome, IsNone, OnErr, OnOk, vec_len, All};
 ghost use Rattle.std.specs.List.{concat};
+ghost use Rattle.lists.specs.declared.limits.TheConstants.{MOST_MORSELS};
 ghost use Rattle.day_file.specs.Cuts.{IsCutBy};
 ghost use Rattle.day_file.specs.Follow.{IsFirstRun};
 ghost use Rattle.day_file.specs.CutFaults.{IsCutFault};
-ghost use Rattle.day_file.specs.Feeding.{HasFed, fed_length};
+ghost use Rattle.day_file.specs.Feeding.{HasFed, IsFullRun, fed_length};
 ghost use Rattle.day_file.specs.Frames.{IsTruncatedAt, IsWhole};
 
 use crate::runs::{count_runs, head_of};
@@ -11,6 +12,7 @@ use crate::{Cut, CutFault, OutOfMemory};
 use lists::limits::{LONGEST_FILE, MOST_MORSELS};
 use std::alloc::Global;
 use std::marker::Model;
+use std::mem;
 
 /// Cuts a day file into morsels while it comes, in any pieces. It keeps no bytes of morsels that are
 /// too many for a cut.
@@ -81,6 +83,25 @@ impl Cutter {
         ensures { result.now ≡ self.now.cut }
     {
         &self.cut
+    }
+
+    /// Takes the morsels that it has cut so far out of it, and goes on as a cutter to which only the
+    /// bytes after them were fed. It gives none, and keeps all, if there were more full runs than a cut
+    /// may have.
+    pub fn take_cut(&mut self) -> Option<Cut>
+        ensures taken { IfSome result (λ cut. cut ≡ self.old.cut) }
+        ensures full { IfSome result (λ cut. All (IsFullRun self.old.target) cut) }
+        ensures fed { IfSome result (λ cut. (fed : List ℕ) → HasFed self.old fed
+            → (rest : List ℕ) × (fed ≡ concat cut ++ rest) × HasFed self.new rest) }
+        ensures none { IsNone result → (self.new ≡ self.old) × (MOST_MORSELS ≤ length self.old.cut) }
+        ensures target { self.new.target ≡ self.old.target }
+        ensures length { IfSome result (λ cut.
+            fed_length self.old ≡ length (concat cut) + fed_length self.new) }
+    {
+        if self.past > 0 {
+            return None;
+        }
+        Some(mem::replace(&mut self.cut, Cut::empty(self.alloc)))
     }
 
     /// Takes the next bytes of the file. After a refusal the cutter has the same bytes as before.

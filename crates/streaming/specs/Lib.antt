@@ -1,2 +1,3 @@
+pub mod Batches
 pub mod Fed
 pub mod Streams

@@ -13,7 +13,7 @@ use day_file::{
 use std::alloc::Global;
 
 /// The most bytes that one call asks of a source.
-const PIECE: usize = 65_536;
+pub(crate) const PIECE: usize = 65_536;
 
 /// Why a source gave no cut of a day file.
 #[derive(Clone, Copy, Debug, PartialEq, Eq)]
@@ -112,44 +112,48 @@ fn feed_all<S: Source, L: Listener>(
 {
     let mut piece = zeros(alloc, PIECE)?;
     let mut told = 0;
-    while feed_next(source, cutter, &mut piece, limit)? > 0 {
+    while feed_next(source, cutter, &mut piece, 0, limit)? > 0 {
         told = tell(listener, cutter.cut_so_far(), told);
     }
     Ok(told)
 }
 
 /// So many bytes.
-fn zeros(alloc: Global, count: usize) -> Result<Vec<u8>, OutOfMemory>
+pub(crate) fn zeros(alloc: Global, count: usize) -> Result<Vec<u8>, OutOfMemory>
     ensures { IfOk result (λ zeros. vec_len zeros ≡ count) }
 {
     vec![in alloc; 0u8; count]
 }
 
 /// Feeds the cutter what one call of the source gives, at most what has room in `piece`, and says how
-/// many bytes those are.
-fn feed_next<S: Source>(
+/// many bytes those are. So many bytes came before those that the cutter was fed.
+pub(crate) fn feed_next<S: Source>(
     source: &mut S,
     cutter: &mut Cutter,
     piece: &mut [u8],
+    done: u64,
     limit: u64,
 ) -> Result<usize, CutReadFault>
     requires source { S.has_failed source.old ≡ false }
     requires room { 0 < length piece.old }
     requires limit { limit ≤ LONGEST_FILE }
     requires fed { (fed : List ℕ) × HasFed cutter.old fed }
-    requires within { fed_length cutter.old ≤ limit }
-    ensures fed { OnOk result ((first : S) → IsFedBy S.Gave first source.old cutter.old
-        → IsFedBy S.Gave first source.new cutter.new) }
-    ensures within { OnOk result (fed_length cutter.new ≤ limit) }
+    requires within { done + fed_length cutter.old ≤ limit }
+    ensures fed { OnOk result ((before : List ℕ) (first : S) → length before ≡ done
+        → IsFedBy S.Gave before first source.old cutter.old
+        → IsFedBy S.Gave before first source.new cutter.new) }
+    ensures kept { (fed : List ℕ) × HasFed cutter.new fed }
+    ensures within { done + fed_length cutter.new ≤ limit }
     ensures count { IfOk result (λ count. fed_length cutter.new ≡ fed_length cutter.old + count) }
     ensures end { IfOk result (λ count. count ≡ 0 → S.HasEnded source.new) }
     ensures target { cutter.new.target ≡ cutter.old.target }
     ensures room { length piece.new ≡ length piece.old }
-    ensures fault { IfErr result (λ fault. (first : S) → IsFedBy S.Gave first source.old cutter.old
+    ensures fault { IfErr result (λ fault. (before : List ℕ) (first : S) → length before ≡ done
+        → IsFedBy S.Gave before first source.old cutter.old
         → IsReadFault S.Gave S.HasEnded limit cutter.old.target first source.new fault) }
     ensures failed { IsErrOf result CutReadFault.ReadFailed ↔ (S.has_failed source.new ≡ true) }
 {
-    let left = limit - cutter.length();
+    let left = limit - done - cutter.length();
     let most = (left + 1).min(piece.len() as u64) as usize;
     let taken = source.take(&mut piece[..most])?;
     if taken as u64 > left {
