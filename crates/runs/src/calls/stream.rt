@@ -16,6 +16,10 @@ use std::sync::{Arc, Wait};
 use std::thread::{Threads, join_mut};
 use streaming::{Batch, BatchReader, CutReadFault, Source};
 
+/// How many bytes the morsels of a batch have, or a little more: enough that each worker has several of
+/// them, and little beside what a day's rows take.
+const BATCH: u64 = 32 << 20;
+
 /// What the scans of all that a source gives add up to. It is cut as `read_cut` cuts it, but batch by
 /// batch: the morsels of one are the tasks of a pipeline, while the caller reads the next one. So no more
 /// than two batches are in memory, and no bytes of those before. It waits for the threads.
@@ -33,7 +37,7 @@ pub(crate) fn scan_source<R: Threads + Wait + Sync, S: Source>(
         (IsReadFault S.Gave S.HasEnded settings.limit settings.morsel source.old source.new) }
     ensures failed { IsErrOf result CutReadFault.ReadFailed ↔ (S.has_failed source.new ≡ true) }
 {
-    let mut reader = BatchReader::new(alloc, settings.limit, settings.morsel)?;
+    let mut reader = BatchReader::new(alloc, settings.limit, settings.morsel, BATCH)?;
     let mut total = ScanTotal::empty(alloc);
     let mut batch = reader.next_batch(source)?;
     while !batch.is_last {
