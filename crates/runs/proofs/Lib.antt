@@ -3,4 +3,5 @@ pub mod CutAnswers
 pub mod Answered
 pub mod BlocksScanned
 pub mod HandedOver
+pub mod ScannedBatches
 pub mod OneRun
