@@ -1,1 +1,2 @@
+pub mod Batches
 mod Pieces

@@ -16,7 +16,7 @@ loop-piece-init g c = record {
 
 pub loop-piece-preserved : goal.loop-piece-preserved
 loop-piece-preserved g c = record {
-  fed = c.in_ok-feed_next.ensures.fed c.args.source.now c.loop-piece.invariant.fed;
+  fed = c.in_ok-feed_next.ensures.fed [] c.args.source.now refl c.loop-piece.invariant.fed;
   within = c.in_ok-feed_next.ensures.within;
   target = c.in_ok-feed_next.ensures.target ∙ c.loop-piece.invariant.target;
   fine = search rules;
@@ -25,7 +25,7 @@ loop-piece-preserved g c = record {
 
 pub returns-clause-fed : goal.returns-clause-fed
 returns-clause-fed g c =
-    let all = c.in_ok-feed_next.ensures.fed c.args.source.now c.loop-piece.invariant.fed in (
+    let all = c.in_ok-feed_next.ensures.fed [] c.args.source.now refl c.loop-piece.invariant.fed in (
       all.fed,
       record {
         gave = all.gave;
@@ -43,6 +43,6 @@ returns-in_err-piece-clause-fault g c =
 pub returns-in_err-feed_next-clause-fault : goal.returns-in_err-feed_next-clause-fault
 returns-in_err-feed_next-clause-fault g c =
     let p = err_from_is_err_and c.from_residual-in_err-feed_next.result c.from_residual-in_err-feed_next.ensures.1 in
-    let told = c.in_err-feed_next.ensures.fault c.args.source.now c.loop-piece.invariant.fed in
+    let told = c.in_err-feed_next.ensures.fault [] c.args.source.now refl c.loop-piece.invariant.fed in
     rw (p.1, p.2) (subst (λ target. IsReadFault g.S.Source.Gave g.S.Source.HasEnded c.args.limit target c.args.source.now c.feed_next.new.source
     c.in_err-feed_next.field-0.0) c.loop-piece.invariant.target told)

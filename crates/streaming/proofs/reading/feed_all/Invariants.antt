@@ -1,4 +1,4 @@
-use Rattle.std.proofs.Common.{◌≡◌, ◌≤◌, ◌<◌, ◌-◌, false, vec_len}
+use Rattle.std.proofs.Common.{◌≡◌, ◌≤◌, ◌<◌, ◌-◌, false, vec_len, []}
 use Rattle.day_file.specs.Feeding.{fed_length}
 use Rattle.streaming.specs.Fed.{IsFedBy}
 use Rattle.streaming.proofs.reading.feed_all.Given as goal
@@ -6,7 +6,7 @@ use Rattle.streaming.proofs.reading.feed_all.Given as goal
 -- the cutter was fed all that came, which is within the limit
 abbrev pub invariant-loop-piece : goal.invariant-loop-piece
 invariant-loop-piece g l = record {
-  fed : IsFedBy g.S.Source.Gave l.initial.source l.source l.cutter;
+  fed : IsFedBy g.S.Source.Gave [] l.initial.source l.source l.cutter;
   within : fed_length l.cutter ≤ l.limit;
   target : l.cutter.target ≡ l.initial.cutter.target;
   fine : g.S.Source.has_failed l.source ≡ false;
