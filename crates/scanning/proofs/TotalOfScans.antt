@@ -1,5 +1,5 @@
 -- The total of one input more, and of a cut of which a part was scanned by itself.
-use Rattle.std.proofs.Common.{◌≡◌, ℕ, ◌+◌, List, [], ◌∷◌, ◌++◌, Option, filter_map, length, map, option_to_list, refl, sym, ap, ap₂, ◌∙◌, arith}
+use Rattle.std.proofs.Common.{◌≡◌, ℕ, ◌+◌, List, [], ◌∷◌, ◌++◌, Option, None, Some, filter_map, length, map, option_to_list, refl, sym, ap, ap₂, ◌∙◌, arith}
 use Rattle.std.specs.List.{concat}
 use Rattle.std.proofs.lemmas.List.{length-append, map-append}
 use Rattle.std.proofs.lemmas.List.Elements.{filter_map-append}
@@ -65,5 +65,7 @@ inputs_joined first start as_of parts runs more =
 pub total_joined : (as_of : Option ℕ) (parts : ℕ) (runs more : List (List ℕ)) → total_of (inputs_of as_of parts (runs ++ more))
     ≡ with_scans (total_of (inputs_of as_of parts runs)) (total_of (inputs_from (length runs) (length (concat runs)) as_of parts more))
 total_joined as_of parts runs more =
-    ap total_of (inputs_joined 0 0 as_of parts runs more)
+    let n : 0 + length runs ≡ length runs = omega arith in
+    let s : 0 + length (concat runs) ≡ length (concat runs) = omega arith in
+    ap total_of (inputs_joined 0 0 as_of parts runs more ∙ ap₂ (λ n s. inputs_of as_of parts runs ++ inputs_from n s as_of parts more) n s)
     ∙ total_of_both (inputs_of as_of parts runs) (inputs_from (length runs) (length (concat runs)) as_of parts more)

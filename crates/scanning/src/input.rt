@@ -34,9 +34,9 @@ impl Model for ScanInput {
     ghost Value = { ScanInputView };
 
     ghost view = { λ a. record {
-        morsel = record { number = a.number; start = a.start; bytes = (arc_value a.morsel).bytes };
-        as_of = a.as_of;
-        parts = a.parts
+      morsel = record { number = a.number; start = a.start; bytes = (arc_value a.morsel).bytes };
+      as_of = a.as_of;
+      parts = a.parts;
     } };
 
     ghost invariant = { λ a. (0 < a.parts) × (a.parts ≤ MOST_PARTITIONS)
@@ -57,9 +57,9 @@ impl ScanInput {
         requires most { parts ≤ MOST_PARTITIONS }
         requires within { start + length (arc_value morsel).bytes ≤ LONGEST_FILE }
         ensures { result ≡ record {
-            morsel = record { number = number; start = start; bytes = (arc_value morsel).bytes };
-            as_of = as_of;
-            parts = parts
+          morsel = record { number = number; start = start; bytes = (arc_value morsel).bytes };
+          as_of = as_of;
+          parts = parts;
         } }
     {
         ScanInput {

@@ -1,7 +1,6 @@
 use Rattle.std.proofs.Common.{◌≡◌, ◌≤◌, ◌<◌, [], ◌∷◌, refl, subst, ap, ◌∙◌}
 use Rattle.std.proofs.lemmas.Result.{IfOk-weaker}
 use Rattle.day_file.specs.Placed.{placed_body}
-use Rattle.day_file.specs.Walk.{frames_of}
 use Rattle.lists.specs.declared.limits.TheConstants.{MOST_PARTITIONS}
 use Rattle.scanning.specs.Scans.{TakesIn, scan_of, scanned}
 use Rattle.scanning.proofs.ScanOfFrames.{scan_ends, scan_goes_on}
@@ -31,7 +30,6 @@ returns c =
     let input = c.args.input.now in
     let found = scan_ends input.parts input.as_of c.into_iter-frame-iterator.result.frames c.loop-frame.frame-iterator.frames c.loop-frame.scan
     c.loop-frame.invariant c.in-None.ensures.steps.0.0 in
-    let frames = ap (λ l. l.frames) c.into_iter-frame-iterator.ensures.into_iter_gives ∙ c.frames-frame-items.ensures.walked
-    ∙ ap frames_of (c.deref-2.ensures ∙ c.morsel-morsel.ensures) in
+    let frames = ap (λ l. l.frames) c.into_iter-frame-iterator.ensures.into_iter_gives ∙ c.frames-frame-items.ensures in
     IfOk-weaker c.finish.result (λ output. output ≡ c.loop-frame.scan) (λ output. output ≡ scanned input)
     (λ output e. e ∙ found ∙ ap (scan_of input.parts input.as_of) frames) c.finish.ensures
