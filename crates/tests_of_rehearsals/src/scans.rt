@@ -203,7 +203,12 @@ fn total_of_parts(alloc: Global, forms: &[Form], parts: &[Part]) -> Result<ScanT
 }
 
 /// `BROKEN_EARLIER` in parts, of which one is empty.
-const BROKEN_PARTS: [Part; 4] = [(0, 41, &[]), (41, 100, &[38]), (100, 100, &[]), (100, 133, &[])];
+const BROKEN_PARTS: [Part; 4] = [
+    (0, 41, &[]),
+    (41, 100, &[38]),
+    (100, 100, &[]),
+    (100, 133, &[]),
+];
 
 /// Run also with each allocation of the process refused in turn.
 #[test]
@@ -219,10 +224,7 @@ fn parts_of_a_day_or_want_of_memory(rt: HostRuntime) -> Result<(), Fail> {
 fn parts_of_a_day_have_the_inputs_of_the_whole(rt: HostRuntime) -> Result<(), Fail> {
     let alloc = rt.alloc();
     let whole = scans_of(alloc, &BROKEN_EARLIER, &BROKEN_ENDS)?;
-    for (part, first, other) in [
-        (BROKEN_PARTS[1], 1, 2),
-        (BROKEN_PARTS[3], 3, 2),
-    ] {
+    for (part, first, other) in [(BROKEN_PARTS[1], 1, 2), (BROKEN_PARTS[3], 3, 2)] {
         let scans = inputs_of_part(alloc, &BROKEN_EARLIER, part, first)?;
         assert!(rt; scans.count() > 0 && whole.count() == 4);
         assert!(rt; scans.input(0) == whole.input(first));
@@ -246,9 +248,17 @@ const TWO_SHORT_ADDS: [Form; 4] = [
 fn of_wrong_lengths_in_parts_the_first_is_kept(rt: HostRuntime) -> Result<(), Fail> {
     let alloc = rt.alloc();
     let some: [(&[Form], &[Part], Option<u64>); 3] = [
-        (&TWO_SHORT_ADDS, &[(0, 78, &[41]), (78, 153, &[38])], Some(41)),
+        (
+            &TWO_SHORT_ADDS,
+            &[(0, 78, &[41]), (78, 153, &[38])],
+            Some(41),
+        ),
         (&TWO_SHORT_ADDS, &[(0, 41, &[]), (41, 153, &[])], Some(41)),
-        (&WITH_A_SHORT_ADD, &[(0, 79, &[41]), (79, 121, &[])], Some(84)),
+        (
+            &WITH_A_SHORT_ADD,
+            &[(0, 79, &[41]), (79, 121, &[])],
+            Some(84),
+        ),
     ];
     for (forms, parts, want) in some {
         let total = total_of_parts(alloc, forms, parts)?;
