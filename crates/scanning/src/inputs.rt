@@ -10,7 +10,6 @@ use crate::input::ScanInput;
 use crate::work::ScanWork;
 use day_file::Cut;
 use gathering::Inputs;
-use lists::limits::{LONGEST_FILE, MOST_MORSELS};
 use std::alloc::Global;
 use std::sync::Arc;
 
@@ -31,6 +30,7 @@ pub fn scan_inputs(
     ensures bytes { OnOk result (All AreBytes cut.now) }
     ensures within { OnOk result (length (concat cut.now) ≤ LONGEST_FILE) }
 {
+    // Its clauses say that a cut has few morsels, and is no longer than a file may be.
     let _ = cut.count();
     batch_inputs(alloc, cut, 0, 0, as_of, parts)
 }

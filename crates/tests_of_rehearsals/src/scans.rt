@@ -1,15 +1,15 @@
 //! Scans of the morsels of a day, whose pieces are gathered in any order.
 use day_file::cut_at;
 use day_rows::Row;
-use gathering::{Filed, Gathering, Inputs, Piece};
+use gathering::{Filed, Gathering, Inputs, Piece, Work};
 use morsel_rows::{MorselRows, OrderList, Partition};
 use order_table::OrderRow;
 use probe::Execution;
-use scanning::{OutOfMemory, ScanTotal, ScanWork, scan_inputs};
+use scanning::{OutOfMemory, ScanTotal, ScanWork, batch_inputs, scan_inputs};
 use std::alloc::Global;
 use std::sync::Arc;
 use std::test::Fail;
-use tests_support::{BROKEN_EARLIER, Day, Form, MSFT, NAMED, WITH_A_SHORT_ADD, file_of};
+use tests_support::{BROKEN_EARLIER, Day, Form, MSFT, NAMED, SHORT_ADD, WITH_A_SHORT_ADD, file_of};
 use time_and_sales::DirectoryRow;
 
 /// What is scanned of a day that is cut.
@@ -155,6 +155,115 @@ fn a_total_has_the_rows_of_each_morsel_whatever_their_order(rt: HostRuntime) -> 
     let total = total_of(alloc, &scans, &[3, 1, 0, 2])?;
     assert!(rt; total.wrong().is_none());
     assert!(rt; rows_of(alloc, total)?.as_slice() == BROKEN_ROWS.as_slice());
+    Ok(())
+}
+
+/// A part of a day that is cut by itself: where it begins and ends, and where the morsels but its first one
+/// begin in it.
+type Part = (u64, u64, &'static [u64]);
+
+/// The inputs of the scans of a part of a day, of which the first morsel has this number.
+fn inputs_of_part(
+    alloc: Global,
+    forms: &[Form],
+    (start, end, ends): Part,
+    first: u32,
+) -> Result<Inputs<ScanWork>, Fail> {
+    let day = Day::of(alloc, forms)?.bytes;
+    let mut bytes = Vec::new(alloc);
+    if let Some(part) = day.get(start as usize..end as usize) {
+        bytes.extend_from_slice(part)?;
+    }
+    let cut = cut_at(alloc, &file_of(bytes)?, ends)?;
+    if first > 9 || start > 999 || cut.count() > 9 || cut.length() > 999 {
+        return Err(Fail::from("a part of a test's day is too long"));
+    }
+    Ok(batch_inputs(alloc, &cut, first, start, None, 64)?)
+}
+
+/// The total of some scans.
+fn total_of_inputs(alloc: Global, scans: &Inputs<ScanWork>) -> Result<ScanTotal, OutOfMemory> {
+    let mut total = ScanTotal::empty(alloc);
+    for number in 0..scans.count() {
+        total.add(&ScanWork::run(alloc, scans.input(number))?)?;
+    }
+    Ok(total)
+}
+
+/// The total of a day in parts.
+fn total_of_parts(alloc: Global, forms: &[Form], parts: &[Part]) -> Result<ScanTotal, Fail> {
+    let mut total = ScanTotal::empty(alloc);
+    let mut first: u32 = 0;
+    for part in parts {
+        let scans = inputs_of_part(alloc, forms, *part, first)?;
+        total.append(total_of_inputs(alloc, &scans)?)?;
+        first = first.saturating_add(scans.count());
+    }
+    Ok(total)
+}
+
+/// `BROKEN_EARLIER` in parts, of which one is empty.
+const BROKEN_PARTS: [Part; 4] = [
+    (0, 41, &[]),
+    (41, 100, &[38]),
+    (100, 100, &[]),
+    (100, 133, &[]),
+];
+
+/// Run also with each allocation of the process refused in turn.
+#[test]
+fn parts_of_a_day_or_want_of_memory(rt: HostRuntime) -> Result<(), Fail> {
+    let alloc = rt.alloc();
+    let total = total_of_parts(alloc, &BROKEN_EARLIER, &BROKEN_PARTS)?;
+    assert!(rt; total.wrong().is_none());
+    assert!(rt; rows_of(alloc, total)?.as_slice() == BROKEN_ROWS.as_slice());
+    Ok(())
+}
+
+#[test]
+fn parts_of_a_day_have_the_inputs_of_the_whole(rt: HostRuntime) -> Result<(), Fail> {
+    let alloc = rt.alloc();
+    let whole = scans_of(alloc, &BROKEN_EARLIER, &BROKEN_ENDS)?;
+    for (part, first, other) in [(BROKEN_PARTS[1], 1, 2), (BROKEN_PARTS[3], 3, 2)] {
+        let scans = inputs_of_part(alloc, &BROKEN_EARLIER, part, first)?;
+        assert!(rt; scans.count() > 0 && whole.count() == 4);
+        assert!(rt; scans.input(0) == whole.input(first));
+        assert!(rt; scans.input(0) != whole.input(other));
+        let elsewhere = inputs_of_part(alloc, &BROKEN_EARLIER, part, other)?;
+        assert!(rt; elsewhere.count() > 0);
+        assert!(rt; elsewhere.input(0) != whole.input(first));
+    }
+    Ok(())
+}
+
+/// A stock directory, and an order to add that lacks its last byte, at 41 and at 116.
+const TWO_SHORT_ADDS: [Form; 4] = [
+    Form::R(7, MSFT),
+    Form::Bytes(SHORT_ADD),
+    Form::A(1, 4_105_000),
+    Form::Bytes(SHORT_ADD),
+];
+
+#[test]
+fn of_wrong_lengths_in_parts_the_first_is_kept(rt: HostRuntime) -> Result<(), Fail> {
+    let alloc = rt.alloc();
+    let some: [(&[Form], &[Part], Option<u64>); 3] = [
+        (
+            &TWO_SHORT_ADDS,
+            &[(0, 78, &[41]), (78, 153, &[38])],
+            Some(41),
+        ),
+        (&TWO_SHORT_ADDS, &[(0, 41, &[]), (41, 153, &[])], Some(41)),
+        (
+            &WITH_A_SHORT_ADD,
+            &[(0, 79, &[41]), (79, 121, &[])],
+            Some(84),
+        ),
+    ];
+    for (forms, parts, want) in some {
+        let total = total_of_parts(alloc, forms, parts)?;
+        assert!(rt; total.wrong().map(|wrong| wrong.place) == want);
+    }
     Ok(())
 }
 
