@@ -70,6 +70,18 @@ module _ {S : Type 0} (Gave : S → S → List ℕ → Type 0) where
     };
   }
 
+  module _ (HasEnded : S → Type 0) (limit : ℕ) (before now : S) (runs : List (List ℕ)) (reader : ReaderView) (h : IsReadTo Gave before now runs reader)
+      (ended : HasEnded now) (within : read_length reader ≤ limit) where
+    -- all that the source gave was read
+    pub gave_all : GaveAll Gave HasEnded limit before now h.bytes
+    gave_all = record { gave = h.gave; ended = ended; within = omega (arith, within, read_length_is reader runs h.bytes h.has) }
+
+    -- and was cut
+    pub all_cut : (target : ℕ) (cut : List (List ℕ)) → IsCutBy target (runs ++ cut) h.bytes
+        → GaveAll Gave HasEnded limit before now (concat (runs ++ cut)) × IsCutBy target (runs ++ cut) (concat (runs ++ cut))
+    all_cut target cut made =
+        (subst (GaveAll Gave HasEnded limit before now) made.cut.joined gave_all, subst (IsCutBy target (runs ++ cut)) made.cut.joined made)
+
   -- a refusal at the end
   pub last_fault : (HasEnded : S → Type 0) (limit target : ℕ) (before after : S) (bytes : List ℕ) (f : CutReadFault)
       → GaveAll Gave HasEnded limit before after bytes → IsLastFault target bytes f → IsReadFault Gave HasEnded limit target before after f
