@@ -1,12 +1,12 @@
 -- What was fed to a cutter whose full runs are taken out of it, and the cut of all that came.
-use Rattle.std.proofs.Common.{◌≡◌, ℕ, ◌+◌, ◌<◌, ◌≤◌, List, [], ◌∷◌, ◌++◌, length, take, drop, All, refl, sym, ap, ◌∙◌, subst, append-nil, arith}
+use Rattle.std.proofs.Common.{◌≡◌, ℕ, ◌+◌, List, [], ◌++◌, length, All, refl, sym, ap, ◌∙◌, subst, append-nil, arith}
 use Rattle.std.proofs.Math.Seq.{take-append_seam, drop-append_seam}
 use Rattle.std.specs.List.{concat}
 use Rattle.std.proofs.lemmas.List.Elements.{All-nil}
 use Rattle.day_file.specs.Frames.{IsTruncatedAt, IsWhole}
 use Rattle.day_file.specs.Cuts.{IsCutBy}
 use Rattle.day_file.specs.Cutting.{IsCutting}
-use Rattle.day_file.specs.Feeding.{CutterView, HasFed, IsFullRun}
+use Rattle.day_file.specs.Feeding.{HasFed, IsFullRun}
 use Rattle.day_file.proofs.Fed.{full_are_whole, full_follow, none_beyond}
 use Rattle.day_file.proofs.Following.{IsCutBy-from_follow}
 use Rattle.day_file.proofs.Joined.{truncated_later}

@@ -1,2 +1,2 @@
-pub mod Batches
+pub mod JoinedBatches
 mod Pieces

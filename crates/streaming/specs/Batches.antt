@@ -46,7 +46,7 @@ pub record IsReading (reader : ReaderView) (room : ℕ) : Type 0 where
   pub within : read_length reader ≤ reader.limit
   pub limit : reader.limit ≤ LONGEST_FILE
   pub few : reader.first ≤ MOST_MORSELS
-  pub room : 0 < room
+  pub some : 0 < room
 
 -- what a refusal at the end says of all the bytes
 abbrev pub IsLastFault : ℕ → List ℕ → CutReadFault → Type 0

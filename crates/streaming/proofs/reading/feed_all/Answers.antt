@@ -17,7 +17,7 @@ loop-piece-init g c = record {
 pub loop-piece-preserved : goal.loop-piece-preserved
 loop-piece-preserved g c = record {
   fed = c.in_ok-feed_next.ensures.fed [] c.args.source.now refl c.loop-piece.invariant.fed;
-  within = c.in_ok-feed_next.ensures.within;
+  within = omega (arith, c.in_ok-feed_next.ensures.within);
   target = c.in_ok-feed_next.ensures.target ∙ c.loop-piece.invariant.target;
   fine = search rules;
   room = c.loop-piece.invariant.room;

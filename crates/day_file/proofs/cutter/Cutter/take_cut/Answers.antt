@@ -1,4 +1,4 @@
-use Rattle.std.proofs.Common.{◌≡◌, ◌++◌, All, drop, sym, ap, ◌∙◌, subst, arith}
+use Rattle.std.proofs.Common.{◌++◌, All, drop, sym, ap, ◌∙◌, subst, arith}
 use Rattle.std.specs.List.{concat}
 use Rattle.day_file.specs.Feeding.{CutterView, HasFed, IsFullRun}
 use Rattle.day_file.proofs.TakenOut.{Cutting-rest, HasFed-rest, none_past}

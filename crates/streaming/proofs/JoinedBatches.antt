@@ -8,11 +8,11 @@ use Rattle.lists.specs.declared.limits.TheConstants.{MOST_MORSELS}
 use Rattle.day_file.specs.CutFaults.{IsCutFault}
 use Rattle.day_file.specs.Cuts.{IsCutBy}
 use Rattle.day_file.specs.declared.cutting.CutFault.TheVariants as cut_fault
-use Rattle.day_file.specs.Feeding.{HasFed, IsFullRun}
+use Rattle.day_file.specs.Feeding.{CutterView, HasFed, IsFullRun}
 use Rattle.day_file.specs.Frames.{IsTruncatedAt}
 use Rattle.day_file.proofs.Fed.{fed_length_is}
 use Rattle.day_file.proofs.TakenOut.{cut_after, truncated_after_full}
-use Rattle.streaming.specs.Batches.{HasRead, IsLastFault, IsReadTo, ReaderView, read_length}
+use Rattle.streaming.specs.Batches.{HasRead, IsLastFault, IsReadTo, IsReading, ReaderView, read_length}
 use Rattle.streaming.specs.Fed.{IsFedBy}
 use Rattle.streaming.specs.Streams.{GaveAll, HasTooMany, IsReadFault}
 use Rattle.streaming.specs.declared.reading.CutReadFault.{CutReadFault}
@@ -21,6 +21,23 @@ use Rattle.streaming.specs.declared.reading.CutReadFault.TheVariants as fault
 -- nothing was read
 pub HasRead-none : (reader : ReaderView) → reader.first ≡ 0 → reader.start ≡ 0 → HasFed reader.cutter [] → HasRead reader [] []
 HasRead-none reader first start has = record { full = All-nil _; fed = []; has = has; joined = refl; first = first; start = start }
+
+-- the rest was taken for the last batch, and the reader has a new cutter
+pub reading_anew : (limit target start first room : ℕ) (old new none : CutterView)
+    → IsReading (record { limit = limit; target = target; start = start; first = first; cutter = old }) room → HasFed none [] → none.target ≡ target
+    → new ≡ none → IsReading (record { limit = limit; target = target; start = start; first = first; cutter = new }) room
+reading_anew limit target start first room old new none inv fed same is =
+    let has = subst (λ (v : CutterView). HasFed v []) (sym is) fed in
+    record {
+      fed = [];
+      has = has;
+      same = ap (λ (v : CutterView). v.target) is ∙ same;
+      target = inv.target;
+      within = omega (arith, inv.within, fed_length_is new [] has);
+      limit = inv.limit;
+      few = inv.few;
+      some = inv.some;
+    }
 
 -- the bytes that were read are so many
 pub read_length_is : (reader : ReaderView) (runs : List (List ℕ)) (bytes : List ℕ) → HasRead reader runs bytes → read_length reader ≡ length bytes
@@ -52,6 +69,18 @@ module _ {S : Type 0} (Gave : S → S → List ℕ → Type 0) where
       start = start ∙ h.has.start;
     };
   }
+
+  module _ (HasEnded : S → Type 0) (limit : ℕ) (before now : S) (runs : List (List ℕ)) (reader : ReaderView) (h : IsReadTo Gave before now runs reader)
+      (ended : HasEnded now) (within : read_length reader ≤ limit) where
+    -- all that the source gave was read
+    pub gave_all : GaveAll Gave HasEnded limit before now h.bytes
+    gave_all = record { gave = h.gave; ended = ended; within = omega (arith, within, read_length_is reader runs h.bytes h.has) }
+
+    -- and was cut
+    pub all_cut : (target : ℕ) (cut : List (List ℕ)) → IsCutBy target (runs ++ cut) h.bytes
+        → GaveAll Gave HasEnded limit before now (concat (runs ++ cut)) × IsCutBy target (runs ++ cut) (concat (runs ++ cut))
+    all_cut target cut made =
+        (subst (GaveAll Gave HasEnded limit before now) made.cut.joined gave_all, subst (IsCutBy target (runs ++ cut)) made.cut.joined made)
 
   -- a refusal at the end
   pub last_fault : (HasEnded : S → Type 0) (limit target : ℕ) (before after : S) (bytes : List ℕ) (f : CutReadFault)
