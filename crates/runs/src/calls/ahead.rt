@@ -49,6 +49,7 @@ impl<R: Wait> Sending<'_, R> {
             record { morsel = arc_value morsel.now; as_of = self.now.as_of; parts = self.now.parts }) }
     {
         let (place, start) = (morsel.number(), morsel.start());
+        let _ = morsel.bytes();
         let morsel = Arc::try_clone(morsel)?;
         let input = ScanInput::of(morsel, place, start, self.as_of, self.parts);
         let input = Arc::new(self.alloc, input)?;
