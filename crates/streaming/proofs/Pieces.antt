@@ -1,5 +1,5 @@
 -- What a cutter was fed once a piece of a longer slice is fed to it.
-use Rattle.std.proofs.Common.{◌≡◌, ℕ, ◌+◌, ◌≤◌, List, ◌++◌, length, take, length-take, sym, ap, ◌∙◌, subst, arith}
+use Rattle.std.proofs.Common.{◌≡◌, ℕ, ◌+◌, ◌≤◌, List, ◌++◌, length, take, length-take, subst, arith}
 use Rattle.std.proofs.lemmas.List.{length-append, take-append-le}
 use Rattle.day_file.specs.Feeding.{CutterView, HasFed, fed_length}
 use Rattle.day_file.proofs.Fed.{fed_length_is}

@@ -32,7 +32,8 @@ pub record HasRead (reader : ReaderView) (runs : List (List ℕ)) (bytes : List 
   pub start : reader.start ≡ length (concat runs)
 
 -- the source gave bytes since it was `before`, and the reader has read these, of which its batches had these runs
-pub record IsReadTo {S : Type 0} (Gave : S → S → List ℕ → Type 0) (before now : S) (runs : List (List ℕ)) (reader : ReaderView) : Type 0 where
+pub record IsReadTo {S : Type 0} (Gave : S → S → List ℕ → Type 0) (before now : S) (runs : List (List ℕ))
+    (reader : ReaderView) : Type 0 where
   pub bytes : List ℕ
   pub gave : Gave before now bytes
   pub has : HasRead reader runs bytes

@@ -39,7 +39,11 @@ struct Way {
 }
 
 /// Reads all batches of a source.
-fn read_batches<S: Source>(alloc: Global, source: &mut S, way: Way) -> Result<Joined, CutReadFault> {
+fn read_batches<S: Source>(
+    alloc: Global,
+    source: &mut S,
+    way: Way,
+) -> Result<Joined, CutReadFault> {
     let mut reader = BatchReader::new(
         alloc,
         way.limit.min(LONGEST_FILE),
@@ -71,11 +75,12 @@ fn batches_are_the_cut_of_the_whole(rt: HostRuntime) -> Result<(), Fail> {
     let file = file_of(Vec::from_slice(alloc, &bytes)?)?;
     // The target, the least bytes of a batch, the most bytes of a call, and how many batches there are.
     // A morsel is known to be full once a byte behind it comes.
-    let table: [(u64, u64, usize, u32); 12] = [
+    let table: [(u64, u64, usize, u32); 13] = [
         (1, 1, 1, 3),
         (1, 1, 65_536, 1),
         (1, 0, 1, 113),
-        (1, 41, 1, 3),
+        (1, 38, 1, 3),
+        (1, 41, 1, 2),
         (1, 42, 1, 2),
         (1, 79, 7, 2),
         (1, 80, 1, 1),
@@ -96,12 +101,19 @@ fn batches_are_the_cut_of_the_whole(rt: HostRuntime) -> Result<(), Fail> {
         };
         let joined = read_batches(alloc, &mut source, way)?;
         assert!(rt; joined.bytes == bytes, "{way:?} by {step}");
-        assert!(rt; joined.morsels.len() == whole.count() as usize, "{way:?} by {step}");
+        assert!(rt;
+            joined.morsels.len() == whole.count() as usize,
+            "{way:?} by {step}"
+        );
         for (index, (number, start)) in joined.morsels.iter().enumerate() {
             let same = *number < whole.count() && whole.morsel(*number).start() == *start;
             assert!(rt; same && *number as usize == index, "{way:?} by {step}");
         }
-        assert!(rt; joined.batches == batches, "{way:?} by {step}: {}", joined.batches);
+        assert!(rt;
+            joined.batches == batches,
+            "{way:?} by {step}: {}",
+            joined.batches
+        );
     }
     Ok(())
 }
@@ -206,8 +218,8 @@ fn batches_or_want_of_memory(rt: HostRuntime) -> Result<(), Fail> {
     let cut_off = bytes.get(..111).unwrap_or(&[]);
     // The bytes, the target, and what comes of them: how many bytes in how many batches.
     let table: [(&[u8], u64, Result<(usize, u32), CutReadFault>); 3] = [
-        (&bytes, 1, Ok((113, 3))),
-        (&bytes, 42, Ok((113, 2))),
+        (&bytes, 1, Ok((112, 3))),
+        (&bytes, 42, Ok((112, 2))),
         (cut_off, 1, Err(CutReadFault::Truncated { place: 79 })),
     ];
     for (bytes, target, want) in table {

@@ -1,6 +1,5 @@
-use Rattle.std.proofs.Common.{◌≤◌, ◌+◌, [], ◌∙◌, length, refl, subst, rules, arith}
+use Rattle.std.proofs.Common.{[], ◌∙◌, refl, subst, rules, arith}
 use Rattle.std.proofs.lemmas.Result.{err_from_is_err_and}
-use Rattle.day_file.specs.Feeding.{HasFed, fed_length}
 use Rattle.day_file.proofs.Fed.{fed_length_is}
 use Rattle.streaming.specs.Streams.{IsReadFault}
 use Rattle.streaming.proofs.reading.feed_all.Goals as goal

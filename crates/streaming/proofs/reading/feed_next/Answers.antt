@@ -1,7 +1,6 @@
-use Rattle.std.proofs.Common.{◌≤◌, ◌+◌, List, [], ◌++◌, length, take, length-take, append_assoc, subst, arith}
+use Rattle.std.proofs.Common.{[], ◌++◌, take, length-take, append_assoc, subst, arith}
 use Rattle.std.proofs.lemmas.Result.{err_from_is_err_and}
 use Rattle.std.proofs.lemmas.List.{length-append}
-use Rattle.day_file.specs.Feeding.{HasFed, fed_length}
 use Rattle.day_file.proofs.Fed.{fed_length_is}
 use Rattle.streaming.proofs.Pieces.{fed_more, piece_fed}
 use Rattle.streaming.proofs.reading.feed_next.Goals as goal

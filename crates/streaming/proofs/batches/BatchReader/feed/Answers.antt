@@ -1,4 +1,4 @@
-use Rattle.std.proofs.Common.{◌≡◌, refl, sym, subst}
+use Rattle.std.proofs.Common.{refl, sym, subst}
 use Rattle.std.specs.List.{concat}
 use Rattle.std.proofs.lemmas.Result.{err_from_is_err_and}
 use Rattle.streaming.specs.Batches.{IsReadTo, ReaderView}

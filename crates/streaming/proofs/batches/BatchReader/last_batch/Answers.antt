@@ -1,5 +1,4 @@
-use Rattle.std.proofs.Common.{◌≡◌, ◌≤◌, ◌<◌, ◌+◌, ◌++◌, List, ℕ, length, sym, ap, ◌∙◌, subst, arith}
-use Rattle.std.specs.List.{concat}
+use Rattle.std.proofs.Common.{◌≡◌, ◌+◌, List, ℕ, length, sym, ap, ◌∙◌, subst, arith}
 use Rattle.day_file.specs.CutFaults.{IsCutFault}
 use Rattle.day_file.specs.Cuts.{IsCutBy}
 use Rattle.day_file.specs.declared.cutting.CutFault.TheVariants as cut_fault

@@ -1,4 +1,4 @@
-use Rattle.std.proofs.Common.{◌≡◌, ◌≤◌, ◌<◌, ◌+◌, [], arith}
+use Rattle.std.proofs.Common.{[], arith}
 use Rattle.day_file.proofs.Fed.{fed_length_is}
 use Rattle.streaming.proofs.batches.BatchReader.new.Goals as goal
 

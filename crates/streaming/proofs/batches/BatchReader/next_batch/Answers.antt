@@ -1,4 +1,4 @@
-use Rattle.std.proofs.Common.{◌≡◌, ◌≤◌, ◌++◌, ◌∙◌, subst, arith}
+use Rattle.std.proofs.Common.{◌++◌, ◌∙◌, subst, arith}
 use Rattle.std.proofs.lemmas.Result.{IfErr-weaker, IfOk-weaker, err_from_is_err_and}
 use Rattle.day_file.specs.Cuts.{IsCutBy}
 use Rattle.streaming.specs.Batches.{IsLastFault}

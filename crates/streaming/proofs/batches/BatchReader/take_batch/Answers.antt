@@ -1,4 +1,4 @@
-use Rattle.std.proofs.Common.{◌≡◌, ◌≤◌, ◌+◌, ◌++◌, All, length, refl, sym, ap, ◌∙◌, subst, arith}
+use Rattle.std.proofs.Common.{◌+◌, All, length, refl, sym, ap, ◌∙◌, subst, arith}
 use Rattle.day_file.specs.Feeding.{IsFullRun}
 use Rattle.streaming.specs.Batches.{HasRead, ReaderView}
 use Rattle.streaming.proofs.JoinedBatches.{batch_taken}
