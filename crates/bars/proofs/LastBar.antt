@@ -210,12 +210,3 @@ told_one_more width sales i d table new bar within is are made =
     subst (AreBarsOf width (take (i + 1) sales)) (sym (made ∙ ap (λ z. merged_tables table (z ∷ [])) is))
     (subst (λ l. AreBarsOf width l (merged_tables table (bar_of_one width (get_or sales i d) ∷ []))) (sym (take_more sales i d within))
     (AreBarsOf-more width (take i sales) (get_or sales i d) table are))
-
-pub next_up_to : (width : ℕ) (sales : List Sale) (i : ℕ) (d e : Sale) (new : List Bar) (bar : Bar) → 0 < width
-    → IsSortedByKey (λ (s : Sale). (s.locate, s.time)) by_time sales
-    → i + 1 < length sales → bar ≡ bar_of_one width (get_or sales i e) → IsUpTo new bar → IsUpTo new (bar_of_one width (get_or sales (i + 1) d))
-next_up_to width sales i d e new bar some sorted within is to =
-    let here : bar ≡ bar_of_one width (get_or sales i d) = is ∙ ap (bar_of_one width) (get_or_default sales i e d (omega arith)) in
-    up_to_later new (bar_of_one width (get_or sales i d)) (bar_of_one width (get_or sales (i + 1) d))
-    (one_not_after width (get_or sales i d) (get_or sales (i + 1) d) some (sorted i d (omega arith) within))
-    (subst (IsUpTo new) here to)
