@@ -1,7 +1,7 @@
 -- The bars of many tables whose locates are in a range are those of the range of their union.
 use Rattle.std.proofs.Common.{◌≡◌, ℕ, zero, suc, ◌+◌, ◌^◌, ◌<◌, ◌≤◌, Bool, true, false, ◌&&◌, cond, All}
 use Rattle.std.proofs.Common.{List, [], ◌∷◌, ◌++◌, map, length, take, get_or, filter}
-use Rattle.std.proofs.Common.{Option, Some, None, Less, Bor, refl, sym, ap, ap₂, ◌∙◌, subst, arith}
+use Rattle.std.proofs.Common.{Option, Some, None, Less, Bor, refl, sym, ap, ◌∙◌, subst, arith}
 use Rattle.std.specs.List.{sum_by}
 use Rattle.std.specs.List.Sorted.{IsNonDecreasingBy}
 use Rattle.std.proofs.lemmas.Bool.{and_parts, eqb-true}
@@ -154,10 +154,6 @@ sales_in_range bounds width sales part table so_far new is of made =
     (subst (λ l. AreJoinedAlike (so_far ++ filter test (map (bar_of_one width) sales)) (so_far ++ filter test l)) (sym is)
     (alike_parts so_far so_far _ _ (λ key. refl)
     (alike_within test (first_as_locate bounds) (map (bar_of_one width) sales) (bars_of width sales) (ones_alike width sales))))
-
--- and so are the bars of a range, which are the same
-pub bars_in_range : (part so_far new : List Bar) → new ≡ so_far ++ part → AreJoinedAlike new (so_far ++ part)
-bars_in_range part so_far new made key = ap (λ l. joined_all None (under key l)) made
 
 -- one table more
 pub range_more : (bounds : List ℕ) (tables : List (Bor (List Bar))) (i : ℕ) (table : Bor (List Bar)) (so_far new : List Bar) → i < length tables

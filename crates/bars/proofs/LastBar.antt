@@ -9,7 +9,7 @@ use Rattle.std.proofs.lemmas.Cmp.{upto}
 use Rattle.std.proofs.lemmas.List.Sorted.{answers_always}
 use Rattle.std.specs.Fn.{Mut, Called, ComputesKey}
 use Rattle.std.specs.List.Sorted.{IsSortedByKey}
-use Rattle.std.proofs.lemmas.List.{take_more, take_all, get_or_default, set-get_or}
+use Rattle.std.proofs.lemmas.List.{take_more, take_all, set-get_or}
 use Rattle.std.proofs.lemmas.List.Elements.{All-nil, All-get_or, All-push, All-weaker, All-contains, All-from_recursion, Contains-push, Contains-push_cases}
 use Rattle.std.proofs.lemmas.Map.Keys.{sorted_head, sorted_tail}
 use Rattle.std.proofs.lemmas.Nat.{le-div}

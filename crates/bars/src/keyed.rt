@@ -6,16 +6,17 @@ use crate::OutOfMemory;
 use crate::bar::{Bar, start_of};
 use row_types::Sale;
 
-/// A sale beside the key of its bar, or a bar beside its key, so that both are sorted by key without
-/// a look at them.
+/// A sale or a bar beside its key, so that they are sorted by key without a look at them. The locate
+/// comes first, beside which kind it is: so either has 24 bytes.
 #[derive(Clone, Copy)]
 pub(crate) enum Keyed<'a> {
-    /// The start is where the bar's interval starts, in nanoseconds since midnight.
+    /// A sale. The start is where the interval of its bar starts, in nanoseconds since midnight.
     OfSale {
         locate: u16,
         start: u64,
         sale: &'a Sale,
     },
+    /// A bar.
     OfBar {
         locate: u16,
         start: u64,

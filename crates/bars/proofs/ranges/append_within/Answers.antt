@@ -1,4 +1,4 @@
-use Rattle.std.proofs.Common.{All, filter, map, sym, subst, ap, ◌∙◌}
+use Rattle.std.proofs.Common.{All, map, sym, subst, ap, ◌∙◌}
 use Rattle.std.proofs.lemmas.Result.{on_ok_weaker}
 use Rattle.row_types.specs.declared.trade.Sale.{Sale}
 use Rattle.time_and_sales.specs.Parted.{is_in_first}

@@ -1,7 +1,7 @@
-use Rattle.std.proofs.Common.{List, [], map, filter, sym, ap, subst, Bor, All}
+use Rattle.std.proofs.Common.{map, filter, sym, ap, subst, All}
 use Rattle.std.proofs.lemmas.List.Elements.{All-nil}
 use Rattle.time_and_sales.specs.Parted.{is_in_first}
-use Rattle.bars.specs.Bars.{Bar, IsTraded, all_bars, joined_all, under}
+use Rattle.bars.specs.Bars.{Bar, IsTraded, joined_all, under}
 use Rattle.bars.specs.Steps.{AreJoinedAlike, bar_at}
 use Rattle.bars.proofs.JoinedTables.{parts_all}
 use Rattle.bars.proofs.BarsInRanges.{range_more}

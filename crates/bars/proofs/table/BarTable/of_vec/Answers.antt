@@ -1,4 +1,4 @@
-use Rattle.std.proofs.Common.{rules, ◌<◌, All, IsPermutation, sym, subst}
+use Rattle.std.proofs.Common.{rules, ◌<◌, IsPermutation, sym, subst}
 use Rattle.std.specs.List.Sorted.{IsSortedByKey}
 use Rattle.std.proofs.lemmas.Result.{IfOk-weaker}
 use Rattle.std.proofs.lemmas.List.Sorted.{All-permutation}
