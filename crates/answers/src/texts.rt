@@ -12,7 +12,7 @@ ghost use Rattle.time_and_sales.specs.Texts.{listing_text};
 
 use crate::OutOfMemory;
 use crate::text::Text;
-use bars::{Bar, UnmadeBars};
+use bars::{Bar, BucketBars};
 use probe::Sale;
 use std::alloc::{Allocator, Global};
 use std::thread::Threads;
@@ -83,7 +83,7 @@ pub fn text_of_listings<R: Threads + Sync>(
 pub fn text_of_tables<R: Threads + Sync>(
     rt: &R,
     alloc: Global,
-    tables: &[&UnmadeBars],
+    tables: &[&BucketBars],
     names: &Names,
     ranges: u32,
 ) -> Result<Text, OutOfMemory>

@@ -1,7 +1,7 @@
 -- The bars of many tables whose locates are in a range are those of the range of their union.
 use Rattle.std.proofs.Common.{◌≡◌, ℕ, zero, suc, ◌+◌, ◌^◌, ◌<◌, ◌≤◌, Bool, true, false, ◌&&◌, cond, All}
 use Rattle.std.proofs.Common.{List, [], ◌∷◌, ◌++◌, map, length, take, get_or, filter}
-use Rattle.std.proofs.Common.{Option, Some, None, Less, Bor, refl, sym, ap, ap₂, ◌∙◌, subst, arith}
+use Rattle.std.proofs.Common.{Option, Some, None, Less, Bor, refl, sym, ap, ◌∙◌, subst, arith}
 use Rattle.std.specs.List.{sum_by}
 use Rattle.std.specs.List.Sorted.{IsNonDecreasingBy}
 use Rattle.std.proofs.lemmas.Bool.{and_parts, eqb-true}
@@ -19,7 +19,7 @@ use Rattle.bars.specs.Bars.{Key, Bar, key_cmp, found, under, all_bars, joined_al
 use Rattle.bars.specs.Steps.{AreJoinedAlike, bar_of_one, bars_of}
 use Rattle.bars.specs.Texts.{bar_line, lines_text}
 use Rattle.bars.proofs.JoinedTables.{filter-map, has, parts_more}
-use Rattle.bars.proofs.BarsOfSales.{AreOfSame, AreOfSame-more}
+use Rattle.bars.proofs.BarsOfSales.{alike_parts, ones_alike}
 
 -- ---- by key is by locate
 
@@ -141,28 +141,33 @@ in_first_alike [] width sale = refl
 in_first_alike (low ∷ []) width sale = refl
 in_first_alike (low ∷ high ∷ bounds) width sale = refl
 
--- the bars of one sale each of a range are the range of these bars
-pub range_more : (bounds : List ℕ) (width : ℕ) (sales part : List Sale) (so_far new ones : List Bar) → so_far ≡ filter (is_in_first locate_of bounds) ones
+-- the bars of one sale each of a range are joined alike with the range of their table
+pub sales_in_range : (bounds : List ℕ) (width : ℕ) (sales part : List Sale) (table so_far new : List Bar) → table ≡ bars_of width sales
     → part ≡ filter (is_in_first (λ (s : Sale). s.locate) bounds) sales → new ≡ so_far ++ map (bar_of_one width) part
-    → new ≡ filter (is_in_first locate_of bounds) (ones ++ map (bar_of_one width) sales)
-range_more bounds width sales part so_far new ones is of made =
+    → AreJoinedAlike new (so_far ++ filter (is_in_first locate_of bounds) table)
+sales_in_range bounds width sales part table so_far new is of made =
     let test = is_in_first locate_of bounds in
-    made
-    ∙ ap₂ (λ l m. l ++ map (bar_of_one width) m) is
-    (of ∙ sym (filter_agree (λ s. test (bar_of_one width s)) (is_in_first (λ (s : Sale). s.locate) bounds) (in_first_alike bounds width) sales))
-    ∙ ap (λ l. filter test ones ++ l) (sym (filter-map (bar_of_one width) test sales))
-    ∙ sym (filter-append test ones (map (bar_of_one width) sales))
+    let ones : map (bar_of_one width) part ≡ filter test (map (bar_of_one width) sales) =
+    ap (map (bar_of_one width)) (of ∙ sym (filter_agree (λ s. test (bar_of_one width s)) (is_in_first (λ (s : Sale). s.locate) bounds) (in_first_alike bounds width) sales))
+    ∙ sym (filter-map (bar_of_one width) test sales) in
+    subst (λ l. AreJoinedAlike l (so_far ++ filter test table)) (sym (made ∙ ap (λ l. so_far ++ l) ones))
+    (subst (λ l. AreJoinedAlike (so_far ++ filter test (map (bar_of_one width) sales)) (so_far ++ filter test l)) (sym is)
+    (alike_parts so_far so_far _ _ (λ key. refl)
+    (alike_within test (first_as_locate bounds) (map (bar_of_one width) sales) (bars_of width sales) (ones_alike width sales))))
 
 -- one table more
-pub same_more : (tables : List (Bor (List Bar))) (i : ℕ) (table : Bor (List Bar)) (width : ℕ) (sales : List Sale) (ones : List Bar) → i < length tables
-    → table ≡ get_or tables i table → table.now ≡ bars_of width sales
-    → AreOfSame ones (all_bars (map (λ (t : Bor (List Bar)). t.now) (take i tables)))
-    → AreOfSame (ones ++ map (bar_of_one width) sales) (all_bars (map (λ (t : Bor (List Bar)). t.now) (take (i + 1) tables)))
-same_more tables i table width sales ones within at is h =
+pub range_more : (bounds : List ℕ) (tables : List (Bor (List Bar))) (i : ℕ) (table : Bor (List Bar)) (so_far new : List Bar) → i < length tables
+    → table ≡ get_or tables i table
+    → AreJoinedAlike so_far (filter (is_in_first locate_of bounds) (all_bars (map (λ (t : Bor (List Bar)). t.now) (take i tables))))
+    → AreJoinedAlike new (so_far ++ filter (is_in_first locate_of bounds) table.now)
+    → AreJoinedAlike new (filter (is_in_first locate_of bounds) (all_bars (map (λ (t : Bor (List Bar)). t.now) (take (i + 1) tables))))
+range_more bounds tables i table so_far new within at h more key =
     let now : Bor (List Bar) → List Bar = λ t. t.now in
-    subst (AreOfSame (ones ++ map (bar_of_one width) sales))
-    (ap (λ l. all_bars (map now (take i tables)) ++ l) (sym is ∙ ap now at) ∙ sym (parts_more tables i table within))
-    (AreOfSame-more width ones (all_bars (map now (take i tables))) sales h)
+    let test = is_in_first locate_of bounds in
+    let before = all_bars (map now (take i tables)) in
+    more key ∙ alike_parts so_far (filter test before) (filter test table.now) (filter test table.now) h (λ k. refl) key
+    ∙ ap (λ l. joined_all None (under key l))
+    (sym (filter-append test before table.now) ∙ ap (filter test) (ap (λ l. before ++ l) (ap now at) ∙ sym (parts_more tables i table within)))
 
 pub traded_in_range : (width : ℕ) (p : Sale → Bool) (sales part : List Sale) (so_far new : List Bar) → All IsTraded so_far
     → All (λ sale. IsTraded (bar_of_one width sale)) sales → part ≡ filter p sales → new ≡ so_far ++ map (bar_of_one width) part → All IsTraded new
@@ -170,6 +175,11 @@ traded_in_range width p sales part so_far new so traded of made =
     subst (All IsTraded) (sym (made ∙ ap (λ l. so_far ++ map (bar_of_one width) l) of))
     (All-append IsTraded so_far (map (bar_of_one width) (filter p sales)) so
     (All-map IsTraded (bar_of_one width) (filter p sales) (All-filter p (λ s. IsTraded (bar_of_one width s)) sales traded)))
+
+pub bars_traded_in_range : (p : Bar → Bool) (table part so_far new : List Bar) → All IsTraded so_far → All IsTraded table → part ≡ filter p table
+    → new ≡ so_far ++ part → All IsTraded new
+bars_traded_in_range p table part so_far new so traded of made =
+    subst (All IsTraded) (sym (made ∙ ap (λ l. so_far ++ l) of)) (All-append IsTraded so_far (filter p table) so (All-filter p IsTraded table traded))
 
 -- ---- the lines
 

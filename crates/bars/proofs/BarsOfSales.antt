@@ -1,26 +1,32 @@
 -- Bars of one sale each: joined, they are the bars of all the sales.
-use Rattle.std.proofs.Common.{◌≡◌, ℕ, zero, suc, ◌+◌, ◌<◌, ◌≤◌, ◌^◌, Bool, true, false, cond, All, List, [], ◌∷◌, ◌++◌, length, map}
+use Rattle.std.proofs.Common.{◌≡◌, ℕ, zero, suc, ◌+◌, ◌<◌, ◌≤◌, min, max, ltb, Bool, true, false, cond, All, List, [], ◌∷◌, ◌++◌, length, map}
 use Rattle.std.proofs.Common.{filter, get_or, Option, Some, None, Contains, IsPermutation, nat_eq, refl, sym, ap, ap₂, ◌∙◌, subst, arith, append_assoc}
 use Rattle.std.specs.List.{sum_by}
-use Rattle.std.specs.Ordering.{is_lt, nat_cmp, ordering_then}
+use Rattle.std.specs.Ordering.{is_gt, is_lt, nat_cmp, ordering_then}
 use Rattle.std.specs.List.{IsDistinct}
-use Rattle.std.specs.List.Sorted.{IsNonDecreasingBy, IsSortedByKey}
+use Rattle.std.specs.List.Sorted.{IsNonDecreasingBy, IsSorted, IsSortedByKey}
 use Rattle.std.proofs.lemmas.Bool.Decides.{nat_tests}
 use Rattle.std.proofs.lemmas.List.Sorted.{IsNonDecreasingBy-from_all_adjacent, IsPermutation-map, IsPermutation-sym}
 use Rattle.std.proofs.lemmas.Map.Keys.{IsDistinct-IsPermutation}
 use Rattle.lists.proofs.Least.{TellsApart-permutation}
 use Rattle.lists.proofs.Order.{TellsApart-from_distinct}
 use Rattle.std.proofs.lemmas.Bool.{and_from, and_parts, eq-eqb, eqb-true}
-use Rattle.std.proofs.lemmas.List.{append-nil}
+use Rattle.std.proofs.lemmas.List.{append-nil, get_or-map, get_or_default, length-map}
 use Rattle.std.proofs.lemmas.List.Elements.{filter-append, filter_passes, All-contains_itself, All-filter, All-get_or, All-head, All-map, All-tail, All-weaker}
-use Rattle.std.proofs.Math.Nat.{mul-le-mul_left}
+use Rattle.row_types.specs.declared.trade.Kind.TheVariants.{E}
 use Rattle.row_types.specs.declared.trade.Sale.{Sale}
-use Rattle.bars.specs.Bars.{Key, Bar, has_key, bar_of, joined, joined_all, joined_bar, under, AllSumsFit, AreBarsOf, IsTraded, IsUnionOf}
-use Rattle.bars.specs.Steps.{AreJoinedAlike, bar_of_one, bars_of}
+use Rattle.bars.specs.Bars.{Key, Bar, has_key, bar_of, joined, joined_all, joined_bar, key_cmp, under, AllSumsFit, AreBarsOf, IsTraded, IsUnionOf}
+use Rattle.bars.specs.declared.form.Form.{Form}
+use Rattle.bars.specs.declared.form.Form.TheVariants.{Sales, Bars}
+use Rattle.bars.specs.Steps.{AreJoinedAlike, AreOfForm, bars_of_form, IsUpTo, bar_of_one, bars_of}
 use Rattle.bars.proofs.Bars.{AreBarsOf-none, AreBarsOf-permutation, AreBarsOf-unique, bar_of-append, found_itself}
-use Rattle.bars.proofs.JoinedTables.{has, joined_all-append, of, sum_joined, under_table}
-use Rattle.bars.proofs.LastBar.{AreBarsOf-more, AreBarsOf-one, by_time}
+use Rattle.bars.proofs.JoinedTables.{has, joined_all-append, joined_none, next_is_up_to, of, sum_joined, under_table}
+use Rattle.bars.proofs.LastBar.{AreBarsOf-more, AreBarsOf-one, by_time, one_not_after}
 use Rattle.bars.proofs.MergedTables.{AreBarsOf-merged_tables}
+
+-- a sale where there is none
+abbrev pub no_sale : Sale
+no_sale = record { place = 0; time = 0; locate = 0; kind = E; price = 0; shares = 0; trade_no = 0 }
 
 -- ---- the table of some sales
 
@@ -67,30 +73,65 @@ table_joined : (width : ℕ) (key : Key) (sales told : List Sale) (table : List 
 table_joined width key sales told table before are e =
     under_table table key are.rise before ∙ ap₂ joined e (are.each key) ∙ sym (bar_of-append key told (filter (has_key width key) sales))
 
--- the bars of one sale each, and the bars of tables, are of the same sales under each key
-pub record AreOfSame (ones bars : List Bar) : Type 0 where
-  pub told : Key → List Sale
-  pub one : (key : Key) → joined_all None (under key ones) ≡ bar_of key (told key)
-  pub other : (key : Key) → joined_all None (under key bars) ≡ bar_of key (told key)
+-- the bars of one sale each, and the table of the sales, are joined alike
+pub ones_alike : (width : ℕ) (sales : List Sale) → AreJoinedAlike (map (bar_of_one width) sales) (bars_of width sales)
+ones_alike width sales key =
+    ones_joined width key sales [] None refl ∙ sym (table_joined width key sales [] (bars_of width sales) None (bars_of_are width sales) refl)
 
-pub AreOfSame-none : AreOfSame [] []
-AreOfSame-none = record { told = λ key. []; one = λ key. refl; other = λ key. refl }
+-- ---- lists of which both parts are joined alike
 
--- one table more
-pub AreOfSame-more : (width : ℕ) (ones bars : List Bar) (sales : List Sale) → AreOfSame ones bars
-    → AreOfSame (ones ++ map (bar_of_one width) sales) (bars ++ bars_of width sales)
-AreOfSame-more width ones bars sales h = record {
-  told = λ key. h.told key ++ filter (has_key width key) sales;
-  one = λ key. ap (joined_all None) (filter-append (λ b. has b key) ones (map (bar_of_one width) sales))
-      ∙ joined_all-append None (under key ones) (under key (map (bar_of_one width) sales))
-      ∙ ones_joined width key sales (h.told key) (joined_all None (under key ones)) (h.one key);
-  other = λ key. ap (joined_all None) (filter-append (λ b. has b key) bars (bars_of width sales))
-      ∙ joined_all-append None (under key bars) (under key (bars_of width sales))
-      ∙ table_joined width key sales (h.told key) (bars_of width sales) (joined_all None (under key bars)) (bars_of_are width sales) (h.other key);
+least_of_three : (a b c : ℕ) → min (min a b) c ≡ min a (min b c)
+least_of_three a b c = omega arith
+
+greatest_of_three : (a b c : ℕ) → max (max a b) c ≡ max a (max b c)
+greatest_of_three a b c = omega arith
+
+first_of_three : (a b c p q r : ℕ) → cond (ltb c (min a b)) r (cond (ltb b a) q p) ≡ cond (ltb (min b c) a) (cond (ltb c b) r q) p
+first_of_three a b c p q r = grind (arith, nat_tests)
+
+last_of_three : (a b c p q r : ℕ) → cond (ltb (max a b) c) r (cond (ltb a b) q p) ≡ cond (ltb a (max b c)) (cond (ltb b c) r q) p
+last_of_three a b c p q r = grind (arith, nat_tests)
+
+sum_of_three : (a b c : ℕ) → (a + b) + c ≡ a + (b + c)
+sum_of_three a b c = omega arith
+
+joined_bars : (a b c : Bar) → joined_bar (joined_bar a b) c ≡ joined_bar a (joined_bar b c)
+joined_bars a b c = λ i. record {
+  locate = a.locate;
+  start = a.start;
+  first_place = least_of_three a.first_place b.first_place c.first_place i;
+  first = first_of_three a.first_place b.first_place c.first_place a.first b.first c.first i;
+  high = greatest_of_three a.high b.high c.high i;
+  low = least_of_three a.low b.low c.low i;
+  last_place = greatest_of_three a.last_place b.last_place c.last_place i;
+  last = last_of_three a.last_place b.last_place c.last_place a.last b.last c.last i;
+  volume = sum_of_three a.volume b.volume c.volume i;
+  notional = sum_of_three a.notional b.notional c.notional i;
+  trades = sum_of_three a.trades b.trades c.trades i;
 }
 
-pub alike_from : (ones bars : List Bar) → AreOfSame ones bars → AreJoinedAlike ones bars
-alike_from ones bars h key = h.one key ∙ sym (h.other key)
+joined_three : (a b c : Option Bar) → joined (joined a b) c ≡ joined a (joined b c)
+joined_three None b c = refl
+joined_three (Some a) None c = refl
+joined_three (Some a) (Some b) None = refl
+joined_three (Some a) (Some b) (Some c) = ap Some (joined_bars a b c)
+
+-- what there was before is joined to all the others
+joined_before : (before : Option Bar) (bars : List Bar) → joined_all before bars ≡ joined before (joined_all None bars)
+joined_before before [] = sym (joined_none before)
+joined_before before (bar ∷ bars) =
+    joined_before (joined before (Some bar)) bars ∙ joined_three before (Some bar) (joined_all None bars)
+    ∙ ap (joined before) (sym (joined_before (Some bar) bars))
+
+joined_parts : (key : Key) (xs ys : List Bar)
+    → joined_all None (under key (xs ++ ys)) ≡ joined (joined_all None (under key xs)) (joined_all None (under key ys))
+joined_parts key xs ys =
+    ap (joined_all None) (filter-append (λ b. has b key) xs ys)
+    ∙ joined_all-append None (under key xs) (under key ys)
+    ∙ joined_before (joined_all None (under key xs)) (under key ys)
+
+pub alike_parts : (one other more others : List Bar) → AreJoinedAlike one other → AreJoinedAlike more others → AreJoinedAlike (one ++ more) (other ++ others)
+alike_parts one other more others h g key = joined_parts key one more ∙ ap₂ joined (h key) (g key) ∙ sym (joined_parts key other others)
 
 -- ---- what is joined alike has one union, and fits alike
 
@@ -176,6 +217,11 @@ table_traded width sales traded =
     traded_from (under key ones) bar (All-filter (λ b. has b key) IsTraded ones (All-map IsTraded (bar_of_one width) sales traded)) is)
     table (All-contains_itself table)
 
+-- so is each of the bars that are kept in a form
+pub form_traded : (form : Form) → AreOfForm form → All IsTraded (bars_of_form form)
+form_traded (Sales sales width) of = table_traded width sales.items of.traded
+form_traded (Bars table) of = of.1
+
 -- ---- sales by locate and time
 
 locate_rises : (l t m u : ℕ) → is_lt (ordering_then (nat_cmp m l) (nat_cmp u t)) ≡ false → l ≤ m
@@ -202,11 +248,30 @@ bars_of_sorted width sales sorted perm apart =
     (TellsApart-permutation (λ (s : Sale). s.place) sales sorted perm (TellsApart-from_distinct (λ (s : Sale). s.place) sales apart))
     (IsPermutation-sym sales sorted perm) (bars_of_are width sorted)
 
--- the bar of one sale of some shares, its numbers within their types
-one_traded : (width : ℕ) (sale : Sale) → (sale.shares < 2 ^ 64) × (sale.price < 2 ^ 32) → 0 < sale.shares → IsTraded (bar_of_one width sale)
-one_traded width sale fits some =
-    (some, mul-le-mul_left sale.shares (omega (arith, fits.1)), omega (arith, fits.0))
+-- so is the table of sorted sales that was made of them
+pub AreBarsOf-sorted : (width : ℕ) (sales sorted : List Sale) (table : List Bar) → IsPermutation sales sorted
+    → IsDistinct nat_eq (map (λ (s : Sale). s.place) sales) → AreBarsOf width sorted table → AreBarsOf width sales table
+AreBarsOf-sorted width sales sorted table perm apart are =
+    subst (AreBarsOf width sales) (sym (table_is width sorted table are)) (bars_of_sorted width sales sorted perm apart)
 
-pub ones_traded : (width : ℕ) (sales : List Sale) → All (λ (sale : Sale). (sale.shares < 2 ^ 64) × (sale.price < 2 ^ 32)) sales
-    → All (λ (sale : Sale). 0 < sale.shares) sales → All (λ sale. IsTraded (bar_of_one width sale)) sales
-ones_traded width sales fits some k d h = one_traded width (get_or sales k d) (fits k d h) (some k d h)
+not_before : (a b : Bar) → is_gt (key_cmp a b) ≡ false → is_lt (key_cmp b a) ≡ false
+not_before a b h = grind (arith, nat_tests)
+
+-- the bars of one sale each stand in order of their keys
+pub ones_rise : (width : ℕ) (sales : List Sale) → 0 < width → IsSortedByKey (λ (s : Sale). (s.locate, s.time)) by_time sales
+    → IsSorted key_cmp (map (bar_of_one width) sales)
+ones_rise width sales some up k d low within =
+    let n = length-map sales (bar_of_one width) in
+    rw (get_or-map (bar_of_one width) sales k no_sale d (omega (arith, n)), get_or-map (bar_of_one width) sales (k + 1) no_sale d (omega (arith, n)))
+    (not_before (bar_of_one width (get_or sales k no_sale)) (bar_of_one width (get_or sales (k + 1) no_sale))
+    (one_not_after width (get_or sales k no_sale) (get_or sales (k + 1) no_sale) some (up k no_sale (omega (arith, n)) (omega (arith, n)))))
+
+-- the next sale's bar isn't before those that are made
+pub next_up_to : (width : ℕ) (sales : List Sale) (i : ℕ) (d e : Sale) (new : List Bar) (bar : Bar) → IsSorted key_cmp (map (bar_of_one width) sales)
+    → i + 1 < length sales → bar ≡ bar_of_one width (get_or sales i e) → IsUpTo new bar → IsUpTo new (bar_of_one width (get_or sales (i + 1) d))
+next_up_to width sales i d e new bar rise within is to =
+    let one = bar_of_one width in
+    let n = length-map sales one in
+    subst (IsUpTo new) (get_or-map one sales (i + 1) d (one d) within)
+    (next_is_up_to (map one sales) new i (one d) bar rise (omega (arith, n, within))
+    (is ∙ ap one (get_or_default sales i e d (omega arith)) ∙ sym (get_or-map one sales i d (one d) (omega (arith, within)))) to)

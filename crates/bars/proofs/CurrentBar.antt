@@ -5,9 +5,10 @@ use Rattle.std.proofs.lemmas.Bool.{eqb-true}
 use Rattle.std.proofs.lemmas.Bool.Decides.{nat_tests}
 use Rattle.std.proofs.lemmas.List.Elements.{Contains-push, Contains-push_cases}
 use Rattle.bars.specs.Bars.{Bar, key_cmp, joined_all, joined_bar, IsByKey, IsUnionOf, CanJoin, SumsFit}
-use Rattle.row_types.specs.declared.trade.Kind.TheVariants.{E}
 use Rattle.bars.specs.Steps.{merged_tables, IsOrderOf, bar_at}
 use Rattle.bars.specs.declared.keyed.Keyed.{Keyed}
+use Rattle.bars.specs.declared.keyed.Keyed.TheVariants.{OfSale}
+use Rattle.bars.proofs.BarsOfSales.{no_sale}
 use Rattle.bars.specs.Texts.{bar_line, lines_text}
 use Rattle.std.specs.List.Sorted.{IsSorted}
 use Rattle.std.proofs.lemmas.List.{append-nil}
@@ -100,8 +101,4 @@ none sorted e = eqb-true (length sorted) 0 e
 
 -- a sale beside its key where there is none
 abbrev pub no_keyed : Keyed
-no_keyed = record {
-  start = 0;
-  sale = record { ref_ptr = (0, 0); now = record { place = 0; time = 0; locate = 0; kind = E; price = 0; shares = 0; trade_no = 0 } };
-  locate = 0;
-}
+no_keyed = OfSale 0 0 (record { ref_ptr = (0, 0); now = no_sale })

@@ -33,7 +33,7 @@ pub joined_all-append : (before : Option Bar) (xs ys : List Bar) → joined_all 
 joined_all-append before [] ys = refl
 joined_all-append before (x ∷ xs) ys = joined_all-append (joined before (Some x)) xs ys
 
-joined_none : (before : Option Bar) → joined before None ≡ before
+pub joined_none : (before : Option Bar) → joined before None ≡ before
 joined_none None = refl
 joined_none (Some a) = refl
 

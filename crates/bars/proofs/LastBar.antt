@@ -9,7 +9,7 @@ use Rattle.std.proofs.lemmas.Cmp.{upto}
 use Rattle.std.proofs.lemmas.List.Sorted.{answers_always}
 use Rattle.std.specs.Fn.{Mut, Called, ComputesKey}
 use Rattle.std.specs.List.Sorted.{IsSortedByKey}
-use Rattle.std.proofs.lemmas.List.{take_more, take_all, get_or_default, set-get_or}
+use Rattle.std.proofs.lemmas.List.{take_more, take_all, set-get_or}
 use Rattle.std.proofs.lemmas.List.Elements.{All-nil, All-get_or, All-push, All-weaker, All-contains, All-from_recursion, Contains-push, Contains-push_cases}
 use Rattle.std.proofs.lemmas.Map.Keys.{sorted_head, sorted_tail}
 use Rattle.std.proofs.lemmas.Nat.{le-div}
@@ -210,12 +210,3 @@ told_one_more width sales i d table new bar within is are made =
     subst (AreBarsOf width (take (i + 1) sales)) (sym (made ∙ ap (λ z. merged_tables table (z ∷ [])) is))
     (subst (λ l. AreBarsOf width l (merged_tables table (bar_of_one width (get_or sales i d) ∷ []))) (sym (take_more sales i d within))
     (AreBarsOf-more width (take i sales) (get_or sales i d) table are))
-
-pub next_up_to : (width : ℕ) (sales : List Sale) (i : ℕ) (d e : Sale) (new : List Bar) (bar : Bar) → 0 < width
-    → IsSortedByKey (λ (s : Sale). (s.locate, s.time)) by_time sales
-    → i + 1 < length sales → bar ≡ bar_of_one width (get_or sales i e) → IsUpTo new bar → IsUpTo new (bar_of_one width (get_or sales (i + 1) d))
-next_up_to width sales i d e new bar some sorted within is to =
-    let here : bar ≡ bar_of_one width (get_or sales i d) = is ∙ ap (bar_of_one width) (get_or_default sales i e d (omega arith)) in
-    up_to_later new (bar_of_one width (get_or sales i d)) (bar_of_one width (get_or sales (i + 1) d))
-    (one_not_after width (get_or sales i d) (get_or sales (i + 1) d) some (sorted i d (omega arith) within))
-    (subst (IsUpTo new) here to)

@@ -9,8 +9,11 @@ use Rattle.std.specs.List.Sorted.{IsNonDecreasingBy, IsPermutation, IsSorted}
 use Rattle.lists.specs.declared.limits.TheConstants.{SECONDS_OF_DAY, TRADE_LIMIT}
 use Rattle.row_types.specs.declared.trade.Sale.{Sale}
 use Rattle.bars.specs.declared.bar.Bar.{Bar}
+use Rattle.bars.specs.declared.form.Form.{Form}
+use Rattle.bars.specs.declared.form.Form.TheVariants.{Sales, Bars}
 use Rattle.bars.specs.declared.keyed.Keyed.{Keyed}
-use Rattle.bars.specs.Bars.{IsTraded, Key, start_of, key_cmp, joined_all, joined_bar, under}
+use Rattle.bars.specs.declared.keyed.Keyed.TheVariants.{OfSale, OfBar}
+use Rattle.bars.specs.Bars.{IsByKey, IsTraded, Key, start_of, key_cmp, joined_all, joined_bar, under}
 
 -- the bar of one sale
 abbrev pub bar_of_one : ℕ → Sale → Bar
@@ -62,10 +65,10 @@ pub record IsOrderOf (bars sorted : List Bar) : Type 0 where
   pub each : (key : Key) → under key sorted ≡ under key bars
   pub permutation : IsPermutation bars sorted
 
--- ---- bars that are made when their lines are written
+-- ---- bars that are made, or only when their lines are written
 
 -- sales that their bars can be made of: their places differ, they are fewer than a file has room for and each of some
--- shares, their locates rise, and the width is one of a day's
+-- shares, their locates rise, the width is one of a day's, and the bar of each is traded
 pub record AreUnmade (width : ℕ) (sales : List Sale) : Type 0 where
   pub places : IsDistinct nat_eq (map (λ sale. sale.place) sales)
   pub count : length sales < TRADE_LIMIT
@@ -74,22 +77,33 @@ pub record AreUnmade (width : ℕ) (sales : List Sale) : Type 0 where
   pub locates : IsNonDecreasingBy (λ sale. sale.locate) sales
   pub traded : All (λ sale. IsTraded (bar_of_one width sale)) sales
 
--- the bar of one sale that stands beside its key
+-- the bars that are kept in a form
+abbrev pub bars_of_form : Form → List Bar
+bars_of_form (Sales sales width) = bars_of width sales.items
+bars_of_form (Bars table) = table
+
+-- sales that their bars can be made of, or bars by key, each of which is traded
+abbrev pub AreOfForm : Form → Type 0
+AreOfForm (Sales sales width) = AreUnmade width sales.items
+AreOfForm (Bars table) = IsByKey table × All IsTraded table
+
+-- the bar of one sale that stands beside its key, or the bar that stands there
 abbrev pub bar_at : Keyed → Bar
-bar_at keyed =
+bar_at (OfSale locate start sale) =
     record {
-      locate = keyed.locate;
-      start = keyed.start;
-      first_place = keyed.sale.now.place;
-      first = keyed.sale.now.price;
-      high = keyed.sale.now.price;
-      low = keyed.sale.now.price;
-      last_place = keyed.sale.now.place;
-      last = keyed.sale.now.price;
-      volume = keyed.sale.now.shares;
-      notional = keyed.sale.now.shares * keyed.sale.now.price;
+      locate = locate;
+      start = start;
+      first_place = sale.now.place;
+      first = sale.now.price;
+      high = sale.now.price;
+      low = sale.now.price;
+      last_place = sale.now.place;
+      last = sale.now.price;
+      volume = sale.now.shares;
+      notional = sale.now.shares * sale.now.price;
       trades = 1;
     }
+bar_at (OfBar locate start bar) = record bar.now { locate = locate; start = start }
 
 -- of each key the bars of two lists, joined, are one bar
 abbrev pub AreJoinedAlike : List Bar → List Bar → Type 0

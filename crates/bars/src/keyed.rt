@@ -1,4 +1,4 @@
-//! Sales beside the keys of their bars.
+//! Sales and bars beside their keys.
 ghost use Rattle.std.specs.Prelude.{◌≡◌, ◌<◌, ◌++◌, OnOk, map};
 ghost use Rattle.bars.specs.Steps.{bar_at, bar_of_one};
 
@@ -6,48 +6,70 @@ use crate::OutOfMemory;
 use crate::bar::{Bar, start_of};
 use row_types::Sale;
 
-/// A sale beside the key of its bar, so that sales are sorted by key without a look at them.
+/// A sale or a bar beside its key, so that they are sorted by key without a look at them. The locate
+/// comes first, beside which kind it is: so either has 24 bytes.
 #[derive(Clone, Copy)]
-pub(crate) struct Keyed<'a> {
-    /// Where the bar's interval starts, in nanoseconds since midnight.
-    start: u64,
-    sale: &'a Sale,
-    locate: u16,
+pub(crate) enum Keyed<'a> {
+    /// A sale. The start is where the interval of its bar starts, in nanoseconds since midnight.
+    OfSale {
+        locate: u16,
+        start: u64,
+        sale: &'a Sale,
+    },
+    /// A bar.
+    OfBar {
+        locate: u16,
+        start: u64,
+        bar: &'a Bar,
+    },
 }
 
 impl<'a> Keyed<'a> {
     /// The locate and the start of the bar.
     #[inline]
     pub(crate) fn key(&self) -> (u16, u64)
-        ensures { result ≡ (self.now.locate, self.now.start) }
+        ensures { result ≡ ((bar_at self.now).locate, (bar_at self.now).start) }
     {
-        (self.locate, self.start)
+        match self {
+            Keyed::OfSale { locate, start, .. } => (*locate, *start),
+            Keyed::OfBar { locate, start, .. } => (*locate, *start),
+        }
     }
 
-    /// The bar of the sale alone.
+    /// The bar, or that of the sale alone.
     #[inline]
     pub(crate) fn bar(&self) -> Bar
         ensures { result ≡ bar_at self.now }
     {
-        let sale = self.sale;
-        Bar {
-            locate: self.locate,
-            start: self.start,
-            first_place: sale.place,
-            first: sale.price,
-            high: sale.price,
-            low: sale.price,
-            last_place: sale.place,
-            last: sale.price,
-            volume: u128::from(sale.shares),
-            notional: u128::from(sale.shares) * u128::from(sale.price),
-            trades: 1,
+        match self {
+            Keyed::OfSale {
+                locate,
+                start,
+                sale,
+            } => Bar {
+                locate: *locate,
+                start: *start,
+                first_place: sale.place,
+                first: sale.price,
+                high: sale.price,
+                low: sale.price,
+                last_place: sale.place,
+                last: sale.price,
+                volume: u128::from(sale.shares),
+                notional: u128::from(sale.shares) * u128::from(sale.price),
+                trades: 1,
+            },
+            Keyed::OfBar { locate, start, bar } => Bar {
+                locate: *locate,
+                start: *start,
+                ..**bar
+            },
         }
     }
 }
 
 /// Appends each of the sales, beside the key of its bar at a width in seconds.
-pub(crate) fn append<'a>(
+pub(crate) fn append_sales<'a>(
     keyed: &mut Vec<Keyed<'a>>,
     sales: &'a [Sale],
     width: u32,
@@ -57,16 +79,33 @@ pub(crate) fn append<'a>(
         (map bar_at keyed.new.items ≡ map bar_at keyed.old.items ++ map (bar_of_one width) sales.now) }
 {
     for sale in sales {
-        keyed.push(Keyed {
+        keyed.push(Keyed::OfSale {
+            locate: sale.locate,
             start: start_of(sale.time, width),
             sale,
-            locate: sale.locate,
         })?;
     }
     Ok(())
 }
 
-/// How many keys there are among sales in order of their keys, for room for a line each.
+/// Appends each of the bars, beside its key.
+pub(crate) fn append_bars<'a>(
+    keyed: &mut Vec<Keyed<'a>>,
+    bars: &'a [Bar],
+) -> Result<(), OutOfMemory>
+    ensures { OnOk result (map bar_at keyed.new.items ≡ map bar_at keyed.old.items ++ bars.now) }
+{
+    for bar in bars {
+        keyed.push(Keyed::OfBar {
+            locate: bar.locate,
+            start: bar.start,
+            bar,
+        })?;
+    }
+    Ok(())
+}
+
+/// How many keys there are in order of the keys, for room for a line each.
 pub(crate) fn count_keys(sorted: &[Keyed]) -> usize {
     let mut count = 0usize;
     for i in 0..sorted.len() {

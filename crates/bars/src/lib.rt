@@ -5,18 +5,21 @@
 #![tactic(auto)]
 
 mod bar;
+mod bucket_bars;
+mod form;
 mod joined_lines;
 mod keyed;
+mod located;
 mod ranges;
 mod table;
 mod texts;
-mod unmade;
 
 pub use bar::Bar;
+pub use bucket_bars::BucketBars;
+pub use form::Form;
 pub use lists::OutOfMemory;
 pub use ranges::lines_in_ranges;
 pub use row_types::Sale;
 pub use table::BarTable;
 pub use texts::{write_bar, write_header};
 pub use time_and_sales::Name;
-pub use unmade::UnmadeBars;

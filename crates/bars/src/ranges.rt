@@ -1,7 +1,7 @@
 //! The lines of many tables, of ranges of locates by threads.
-ghost use Rattle.std.specs.Prelude.{◌≡◌, ◌<◌, All, IfOk, List, drop, filter, length, map, nat_lt, not, slice_index};
+ghost use Rattle.std.specs.Prelude.{◌≡◌, ◌<◌, ◌++◌, All, IfOk, OnOk, List, drop, filter, length, map, slice_index};
 ghost use Rattle.std.specs.List.{flat_map};
-ghost use Rattle.std.specs.List.Sorted.{IsNonDecreasing, IsNonDecreasingBy, IsSorted};
+ghost use Rattle.std.specs.List.Sorted.{IsNonDecreasing, IsSorted};
 ghost use Rattle.lists.specs.declared.limits.TheConstants.{TIME_LIMIT};
 ghost use Rattle.time_and_sales.specs.Names.{last_row, name_text};
 ghost use Rattle.time_and_sales.specs.Parted.{is_in_first};
@@ -11,10 +11,11 @@ ghost use Rattle.bars.specs.Texts.{lines_text};
 ghost use Rattle.bars.specs.declared.bar.Bar.{Bar as TheBar};
 
 use crate::OutOfMemory;
+use crate::bucket_bars::BucketBars;
+use crate::form::Form;
 use crate::joined_lines::joined_lines;
-use crate::keyed::{Keyed, append};
-use crate::unmade::UnmadeBars;
-use row_types::Sale;
+use crate::keyed::{Keyed, append_bars, append_sales};
+use crate::located::within;
 use std::alloc::Global;
 use std::thread::Threads;
 use time_and_sales::{Names, bounds_of, texts_of};
@@ -26,7 +27,7 @@ use time_and_sales::{Names, bounds_of, texts_of};
 pub fn lines_in_ranges<R: Threads + Sync>(
     rt: &R,
     alloc: Global,
-    tables: &[&UnmadeBars],
+    tables: &[&BucketBars],
     names: &Names,
     ranges: u32,
 ) -> Result<Vec<Vec<u8>>, OutOfMemory>
@@ -37,30 +38,33 @@ pub fn lines_in_ranges<R: Threads + Sync>(
         flat_map (λ text. text.items) texts.items
         ≡ lines_text (λ locate. name_text locate (last_row names.now locate)) all) }
 {
-    let locates = locates_of(alloc, longest(tables), ranges)?;
+    let locates = match longest(tables) {
+        Some(form) => locates_of(alloc, form, ranges)?,
+        None => Vec::new(alloc),
+    };
     let bounds = bounds_of(alloc, locates.as_slice())?;
     lines_from(rt, alloc, tables, names, bounds.as_slice())
 }
 
-/// The sales of the longest table.
-fn longest<'a>(tables: &[&'a UnmadeBars]) -> &'a [Sale] {
-    let mut longest: &[Sale] = &[];
+/// Of what most is kept among the tables.
+fn longest<'a>(tables: &[&'a BucketBars]) -> Option<&'a Form> {
+    let mut longest: Option<&Form> = None;
     for table in tables {
-        let (sales, _) = table.parts();
-        if longest.len() < sales.len() {
-            longest = sales;
+        let form = table.form();
+        if longest.is_none_or(|longest| longest.len() < form.len()) {
+            longest = Some(form);
         }
     }
     longest
 }
 
-/// The locates with which `parts` parts of the sales, of one length, begin, without the first.
-fn locates_of(alloc: Global, sales: &[Sale], parts: u32) -> Result<Vec<u64>, OutOfMemory> {
+/// The locates with which `parts` parts of what is kept, of one length, begin, without the first.
+fn locates_of(alloc: Global, form: &Form, parts: u32) -> Result<Vec<u64>, OutOfMemory> {
     let mut locates = Vec::new(alloc);
     for part in 1..parts {
-        let before = sales.len() / parts as usize * part as usize;
-        if let Some(sale) = sales.get(before) {
-            locates.push(u64::from(sale.locate))?;
+        let before = form.len() / parts as usize * part as usize;
+        if let Some(locate) = form.locate(before) {
+            locates.push(u64::from(locate))?;
         }
     }
     Ok(locates)
@@ -71,7 +75,7 @@ fn locates_of(alloc: Global, sales: &[Sale], parts: u32) -> Result<Vec<u64>, Out
 fn lines_from<R: Threads + Sync>(
     rt: &R,
     alloc: Global,
-    tables: &[&UnmadeBars],
+    tables: &[&BucketBars],
     names: &Names,
     bounds: &[u64],
 ) -> Result<Vec<Vec<u8>>, OutOfMemory>
@@ -104,7 +108,7 @@ fn lines_from<R: Threads + Sync>(
 /// The lines of the bars of all tables whose locates are in the first range.
 fn range_lines(
     alloc: Global,
-    tables: &[&UnmadeBars],
+    tables: &[&BucketBars],
     names: &Names,
     bounds: &[u64],
 ) -> Result<Vec<u8>, OutOfMemory>
@@ -119,10 +123,10 @@ fn range_lines(
     joined_lines(alloc, sorted.as_slice(), names)
 }
 
-/// The sales of all tables whose locates are in the first range, in order of the keys of their bars.
+/// What is kept of all tables of locates in the first range, in order of the keys of the bars.
 fn range_of<'a>(
     alloc: Global,
-    tables: &[&'a UnmadeBars],
+    tables: &[&'a BucketBars],
     bounds: &[u64],
 ) -> Result<Vec<Keyed<'a>>, OutOfMemory>
     ensures rise { IfOk result (λ sorted. IsSorted key_cmp (map bar_at sorted.items)) }
@@ -135,10 +139,10 @@ fn range_of<'a>(
     Ok(keyed)
 }
 
-/// The sales of all tables whose locates are in the first range, each beside the key of its bar.
+/// What is kept of all tables of locates in the first range, each sale or bar beside its key.
 fn gathered<'a>(
     alloc: Global,
-    tables: &[&'a UnmadeBars],
+    tables: &[&'a BucketBars],
     bounds: &[u64],
 ) -> Result<Vec<Keyed<'a>>, OutOfMemory>
     ensures alike { IfOk result (λ keyed. AreJoinedAlike (map bar_at keyed.items)
@@ -147,47 +151,39 @@ fn gathered<'a>(
 {
     let mut keyed = Vec::with_capacity(alloc, count_within(tables, bounds))?;
     for table in tables {
-        let (sales, width) = table.parts();
-        append(&mut keyed, within(sales, bounds), width)?;
+        append_within(&mut keyed, table, bounds)?;
     }
     Ok(keyed)
 }
 
-/// How many sales of all tables are in the first range, for room for them to be made.
-fn count_within(tables: &[&UnmadeBars], bounds: &[u64]) -> usize {
+/// Appends what is kept of a table of locates in the first range.
+fn append_within<'a>(
+    keyed: &mut Vec<Keyed<'a>>,
+    table: &'a BucketBars,
+    bounds: &[u64],
+) -> Result<(), OutOfMemory>
+    ensures alike { OnOk result (AreJoinedAlike (map bar_at keyed.new.items)
+        (map bar_at keyed.old.items ++ filter (is_in_first (λ bar. bar.locate) bounds.now) table.now)) }
+    ensures traded { OnOk result
+        (All IsTraded (map bar_at keyed.old.items) → All IsTraded (map bar_at keyed.new.items)) }
+{
+    match table.form() {
+        Form::Sales { sales, width } => {
+            append_sales(keyed, within(sales.as_slice(), bounds), *width)
+        }
+        Form::Bars(bars) => append_bars(keyed, within(bars.items(), bounds)),
+    }
+}
+
+/// How much is kept of all tables of locates in the first range, for room for it to be made.
+fn count_within(tables: &[&BucketBars], bounds: &[u64]) -> usize {
     let mut count = 0usize;
     for table in tables {
-        let (sales, _) = table.parts();
-        count = count.saturating_add(within(sales, bounds).len());
+        let more = match table.form() {
+            Form::Sales { sales, .. } => within(sales.as_slice(), bounds).len(),
+            Form::Bars(bars) => within(bars.items(), bounds).len(),
+        };
+        count = count.saturating_add(more);
     }
     count
-}
-
-/// The sales whose locates are in the first range.
-fn within<'a>(sales: &'a [Sale], bounds: &[u64]) -> &'a [Sale]
-    requires { IsNonDecreasingBy (λ sale. sale.locate) sales.now }
-    ensures { result.now ≡ filter (is_in_first (λ sale. sale.locate) bounds.now) sales.now }
-{
-    match bounds {
-        [] => &[],
-        [low] => from(sales, *low),
-        [low, high, ..] => from(below(sales, *high), *low),
-    }
-}
-
-/// The sales whose locates are below this one.
-fn below(sales: &[Sale], locate: u64) -> &[Sale]
-    requires { IsNonDecreasingBy (λ sale. sale.locate) sales.now }
-    ensures value { result.now ≡ filter (λ sale. nat_lt sale.locate locate) sales.now }
-    ensures locates { IsNonDecreasingBy (λ sale. sale.locate) result.now }
-{
-    &sales[..sales.partition_point(|sale| u64::from(sale.locate) < locate)]
-}
-
-/// The sales whose locates are this one or greater.
-fn from(sales: &[Sale], locate: u64) -> &[Sale]
-    requires { IsNonDecreasingBy (λ sale. sale.locate) sales.now }
-    ensures { result.now ≡ filter (λ sale. not (nat_lt sale.locate locate)) sales.now }
-{
-    &sales[sales.partition_point(|sale| u64::from(sale.locate) < locate)..]
 }

@@ -6,7 +6,7 @@ ghost use Rattle.row_types.specs.declared.trade.Sale.{Sale};
 ghost use Rattle.std.specs.List.Sorted.{IsSorted};
 ghost use Rattle.bars.specs.Bars.{AllSumsFit, AreBarsOf, AreBarsOfEach, IsByKey, IsMergeOf};
 ghost use Rattle.bars.specs.Bars.{IsTraded, IsUnionOf, SumsFit, all_bars, all_sales, key_cmp};
-ghost use Rattle.bars.specs.Steps.{IsOrderOf, IsUpTo, merged_tables};
+ghost use Rattle.bars.specs.Steps.{IsOrderOf, IsUpTo, bar_of_one, merged_tables};
 
 use crate::OutOfMemory;
 use crate::bar::Bar;
@@ -96,12 +96,38 @@ impl<A: Allocator + Clone> BarTable<A> {
         ensures traded { IfOk result (λ table. All IsTraded table) }
     {
         sales.sort_unstable_by_key(|sale| (sale.locate, sale.time));
-        let mut bars = Vec::with_capacity(alloc, sales.len())?;
-        for sale in sales.as_slice() {
+        let count = count_bars_of(sales.as_slice(), width);
+        BarTable::of_sorted(alloc, sales.as_slice(), width, count)
+    }
+
+    /// The table of sales that are in order of the keys of their bars, in room for so many bars.
+    pub(crate) fn of_sorted(
+        alloc: A,
+        sales: &[Sale],
+        width: u32,
+        room: usize,
+    ) -> Result<BarTable<A>, OutOfMemory>
+        requires rise { IsSorted key_cmp (map (bar_of_one width) sales.now) }
+        requires count { length sales.now < TRADE_LIMIT }
+        requires shares { All (λ sale. 0 < sale.shares) sales.now }
+        requires width { (1 ≤ width) × (width ≤ SECONDS_OF_DAY) }
+        ensures bars { IfOk result (λ table. AreBarsOf width sales.now table) }
+        ensures traded { IfOk result (λ table. All IsTraded table) }
+    {
+        let mut bars = Vec::with_capacity(alloc, room)?;
+        for sale in sales {
             add(&mut bars, Bar::of_sale(sale, width))?;
         }
-        bars.shrink_to_fit();
         Ok(BarTable { bars })
+    }
+
+    /// The same table, in memory of `alloc`.
+    pub(crate) fn copied(&self, alloc: A) -> Result<BarTable<A>, OutOfMemory>
+        ensures { IfOk result (λ table. table ≡ self.now) }
+    {
+        Ok(BarTable {
+            bars: Vec::from_slice(alloc, self.items())?,
+        })
     }
 
     /// One table of the bars of all tables, in memory of `alloc`: those of one locate and start are
@@ -142,6 +168,24 @@ impl<A: Allocator + Clone> BarTable<A> {
         self.bars = merge_bars(alloc, self.items(), other.items())?;
         Ok(())
     }
+}
+
+/// How many bars there are of sales that are in order of the keys of their bars, for room for them.
+pub(crate) fn count_bars_of(sales: &[Sale], width: u32) -> usize
+    requires width { 0 < width }
+    requires shares { All (λ sale. 0 < sale.shares) sales.now }
+    ensures { All (λ sale. IsTraded (bar_of_one width sale)) sales.now }
+{
+    let mut count = 0usize;
+    let mut last: Option<Bar> = None;
+    for sale in sales {
+        let bar = Bar::of_sale(sale, width);
+        if !last.is_some_and(|last| last.has_key_of(&bar)) {
+            count = count.saturating_add(1);
+        }
+        last = Some(bar);
+    }
+    count
 }
 
 /// Puts in a bar that no bar of the table stands after.

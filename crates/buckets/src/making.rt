@@ -6,7 +6,7 @@ ghost use Rattle.meaning.specs.Meaning.{HasWidth};
 ghost use Rattle.buckets.specs.Products.{product_of};
 
 use crate::product::Product;
-use bars::UnmadeBars;
+use bars::BucketBars;
 use meaning::What;
 use probe::Sale;
 use time_and_sales::Listing;
@@ -24,6 +24,6 @@ pub(crate) fn product(mut sales: Vec<Sale>, what: What) -> Product
             sales.shrink_to_fit();
             Product::Listed(Listing::of_sales(sales))
         }
-        What::Bars { width } => Product::Tabled(UnmadeBars::of_vec(sales, width)),
+        What::Bars { width } => Product::Tabled(BucketBars::of_vec(sales, width)),
     }
 }

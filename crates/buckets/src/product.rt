@@ -1,6 +1,6 @@
 //! A listing or a table of bars.
 
-use bars::UnmadeBars;
+use bars::BucketBars;
 use time_and_sales::Listing;
 
 /// What a query lists of some sales: a listing, or a table of bars.
@@ -9,5 +9,5 @@ pub enum Product {
     /// The sales by place.
     Listed(Listing),
     /// Their bars.
-    Tabled(UnmadeBars),
+    Tabled(BucketBars),
 }

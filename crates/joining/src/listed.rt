@@ -5,7 +5,7 @@ ghost use Rattle.bars.specs.Bars.{IsTraded, all_bars};
 ghost use Rattle.joining.specs.Gathered.{fault_from, table_of};
 
 use crate::OutOfMemory;
-use bars::UnmadeBars;
+use bars::BucketBars;
 use buckets::{BucketTotal, Product};
 use order_table::Repeated;
 use outcomes::DayFault;
@@ -32,7 +32,7 @@ pub fn fault_of(total: &BucketTotal) -> Option<DayFault>
 pub fn tables<'a>(
     alloc: Global,
     products: &'a [Arc<Product, Global>],
-) -> Result<Vec<&'a UnmadeBars>, OutOfMemory>
+) -> Result<Vec<&'a BucketBars>, OutOfMemory>
     ensures tables { IfOk result (λ tables. map (λ table. table.now) tables.items
         ≡ filter_map table_of (map arc_value products.now)) }
     ensures traded { IfOk result (λ tables. All IsTraded (all_bars (map (λ table. table.now) tables.items))) }
@@ -48,10 +48,10 @@ pub fn tables<'a>(
 }
 
 /// The same table. Each of its bars is of one sale or more, as its type keeps.
-fn traded(table: &UnmadeBars) -> &UnmadeBars
+fn traded(table: &BucketBars) -> &BucketBars
     ensures same { result.now ≡ table.now }
     ensures traded { All IsTraded result.now }
 {
-    table.parts();
+    table.form();
     table
 }

@@ -11,7 +11,7 @@ ghost use Rattle.joining.specs.Gathered.{AreGatheredOf, AreProductsOf, IsTextOfA
 
 use crate::OutOfMemory;
 use answers::{Answer, Text, text_of_bars, text_of_sales};
-use bars::{BarTable, UnmadeBars};
+use bars::{BarTable, BucketBars};
 use buckets::{BucketTotal, DayNames, Product};
 use joining::{fault_of, tables};
 use meaning::{Query, What};
@@ -90,24 +90,24 @@ fn text_of_tables(
     text_of_bars(alloc, table.items(), names)
 }
 
-/// One table of bars that aren't made, those of one locate and start joined.
-fn merged(alloc: Global, unmade: &[&UnmadeBars]) -> Result<BarTable, OutOfMemory>
-    requires sums { AllSumsFit (all_bars (map (λ bars. bars.now) unmade.now)) }
+/// One table of the bars of all buckets, those of one locate and start joined.
+fn merged(alloc: Global, kept: &[&BucketBars]) -> Result<BarTable, OutOfMemory>
+    requires sums { AllSumsFit (all_bars (map (λ bars. bars.now) kept.now)) }
     ensures bars { IfOk result (λ all. (width : ℕ) (lists : List (List Sale)) →
-        AreBarsOfEach width lists (map (λ bars. bars.now) unmade.now) → AreBarsOf width (all_sales lists) all) }
+        AreBarsOfEach width lists (map (λ bars. bars.now) kept.now) → AreBarsOf width (all_sales lists) all) }
     ensures traded { IfOk result (λ all. All IsTraded all) }
 {
-    let tables = made(alloc, unmade)?;
+    let tables = made(alloc, kept)?;
     let lent = lent(alloc, &tables)?;
     BarTable::merge_all(alloc, &lent)
 }
 
-/// The tables of bars that aren't made.
-fn made(alloc: Global, unmade: &[&UnmadeBars]) -> Result<Vec<BarTable>, OutOfMemory>
-    ensures { IfOk result (λ tables. tables.items ≡ map (λ table. table.now) unmade.now) }
+/// The table of the bars of each bucket.
+fn made(alloc: Global, kept: &[&BucketBars]) -> Result<Vec<BarTable>, OutOfMemory>
+    ensures { IfOk result (λ tables. tables.items ≡ map (λ table. table.now) kept.now) }
 {
-    let mut tables = Vec::with_capacity(alloc, unmade.len())?;
-    for bars in unmade {
+    let mut tables = Vec::with_capacity(alloc, kept.len())?;
+    for bars in kept {
         tables.push(bars.table(alloc)?)?;
     }
     Ok(tables)

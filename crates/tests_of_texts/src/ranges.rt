@@ -4,7 +4,7 @@ ghost use Rattle.std.specs.List.{IsDistinct};
 ghost use Rattle.lists.specs.declared.limits.TheConstants.{TIME_LIMIT};
 ghost use Rattle.bars.specs.Bars.{AllSumsFit, AreBarsOf, IsTraded, all_bars};
 
-use bars::{BarTable, OutOfMemory, Sale, UnmadeBars, lines_in_ranges, write_bar};
+use bars::{BarTable, BucketBars, Form, OutOfMemory, Sale, lines_in_ranges, write_bar};
 use probe::Kind;
 use std::alloc::Global;
 use std::test::Fail;
@@ -27,8 +27,8 @@ pub(crate) fn sale(place: u64, locate: u16, seconds: u8, price: u32) -> Sale
     }
 }
 
-/// The bars of sales by minutes, not made.
-fn minutes(alloc: Global, sales: &[Sale]) -> Result<UnmadeBars, OutOfMemory>
+/// The bars of sales by minutes, made or not.
+fn minutes(alloc: Global, sales: &[Sale]) -> Result<BucketBars, OutOfMemory>
     requires places { IsDistinct nat_eq (map (λ sale. sale.place) sales.now) }
     requires count { length sales.now < 100 }
     requires shares { All (λ sale. 0 < sale.shares) sales.now }
@@ -38,12 +38,13 @@ fn minutes(alloc: Global, sales: &[Sale]) -> Result<UnmadeBars, OutOfMemory>
     ensures starts { IfOk result (λ table. All (λ bar. bar.start < TIME_LIMIT) table) }
 {
     let sales = Vec::from_slice(alloc, sales)?;
-    let table = UnmadeBars::of_vec(sales, 60);
+    let table = BucketBars::of_vec(sales, 60);
     Ok(table)
 }
 
-/// Tables of four locates, of which 7 has bars in all three, and 9 in two of them.
-fn tables(alloc: Global) -> Result<(UnmadeBars, UnmadeBars, UnmadeBars), OutOfMemory>
+/// Tables of four locates, of which 7 has bars in all three, and 9 in two of them. The bars of the
+/// third are made, since it has two sales a bar.
+fn tables(alloc: Global) -> Result<(BucketBars, BucketBars, BucketBars), OutOfMemory>
     ensures sums { IfOk result (λ three. AllSumsFit (all_bars (three.0 ∷ three.1 ∷ three.2 ∷ []))) }
     ensures starts { IfOk result (λ three.
         All (λ bar. bar.start < TIME_LIMIT) (all_bars (three.0 ∷ three.1 ∷ three.2 ∷ []))) }
@@ -59,7 +60,12 @@ fn tables(alloc: Global) -> Result<(UnmadeBars, UnmadeBars, UnmadeBars), OutOfMe
         sale(80, 9, 5, 31_000),
         sale(81, 12, 6, 10_000),
     ];
-    let third = [sale(5, 7, 0, 15_000), sale(90, 12, 70, 11_000)];
+    let third = [
+        sale(91, 12, 71, 12_000),
+        sale(5, 7, 0, 15_000),
+        sale(90, 12, 70, 11_000),
+        sale(6, 7, 10, 22_000),
+    ];
     Ok((
         minutes(alloc, &one)?,
         minutes(alloc, &other)?,
@@ -77,12 +83,12 @@ pub(crate) fn names(alloc: Global) -> Result<Names, OutOfMemory> {
     Names::build(alloc, &[row(7, *b"MSFT    "), row(12, *b"A       ")])
 }
 
-const LINES: &str = "MSFT,09:30:00,1.5000,2.6000,1.5000,2.6000,15,3,2.0333+5/15
+const LINES: &str = "MSFT,09:30:00,1.5000,2.6000,1.5000,2.6000,20,4,2.0750+0/20
 MSFT,09:31:00,2.1000,2.1000,2.1000,2.1000,5,1,2.1000+0/5
 #8,09:30:00,4.0000,4.0000,4.0000,4.0000,5,1,4.0000+0/5
 #9,09:30:00,3.0000,3.1000,3.0000,3.1000,10,2,3.0500+0/10
 A,09:30:00,1.0000,1.0000,1.0000,1.0000,5,1,1.0000+0/5
-A,09:31:00,1.1000,1.1000,1.1000,1.1000,5,1,1.1000+0/5
+A,09:31:00,1.1000,1.2000,1.1000,1.2000,10,2,1.1500+0/10
 ";
 
 /// The lines of a table.
@@ -103,6 +109,15 @@ pub(crate) fn joined(alloc: Global, pieces: &[Vec<u8>]) -> Result<Vec<u8>, OutOf
         text.extend_from_slice(piece.as_slice())?;
     }
     Ok(text)
+}
+
+#[test]
+fn bars_are_made_where_they_are_half_as_many_as_the_sales(rt: HostRuntime) -> Result<(), Fail> {
+    let (one, other, third) = tables(rt.alloc())?;
+    assert!(rt; matches!(one.form(), Form::Sales { .. }));
+    assert!(rt; matches!(other.form(), Form::Sales { .. }));
+    assert!(rt; matches!(third.form(), Form::Bars(_)));
+    Ok(())
 }
 
 #[test]

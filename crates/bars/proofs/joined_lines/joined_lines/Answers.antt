@@ -24,7 +24,8 @@ join-current-requires c =
     let h = c.loop-i.invariant in
     current_can_join h.done c.loop-i.current bar h.union.rise (equal_from _ (sym c.has_key_of.ensures ∙ c.if-has_key_of.true))
     (sums_of_this seen (h.done ++ c.loop-i.current ∷ []) c.loop-i.i (bar_at e) bar (omega (arith, n, c.loop-i-test.true))
-    (c.bar-bar.ensures ∙ sym (get_or-map bar_at c.args.sorted.now c.loop-i.i e (bar_at e) (omega (arith, c.loop-i-test.true)))) h.union c.requires.sums)
+    (c.bar-bar.ensures ∙ ap bar_at c.index-sorted-i.is
+    ∙ sym (get_or-map bar_at c.args.sorted.now c.loop-i.i c.index-sorted-i.result (bar_at e) (omega (arith, c.loop-i-test.true)))) h.union c.requires.sums)
 
 pub loop-i-preserved : goal.loop-i-preserved
 loop-i-preserved c =
@@ -35,7 +36,8 @@ loop-i-preserved c =
     let i = c.loop-i.i in
     let bar = c.bar-bar.result in
     let h = c.loop-i.invariant in
-    let here : (d : TheBar) → get_or seen i d ≡ bar = λ d. get_or-map bar_at c.args.sorted.now i e d (omega (arith, c.loop-i-test.true)) ∙ sym c.bar-bar.ensures in
+    let here : (d : TheBar) → get_or seen i d ≡ bar = λ d.
+    get_or-map bar_at c.args.sorted.now i c.index-sorted-i.result d (omega (arith, c.loop-i-test.true)) ∙ sym (c.bar-bar.ensures ∙ ap bar_at c.index-sorted-i.is) in
     let later : (d : TheBar) → i + 1 < length c.args.sorted.now → is_gt (key_cmp bar (get_or seen (i + 1) d)) ≡ false = λ d within.
     subst (λ z. is_gt (key_cmp z (get_or seen (i + 1) d)) ≡ false) (here d) (next_not_lower seen i d c.requires.rise (omega (arith, n, within))) in
     elim c.if-has_key_of.branch [
@@ -79,7 +81,8 @@ loop-i-init c =
     let n = length-map c.args.sorted.now bar_at in
     let e = no_keyed in
     let some : 0 < length c.args.sorted.now = not_none c.args.sorted.now (sym c.is_empty.ensures ∙ c.if-is_empty.false) in
-    let here : (d : TheBar) → get_or seen 0 d ≡ c.bar-current.result = λ d. get_or-map bar_at c.args.sorted.now 0 e d some ∙ sym c.bar-current.ensures in
+    let here : (d : TheBar) → get_or seen 0 d ≡ c.bar-current.result = λ d.
+    get_or-map bar_at c.args.sorted.now 0 c.index-sorted-0.result d some ∙ sym (c.bar-current.ensures ∙ ap bar_at c.index-sorted-0.is) in
     record {
       done = [];
       text = c.in_ok-text.ensures.items;

@@ -4,4 +4,4 @@ use Rattle.rehearsals.proofs.joined.made.Given as goal
 
 -- the tables so far
 abbrev pub invariant-loop-bars : goal.invariant-loop-bars
-invariant-loop-bars l = l.tables.items ≡ take l.bars-index (map (λ (bars : Bor (List Bar)). bars.now) l.unmade)
+invariant-loop-bars l = l.tables.items ≡ take l.bars-index (map (λ (bars : Bor (List Bar)). bars.now) l.kept)

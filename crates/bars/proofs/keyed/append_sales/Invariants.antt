@@ -1,6 +1,6 @@
 use Rattle.std.proofs.Common.{◌≡◌, ◌++◌, map, take}
 use Rattle.bars.specs.Steps.{bar_at, bar_of_one}
-use Rattle.bars.proofs.keyed.append.Given as goal
+use Rattle.bars.proofs.keyed.append_sales.Given as goal
 
 -- the sales so far stand behind those that there were
 abbrev pub invariant-loop-sale : goal.invariant-loop-sale

@@ -1,0 +1,81 @@
+//! Bars that are only to be joined and written: made, or kept as the sales that they are of.
+ghost use Rattle.std.specs.Prelude.{◌≡◌, ◌<◌, ◌≤◌, All, IfOk, length, map, nat_eq};
+ghost use Rattle.std.specs.List.{IsDistinct};
+ghost use Rattle.bars.specs.Bars.{AreBarsOf, IsTraded};
+ghost use Rattle.bars.specs.Steps.{AreOfForm, bars_of_form};
+
+use crate::OutOfMemory;
+use crate::form::Form;
+use crate::table::{BarTable, count_bars_of};
+use lists::limits::{SECONDS_OF_DAY, TRADE_LIMIT};
+use row_types::Sale;
+use std::alloc::Global;
+use std::marker::Model;
+
+/// The bars of some sales, in the form that takes less: where the sales of one key are in many
+/// tables, each has nearly a bar a sale, and a sale has less than half the bytes of a bar.
+#[derive(Drop)]
+pub struct BucketBars {
+    form: Form,
+}
+
+impl Model for BucketBars {
+    ghost use Rattle.std.specs.Prelude.{List};
+    ghost use Rattle.bars.specs.declared.bar.Bar.{Bar as TheBar};
+    ghost use Rattle.bars.specs.Steps.{AreOfForm, bars_of_form};
+
+    ghost Value = { List TheBar };
+
+    ghost view = { λ bars. bars_of_form bars.form };
+
+    ghost invariant = { λ bars. AreOfForm bars.form };
+}
+
+impl BucketBars {
+    /// The bars of the sales, in whatever order they are, at a width in seconds. They are made where
+    /// there are two sales a bar or more, and memory for them; otherwise the sales are kept, which
+    /// are put in order in place and have no more room than they need.
+    pub fn of_vec(mut sales: Vec<Sale>, width: u32) -> BucketBars
+        requires places { IsDistinct nat_eq (map (λ sale. sale.place) sales.items) }
+        requires count { length sales.items < TRADE_LIMIT }
+        requires shares { All (λ sale. 0 < sale.shares) sales.items }
+        requires width { (1 ≤ width) × (width ≤ SECONDS_OF_DAY) }
+        ensures bars { AreBarsOf width sales.items result }
+        ensures traded { All IsTraded result }
+    {
+        sales.sort_unstable_by_key(|sale| (sale.locate, sale.time));
+        let count = count_bars_of(sales.as_slice(), width);
+        if count <= sales.len() / 2 {
+            let alloc = *sales.allocator();
+            if let Ok(bars) = BarTable::of_sorted(alloc, sales.as_slice(), width, count) {
+                return BucketBars {
+                    form: Form::Bars(bars),
+                };
+            }
+        }
+        sales.shrink_to_fit();
+        BucketBars {
+            form: Form::Sales { sales, width },
+        }
+    }
+
+    /// What is kept of the bars.
+    #[inline]
+    pub fn form(&self) -> &Form
+        ensures value { self.now ≡ bars_of_form result.now }
+        ensures form { AreOfForm result.now }
+        ensures traded { All IsTraded self.now }
+    {
+        &self.form
+    }
+
+    /// The bars, made. It is refused if there is no memory for them, or to sort the sales.
+    pub fn table(&self, alloc: Global) -> Result<BarTable, OutOfMemory>
+        ensures { IfOk result (λ table. table ≡ self.now) }
+    {
+        match self.form() {
+            Form::Sales { sales, width } => BarTable::of_sales(alloc, sales.as_slice(), *width),
+            Form::Bars(bars) => bars.copied(alloc),
+        }
+    }
+}
