@@ -1,4 +1,5 @@
 pub mod Partitions
+pub mod LeanRows
 pub mod NarrowRows
 pub mod MoreRows
 pub mod SameRows

@@ -4,7 +4,10 @@
 //! own in that of their place; breaks and directory rows are few, and stand together.
 #![tactic(auto)]
 
+mod lean;
+mod narrow;
 mod numbers;
+mod offsets;
 mod orders;
 mod partition;
 mod rising;

@@ -21,7 +21,7 @@ fn a_list_takes_its_room_at_once_or_is_refused(rt: HostRuntime) -> Result<(), Fa
         let heap = LocalHeap::new(rt.alloc(), 16 * step)?;
         if let Ok(mut list) = OrderList::with_room(&heap, 9) {
             let used = heap.used();
-            assert!(rt; list.len() == 0 && used >= 9 * 16);
+            assert!(rt; list.len() == 0 && used >= 9 * 12);
             for number in 0..9 {
                 list.push(order(number))?;
             }
@@ -30,7 +30,7 @@ fn a_list_takes_its_room_at_once_or_is_refused(rt: HostRuntime) -> Result<(), Fa
             break;
         }
     }
-    assert!(rt; enough.is_some_and(|step| step >= 9));
+    assert!(rt; enough.is_some_and(|step| step >= 7));
     Ok(())
 }
 
@@ -48,13 +48,13 @@ fn each_partition_takes_its_room_or_all_are_refused(rt: HostRuntime) -> Result<(
     for step in 1..200 {
         let heap = LocalHeap::new(rt.alloc(), 16 * step)?;
         if let Ok(rows) = MorselRows::new(&heap, 3, 9) {
-            assert!(rt; heap.used() >= 3 * 9 * 16 && are_three_without_orders(&rows));
+            assert!(rt; heap.used() >= 3 * 9 * 12 && are_three_without_orders(&rows));
             enough = Some(step);
             break;
         }
         assert!(rt; heap.used() == 0);
     }
-    assert!(rt; enough.is_some_and(|step| step >= 27));
+    assert!(rt; enough.is_some_and(|step| step >= 21));
     Ok(())
 }
 
@@ -69,7 +69,7 @@ fn room_is_taken_for_so_many_rows_and_given_back(rt: HostRuntime) -> Result<(), 
     drop(one);
     let mut rows = MorselRows::new(&heap, 3, 9)?;
     let room = heap.used().saturating_sub(with_one);
-    assert!(rt; room >= 3 * 8 * 16 && room <= 3 * 9 * 16, "{room}");
+    assert!(rt; room >= 3 * 8 * 12 && room <= 3 * 9 * 12, "{room}");
     rows.shrink_to_fit();
     assert!(rt; heap.used() == without);
     Ok(())

@@ -1,10 +1,10 @@
 use Rattle.std.proofs.Common.{◌≡◌, ◌+◌, ◌++◌, map, take, vec_capacity, vec_len}
-use Rattle.morsel_rows.specs.NarrowRows.{widened}
-use Rattle.morsel_rows.proofs.orders.push_widened.Given as goal
+use Rattle.morsel_rows.specs.NarrowRows.{row_of_narrow}
+use Rattle.morsel_rows.proofs.narrow.append_narrow.Given as goal
 
 abbrev pub invariant-loop-row : goal.invariant-loop-row
 invariant-loop-row g l = record {
-  items : l.out.items ≡ l.fn.out.items ++ map (widened l.start) (take l.row-index l.rows);
+  items : l.out.items ≡ l.fn.out.items ++ map (row_of_narrow l.start) (take l.row-index l.rows);
   len : vec_len l.out ≡ vec_len l.fn.out + l.row-index;
   capacity : vec_capacity l.out ≡ vec_capacity l.fn.out;
 }
