@@ -91,7 +91,7 @@ fn batches_are_the_cut_of_the_whole(rt: HostRuntime) -> Result<(), Fail> {
         (1, u64::MAX, 1, 1),
     ];
     for (target, batch, step, batches) in table {
-        let whole = cut(alloc, &file, target)?;
+        let whole = cut(alloc, &file, target.max(1))?;
         let mut reader = Interrupted::of(&bytes, step, u32::MAX);
         let mut source = Counted::of(&mut reader);
         let way = Way {
