@@ -38,7 +38,7 @@ module _ {S : Type 0} (Gave : S → S → List ℕ → Type 0) (HasEnded : S →
     pub next : IfOk read (IsNextBatch before after old new)
     pub limit : new.limit ≡ old.limit
     pub target : new.target ≡ old.target
-    pub fault : IfErr read (λ f. (first : S) (runs : List (List ℕ)) → IsReadTo Gave first before runs old
+    pub told : IfErr read (λ f. (first : S) (runs : List (List ℕ)) → IsReadTo Gave first before runs old
         → IsReadFault Gave HasEnded old.limit old.target first after f)
     pub failed : IsErrOf read fault.ReadFailed ↔ (has_failed after ≡ true)
 
@@ -50,14 +50,8 @@ module _ {S : Type 0} (Gave : S → S → List ℕ → Type 0) (HasEnded : S →
     pub few : length runs ≤ MOST_MORSELS
     pub is : IsScanOf as_of parts total runs
 
-  -- some runs were scanned, and this is the total of their scans; the batch comes after them, and the source was read to
-  -- its end
-  pub record IsScannedTo (limit target : ℕ) (as_of : Option ℕ) (parts : ℕ) (before now : S) (reader : ReaderView)
-      (total : ScanTotalView) (batch : Batch) : Type 0 where
-    pub runs : List (List ℕ)
-    pub each : All IsRun runs
-    pub bytes : All AreBytes runs
-    pub is : total ≡ total_of (inputs_of as_of parts runs)
+  -- the batch comes after these runs, and the source was read to its end
+  pub record IsAhead (limit target : ℕ) (before now : S) (reader : ReaderView) (runs : List (List ℕ)) (batch : Batch) : Type 0 where
     pub number : batch.first ≡ length runs
     pub start : batch.start ≡ length (concat runs)
     pub within : batch.start + length (concat batch.cut) ≤ LONGEST_FILE
@@ -68,3 +62,12 @@ module _ {S : Type 0} (Gave : S → S → List ℕ → Type 0) (HasEnded : S →
     pub limit_is : reader.limit ≡ limit
     pub target_is : reader.target ≡ target
     pub has_room : batch.is_last ≡ false → read_length reader ≤ limit
+
+  -- some runs were scanned, this is the total of their scans, and the batch comes after them
+  pub record IsScannedTo (limit target : ℕ) (as_of : Option ℕ) (parts : ℕ) (before now : S) (reader : ReaderView)
+      (total : ScanTotalView) (batch : Batch) : Type 0 where
+    pub runs : List (List ℕ)
+    pub each : All IsRun runs
+    pub bytes : All AreBytes runs
+    pub is : total ≡ total_of (inputs_of as_of parts runs)
+    pub ahead : IsAhead limit target before now reader runs batch

@@ -1,0 +1,15 @@
+use Rattle.std.proofs.Common.{◌≡◌, ◌+◌, ◌-◌, false, if◌then◌else◌}
+use Rattle.streaming.specs.Batches.{read_length}
+use Rattle.runs.specs.Streamed.{IsScannedTo}
+use Rattle.runs.proofs.calls.stream.scan_source.Given as goal
+
+-- the batches before this one are scanned
+abbrev pub invariant-loop-batch : goal.invariant-loop-batch
+invariant-loop-batch g l = record {
+  to : IsScannedTo g.S.Source.Gave g.S.Source.HasEnded l.settings.limit l.settings.morsel l.as_of l.settings.parts l.fn.source l.source
+      l.reader l.total l.batch;
+  fine : g.S.Source.has_failed l.source ≡ false;
+}
+
+abbrev pub decreases-loop-batch : goal.decreases-loop-batch
+decreases-loop-batch g l = if l.batch.is_last then 0 else (l.settings.limit + 1) - read_length l.reader
