@@ -1,6 +1,7 @@
 -- What is scanned of a source that is read batch by batch.
 -- Derived: what is promised of a run is `Ran`.
-use Rattle.std.specs.Prelude.{◌≡◌, ℕ, ◌<◌, ◌≤◌, ◌+◌, ◌++◌, ◌↔◌, All, Bool, true, false, List, Option, Result, IfErr, IfOk, IsErrOf, length}
+use Rattle.std.specs.Prelude.{◌≡◌, ℕ, ◌<◌, ◌≤◌, ◌+◌, ◌++◌, ◌↔◌, All, Bool, true, false, List, Option, Result, IfErr, IfOk, IsErrOf}
+use Rattle.std.specs.Prelude.{length}
 use Rattle.std.specs.List.{concat}
 use Rattle.lists.specs.declared.limits.TheConstants.{LONGEST_FILE, MOST_MORSELS}
 use Rattle.day_file.specs.Cuts.{AreBytes, IsCutBy, IsRun}
@@ -42,8 +43,10 @@ module _ {S : Type 0} (Gave : S → S → List ℕ → Type 0) (HasEnded : S →
         → IsReadFault Gave HasEnded old.limit old.target first after f)
     pub failed : IsErrOf read fault.ReadFailed ↔ (has_failed after ≡ true)
 
-  -- the source gave all it had, which has a cut by the target of few enough morsels, and this is the total of their scans
-  pub record IsScanOfAll (limit target : ℕ) (as_of : Option ℕ) (parts : ℕ) (before after : S) (total : ScanTotalView) : Type 0 where
+  -- the source gave all it had, which has a cut by the target of few enough morsels, and this is the total of their
+  -- scans
+  pub record IsScanOfAll (limit target : ℕ) (as_of : Option ℕ) (parts : ℕ) (before after : S)
+      (total : ScanTotalView) : Type 0 where
     pub runs : List (List ℕ)
     pub gave : GaveAll Gave HasEnded limit before after (concat runs)
     pub cut : IsCutBy target runs (concat runs)
@@ -51,7 +54,8 @@ module _ {S : Type 0} (Gave : S → S → List ℕ → Type 0) (HasEnded : S →
     pub is : IsScanOf as_of parts total runs
 
   -- the batch comes after these runs, and the source was read to its end
-  pub record IsAhead (limit target : ℕ) (before now : S) (reader : ReaderView) (runs : List (List ℕ)) (batch : Batch) : Type 0 where
+  pub record IsAhead (limit target : ℕ) (before now : S) (reader : ReaderView) (runs : List (List ℕ))
+      (batch : Batch) : Type 0 where
     pub number : batch.first ≡ length runs
     pub start : batch.start ≡ length (concat runs)
     pub within : batch.start + length (concat batch.cut) ≤ LONGEST_FILE
