@@ -10,6 +10,8 @@ run_second_holding-requires-clause-total g c lifetimes within =
     let of = c.requires.total.1 in (
       inputs_of c.args.query.now.as_of c.args.parts runs,
       record {
+        first = 0;
+        start = 0;
         runs = runs;
         each = of.cut.each;
         within = of.cut.within;
