@@ -1,4 +1,4 @@
-use Rattle.std.proofs.Common.{refl}
+use Rattle.std.proofs.Common.{arith, refl}
 use Rattle.scanning.specs.Scans.{inputs_of}
 use Rattle.joining.proofs.ProductsJoined.{on_ok}
 use Rattle.runs.proofs.Answered.{given_of}
@@ -14,7 +14,7 @@ run_second_holding-requires-clause-total g c lifetimes within =
         start = 0;
         runs = runs;
         each = of.cut.each;
-        within = of.cut.within;
+        within = omega (arith, of.cut.within);
         as_of = c.args.query.now.as_of;
         parts = c.args.parts;
         some = c.requires.parts.0;
