@@ -14,15 +14,15 @@ use row_types::OrderRow;
 use std::alloc::{AllocError, Allocator, Global};
 use std::marker::Model;
 
-/// The most rows that aren't lean, so that the number of all rows is one: no memory holds as many.
+/// The most rows that aren't lean, so that the number of all rows is a `usize`. No memory holds as many.
 const MOST_BEHIND: usize = 1 << 62;
 
 /// Order rows, in the order in which they were pushed.
 ///
-/// A row takes 12 bytes as long as each is near the first one: its place less than 4 GiB past that of the
-/// first, which is so in a morsel, and its reference not 2^31 past that of the first, nor so far below it,
-/// which is so where references rise. The first row that isn't near, and all that follow, take 16, as long as
-/// their places are near; from the first one whose place isn't on, they take 24.
+/// A row takes 12 bytes as long as each is near the first one: its place less than 4 GiB past the first one's,
+/// which is so in a morsel, and its reference less than 2^31 from the first one's, which is so on a day whose
+/// references rise. The first row that isn't near, and all that follow, take 16 bytes, as long as their places
+/// are near that of the first of them. The first one whose place isn't, and all that follow, take 24.
 #[derive(Drop)]
 pub struct OrderList<A: Allocator = Global> {
     lean: LeanRows<A>,
