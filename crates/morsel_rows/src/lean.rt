@@ -117,9 +117,17 @@ impl<A: Allocator> LeanRows<A> {
         Ok(())
     }
 
-    /// For how many rows more there is room.
-    pub(crate) fn spare(&self) -> usize {
-        self.rows.capacity() - self.rows.len()
+    /// For how many rows there is room, those that are there among them.
+    pub(crate) fn room(&self) -> usize {
+        self.rows.capacity()
+    }
+
+    /// Lets go of all rows, and of their memory.
+    pub(crate) fn clear(&mut self)
+        ensures { self.new ≡ [] }
+    {
+        self.rows.clear();
+        self.rows.shrink_to_fit();
     }
 
     /// Adds a row at the end, if it is near the first one, as the first one itself is. If there is no memory

@@ -1,5 +1,5 @@
 //! Order rows in little memory.
-ghost use Rattle.std.specs.Prelude.{◌≡◌, ◌<◌, [], ◌∷◌, ◌++◌, length, IfOk, IsTrue, OnErr, OnOk, slice_index_or};
+ghost use Rattle.std.specs.Prelude.{◌≡◌, ◌<◌, ◌≤◌, [], ◌∷◌, ◌++◌, length, IfOk, IsTrue, OnErr, OnOk, slice_index_or};
 ghost use Rattle.std.specs.Cmp.{partial_equiv_from_equiv};
 ghost use Rattle.std.specs.List.{AllPairs};
 ghost use Rattle.std.specs.Option.{IfSome};
@@ -14,19 +14,19 @@ use row_types::OrderRow;
 use std::alloc::{AllocError, Allocator, Global};
 use std::marker::Model;
 
-/// The most rows that aren't lean, so that the number of all rows is one: no memory holds as many.
+/// The most rows that aren't lean, so that the number of all rows is a `usize`. No memory holds as many.
 const MOST_BEHIND: usize = 1 << 62;
 
 /// Order rows, in the order in which they were pushed.
 ///
-/// A row takes 12 bytes as long as each is near the first one: its place less than 4 GiB past that of the
-/// first, which is so in a morsel, and its reference not 2^31 past that of the first, nor so far below it,
-/// which is so where references rise. The first row that isn't near, and all that follow, take 16, as long as
-/// their places are near; from the first one whose place isn't on, they take 24.
+/// A row takes 12 bytes as long as each is near the first one: its place less than 4 GiB past the first one's,
+/// which is so in a morsel, and its reference less than 2^31 from the first one's, which is so on a day whose
+/// references rise. The first row that isn't near, and all that follow, take 16 bytes, as long as their places
+/// are near that of the first of them. The first one whose place isn't, and all that follow, take 24.
 #[derive(Drop)]
 pub struct OrderList<A: Allocator = Global> {
     lean: LeanRows<A>,
-    /// The first row that isn't lean, and those that follow it.
+    /// The first row that isn't lean, and those that follow it. If only one is before it, that is here, too.
     narrow: NarrowRows<A>,
     /// The first row behind the lean ones that isn't narrow, and all that follow it.
     wide: Vec<OrderRow, A>,
@@ -81,21 +81,9 @@ impl<A: Allocator> OrderList<A> {
             if self.lean.push_near(row)? {
                 return Ok(());
             }
-            return self.begin_narrow(row);
+            begin_narrow(&mut self.lean, &mut self.narrow)?;
+            return self.push_behind(row);
         }
-        self.push_behind(row)
-    }
-
-    /// Adds the first row that isn't lean. The room that was taken for lean ones becomes room for narrow ones.
-    #[cold]
-    #[inline(never)]
-    fn begin_narrow(&mut self, row: OrderRow) -> Result<(), OutOfMemory>
-        ensures added { OnOk result (self.new ≡ self.old ++ row ∷ []) }
-        ensures unchanged { OnErr result (self.new ≡ self.old) }
-    {
-        let room = self.lean.spare();
-        self.lean.shrink_to_fit();
-        self.narrow.reserve(room)?;
         self.push_behind(row)
     }
 
@@ -184,6 +172,32 @@ impl<A: Allocator> OrderList<A> {
             self.wide[index - lean - narrow]
         }
     }
+}
+
+/// Makes the room that was taken for lean rows room for narrow ones, at the first row that isn't lean. If that is the
+/// second one, as it is where references are any numbers, the first is made narrow, too, so that no memory of lean
+/// rows is left between that of others.
+#[cold]
+#[inline(never)]
+fn begin_narrow<A: Allocator>(
+    lean: &mut LeanRows<A>,
+    narrow: &mut NarrowRows<A>,
+) -> Result<(), OutOfMemory>
+    requires { narrow.old ≡ [] }
+    ensures rows { lean.new ++ narrow.new ≡ lean.old }
+    ensures few { length narrow.new ≤ 1 }
+{
+    let room = lean.room();
+    if lean.len() == 1 {
+        narrow.reserve(room)?;
+        if narrow.push_near(lean.at(0))? {
+            lean.clear();
+        }
+        return Ok(());
+    }
+    let rest = room.saturating_sub(lean.len());
+    lean.shrink_to_fit();
+    narrow.reserve(rest)
 }
 
 /// Lists are equal if they have the same rows in the same order.

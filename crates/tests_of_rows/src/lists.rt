@@ -63,8 +63,7 @@ fn has<A: Allocator>(
 ) -> Result<bool, OutOfMemory> {
     let mut out = Vec::new(alloc);
     list.append_to(&mut out)?;
-    let is_as_long = list.len() == rows.len() && out.len() == rows.len();
-    let mut is_same = is_as_long;
+    let mut is_same = list.len() == rows.len() && out.len() == rows.len();
     for (row, (order_no, place)) in out.iter().zip(rows) {
         is_same = is_same && *row == order(*order_no, *place);
     }
@@ -122,10 +121,7 @@ fn rows_near_the_first_take_twelve_bytes(rt: HostRuntime) -> Result<(), Fail> {
         }
         for far in [lowest.wrapping_sub(1), lowest.wrapping_add(1 << 32)] {
             let used = bytes_of_nine(rt.alloc(), first, far)?;
-            assert!(rt;
-                used >= 12 + 8 * 16 && used <= 10 * 16,
-                "{first} {far}: {used}"
-            );
+            assert!(rt; used >= 9 * 16 && used < 10 * 16, "{first} {far}: {used}");
         }
     }
     Ok(())
@@ -150,7 +146,11 @@ fn a_row_that_is_refused_leaves_the_list(rt: HostRuntime) -> Result<(), Fail> {
             let heap = LocalHeap::new(rt.alloc(), 16 * step)?;
             let mut list = OrderList::new(&heap);
             let count = pushed(&mut list, rows);
-            assert!(rt; has(rt.alloc(), &list, &rows[..count])?, "{rows:?}, {step}");
+            let before = rows.get(..count);
+            assert!(rt; before.is_some(), "{rows:?}, {step}");
+            if let Some(before) = before {
+                assert!(rt; has(rt.alloc(), &list, before)?, "{rows:?}, {step}");
+            }
             is_whole = count == rows.len();
             if is_whole {
                 break;
@@ -162,22 +162,26 @@ fn a_row_that_is_refused_leaves_the_list(rt: HostRuntime) -> Result<(), Fail> {
     Ok(())
 }
 
-/// A list whose references lie far apart has no room for lean rows beside that for narrow ones.
+/// A list that turns out narrow has no room for lean rows beside that for narrow ones.
 #[test]
 fn room_is_given_back_where_rows_turn_out_narrow(rt: HostRuntime) -> Result<(), Fail> {
-    let heap = LocalHeap::new(rt.alloc(), 4_096)?;
-    let mut list = OrderList::with_room(&heap, 100)?;
-    let lean = heap.used();
-    assert!(rt; lean >= 100 * 12 && lean < 102 * 12, "{lean}");
-    list.push(order(3, 100))?;
-    assert!(rt; heap.used() == lean);
-    list.push(order(FAR, 140))?;
-    let narrow = heap.used();
-    assert!(rt; narrow >= 99 * 16 && narrow <= 101 * 16, "{narrow}");
-    for number in 0..98 {
-        list.push(order(FAR * number, 180))?;
+    for lean in [1, 2, 50] {
+        let heap = LocalHeap::new(rt.alloc(), 4_096)?;
+        let mut list = OrderList::with_room(&heap, 100)?;
+        let room = heap.used();
+        assert!(rt; room >= 100 * 12 && room < 102 * 12, "{room}");
+        for number in 0..lean {
+            list.push(order(number, 100))?;
+        }
+        assert!(rt; heap.used() == room, "{lean}");
+        list.push(order(FAR, 140))?;
+        let narrow = heap.used();
+        assert!(rt; narrow <= 100 * 16 + 32, "{lean}: {narrow}");
+        for number in lean + 1..100 {
+            list.push(order(FAR * number, 180))?;
+        }
+        assert!(rt; heap.used() == narrow && list.len() == 100, "{lean}");
     }
-    assert!(rt; heap.used() == narrow && list.len() == 100);
     Ok(())
 }
 
