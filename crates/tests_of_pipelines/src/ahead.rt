@@ -2,7 +2,7 @@
 ghost use Rattle.std.specs.Prelude.{◌≡◌, ◌<◌, ◌≤◌, length};
 
 use crate::gatherers::{Order, Run, TWO_AND_TWO};
-use crate::threads::{Ledger, ONE, TWO, counts};
+use crate::threads::{Ledger, ONE, TWO};
 use crossbeam_channel::Sender;
 use pipelines::{FreeGate, Inputs, OutOfMemory, Piece, Task, run_ahead, total_of_pieces};
 use std::alloc::Global;
@@ -110,27 +110,61 @@ const ROWS: [Row; 6] = [
     },
 ];
 
-/// A task was given for the first time ahead, or if nothing was run ahead, to the worker.
+/// Whether so many workers run these tasks ahead, each once, which are given as pieces.
+fn run_each_ahead<R: Threads + Wait + Sync>(
+    rt: &R,
+    alloc: Global,
+    tasks: &[(u32, u64)],
+    workers: u32,
+) -> Result<Option<Vec<Piece<Sum>>>, OutOfMemory> {
+    let watch = Watch::shared(alloc)?;
+    let pieces = pieces_of(rt, alloc, &watch, tasks, workers)?;
+    if pieces.len() == tasks.len() && watch.runs() == tasks.len() as u64 {
+        Ok(Some(pieces))
+    } else {
+        Ok(None)
+    }
+}
+
+/// The total of all numbers, which begins with these pieces, and the runs of which this gate hears.
+fn total_after<R: Threads + Wait + Sync>(
+    rt: &R,
+    alloc: Global,
+    watch: &Arc<Watch, Global>,
+    pieces: Vec<Piece<Sum>>,
+    gate: &Ledger,
+) -> Result<u128, OutOfMemory> {
+    let inputs = shared_inputs_of(alloc, watch, &NUMBERS)?;
+    total_of_pieces(rt, alloc, &inputs, pieces, ONE, gate, 1)
+}
+
+/// A worker runs what of a row's tasks was not run ahead by so many workers. A task was given for the first time ahead,
+/// or if nothing was run ahead, to the worker.
+fn is_run_by_a_worker<R: Threads + Wait + Abort + Sync>(
+    rt: &R,
+    alloc: Global,
+    row: &Row,
+    workers: u32,
+) -> Result<(), Fail> {
+    let (round, other) = if row.tasks.is_empty() { (0, 1) } else { (1, 0) };
+    let Some(pieces) = run_each_ahead(rt, alloc, row.tasks, workers)? else {
+        return Err(Fail::from("a task is not run once ahead"));
+    };
+    let watch = Watch::shared(alloc)?;
+    let gate = Ledger::new(alloc, &watch)?;
+    assert!(rt; total_after(rt, alloc, &watch, pieces, &gate)? == 255);
+    let all = row.by_worker.iter().filter(|runs| **runs > 0).count() as u64;
+    assert!(rt; gate.has_all(all, [all, 0], [1, 0]) && watch.runs() == all);
+    assert!(rt; gate.has(1, round, row.by_worker));
+    assert!(rt; gate.has(1, other, [0; 8]) && gate.has(1, 2, [0; 8]));
+    Ok(())
+}
+
 #[test]
 fn what_was_not_run_ahead_is_run_by_a_worker(rt: HostRuntime) -> Result<(), Fail> {
-    let alloc = rt.alloc();
-    for Row { tasks, by_worker } in ROWS {
-        let (round, other) = if tasks.is_empty() { (0, 1) } else { (1, 0) };
-        for workers in [1, 3] {
-            let ahead = Watch::shared(alloc)?;
-            let pieces = pieces_of(&rt, alloc, &ahead, tasks, workers)?;
-            assert!(rt; pieces.len() == tasks.len() && ahead.runs() == tasks.len() as u64);
-            let watch = Watch::shared(alloc)?;
-            let gate = Ledger::new(alloc, &watch)?;
-            let inputs = shared_inputs_of(alloc, &watch, &NUMBERS)?;
-            let total = total_of_pieces(&rt, alloc, &inputs, pieces, ONE, &gate, 1)?;
-            assert!(rt; total == 255);
-            assert!(rt; !gate.heard_wrong() && gate.tasks(1, round) == by_worker);
-            let all = by_worker.iter().filter(|runs| **runs > 0).count() as u64;
-            assert!(rt; gate.tasks(1, other) == [0; 8] && gate.tasks(1, 2) == [0; 8]);
-            assert!(rt; watch.runs() == all);
-            assert!(rt; counts(&gate.done) == [1, 0] && counts(&gate.all_when_done) == [all, 0]);
-        }
+    for row in &ROWS {
+        is_run_by_a_worker(&rt, rt.alloc(), row, 1)?;
+        is_run_by_a_worker(&rt, rt.alloc(), row, 3)?;
     }
     Ok(())
 }
@@ -217,19 +251,26 @@ fn send_one_by_one<R: Wait>(
     Ok(runs)
 }
 
+/// Whether one of so many workers runs a task before another one is sent.
+fn is_run_at_once<R: Threads + Wait + Sync>(
+    rt: &R,
+    alloc: Global,
+    workers: u32,
+) -> Result<bool, OutOfMemory> {
+    let watch = Watch::shared(alloc)?;
+    let (to, from) = crossbeam_channel::unbounded::<Task<Sum>, Global>(alloc)?;
+    let mut to = Some(to);
+    let (pieces, runs) = join_mut(
+        rt,
+        &mut || run_ahead(rt, alloc, &from, workers),
+        &mut || send_one_by_one(rt, alloc, &mut to, &watch),
+    );
+    Ok(runs? == 1 && pieces.len() == 2 && watch.runs() == 2)
+}
+
 #[test]
 fn a_task_is_run_before_the_next_one_is_known(rt: HostRuntime) -> Result<(), Fail> {
-    let alloc = rt.alloc();
-    for workers in [1, 4] {
-        let watch = Watch::shared(alloc)?;
-        let (to, from) = crossbeam_channel::unbounded::<Task<Sum>, Global>(alloc)?;
-        let mut to = Some(to);
-        let (pieces, runs) = join_mut(
-            &rt,
-            &mut || run_ahead(&rt, alloc, &from, workers),
-            &mut || send_one_by_one(&rt, alloc, &mut to, &watch),
-        );
-        assert!(rt; runs? == 1 && pieces.len() == 2 && watch.runs() == 2);
-    }
+    assert!(rt; is_run_at_once(&rt, rt.alloc(), 1)?);
+    assert!(rt; is_run_at_once(&rt, rt.alloc(), 4)?);
     Ok(())
 }
