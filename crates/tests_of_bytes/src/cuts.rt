@@ -1,11 +1,14 @@
 //! Day files cut into morsels: by a target, at places, and while they come.
-use day_file::{Cut, CutFault, Cutter, DayFile, LONGEST_FILE, MOST_MORSELS, cut, cut_at, one_cut};
-use std::alloc::Global;
+use day_file::{
+    Cut, CutFault, Cutter, DayFile, LONGEST_FILE, MOST_MORSELS, Morsel, cut, cut_at, one_cut,
+};
+use std::alloc::{AllocError, Global};
+use std::sync::Arc;
 use std::test::Fail;
 use tests_support::{Day, NAMED, file_of};
 
 /// Where the morsels start.
-fn starts(alloc: Global, cut: &Cut) -> Result<Vec<u64>, Fail> {
+fn starts(alloc: Global, cut: &Cut) -> Result<Vec<u64>, AllocError> {
     let mut starts = Vec::new(alloc);
     for number in 0..cut.count() {
         starts.push(cut.morsel(number).start())?;
@@ -13,22 +16,24 @@ fn starts(alloc: Global, cut: &Cut) -> Result<Vec<u64>, Fail> {
     Ok(starts)
 }
 
-/// What `cut` gives: where the morsels start, or the fault.
-fn cut_by(alloc: Global, file: &DayFile, target: u64) -> Result<Result<Vec<u64>, CutFault>, Fail> {
-    match cut(alloc, file, target.max(1)) {
+/// Where the morsels of a cut start, or the fault.
+type Starts = Result<Vec<u64>, CutFault>;
+
+/// The same of a cut that may have a fault.
+fn starts_of(alloc: Global, cut: Result<Cut, CutFault>) -> Result<Starts, AllocError> {
+    match cut {
         Ok(cut) => Ok(Ok(starts(alloc, &cut)?)),
         Err(fault) => Ok(Err(fault)),
     }
 }
 
-/// What a `Cutter` gives that is fed the bytes in pieces of these sizes by turns.
-fn fed_by(
-    alloc: Global,
-    bytes: &[u8],
-    target: u64,
-    sizes: &[usize],
-) -> Result<Result<Vec<u64>, CutFault>, Fail> {
-    let mut cutter = Cutter::new(alloc, target.max(1));
+/// What `cut` gives.
+fn cut_by(alloc: Global, file: &DayFile, target: u64) -> Result<Starts, AllocError> {
+    starts_of(alloc, cut(alloc, file, target.max(1)))
+}
+
+/// Feeds the bytes in pieces of these sizes by turns; says whether they aren't too many.
+fn feed(cutter: &mut Cutter, bytes: &[u8], sizes: &[usize]) -> Result<bool, AllocError> {
     let mut left = bytes;
     for turn in 0..1_000_000usize {
         let size = match sizes.get(turn % sizes.len().max(1)) {
@@ -37,7 +42,7 @@ fn fed_by(
         };
         let (piece, later) = left.split_at(size);
         if cutter.length() + piece.len() as u64 > LONGEST_FILE {
-            return Err(Fail::from("the bytes of a test are too many"));
+            return Ok(false);
         }
         cutter.feed(piece)?;
         left = later;
@@ -45,9 +50,24 @@ fn fed_by(
             break;
         }
     }
-    match cutter.finish() {
-        Ok(cut) => Ok(Ok(starts(alloc, &cut)?)),
-        Err(fault) => Ok(Err(fault)),
+    Ok(true)
+}
+
+/// What a `Cutter` gives that is fed the bytes in pieces of these sizes by turns.
+fn fed_by(alloc: Global, bytes: &[u8], target: u64, sizes: &[usize]) -> Result<Starts, Fail> {
+    let mut cutter = Cutter::new(alloc, target.max(1));
+    if feed(&mut cutter, bytes, sizes)? {
+        Ok(starts_of(alloc, cutter.finish())?)
+    } else {
+        Err(Fail::from("the bytes of a test are too many"))
+    }
+}
+
+/// Whether the morsels start there.
+fn start_at(found: Starts, want: &[u64]) -> bool {
+    match found {
+        Ok(starts) => starts.as_slice() == want,
+        Err(_) => false,
     }
 }
 
@@ -66,17 +86,27 @@ fn each_morsel_is_the_shortest_run_with_as_many_bytes_as_the_target(
         (u64::MAX, &[0]),
     ];
     for (target, want) in table {
-        for cut in [
-            cut_by(rt.alloc(), &file, target)?,
-            fed_by(rt.alloc(), &bytes, target, &[1])?,
-            fed_by(rt.alloc(), &bytes, target, &[0, 1, 2, 3, 7, 64])?,
-            fed_by(rt.alloc(), &bytes, target, &[])?,
-        ] {
-            let starts = cut?;
-            assert!(rt; starts.as_slice() == want, "by {target}");
+        assert!(rt;
+            start_at(cut_by(rt.alloc(), &file, target)?, want),
+            "by {target}"
+        );
+        for sizes in [&[1][..], &[0, 1, 2, 3, 7, 64], &[]] {
+            assert!(rt;
+                start_at(fed_by(rt.alloc(), &bytes, target, sizes)?, want),
+                "by {target}"
+            );
         }
     }
     Ok(())
+}
+
+/// The places and the lengths of a morsel's frames.
+fn frames_of(alloc: Global, morsel: &Arc<Morsel, Global>) -> Result<Vec<(u64, usize)>, AllocError> {
+    let mut seen = Vec::new(alloc);
+    for frame in morsel.frames() {
+        seen.push((frame.place, frame.body.len()))?;
+    }
+    Ok(seen)
 }
 
 #[test]
@@ -88,39 +118,71 @@ fn a_morsel_has_its_frames_with_their_places_in_the_file(rt: HostRuntime) -> Res
     let last = cut.morsel(1);
     assert!(rt; (last.number(), last.start()) == (1, 41));
     assert!(rt; bytes.get(41..) == Some(last.bytes()));
-    let mut seen = Vec::new(rt.alloc());
-    for frame in last.frames() {
-        seen.push((frame.place, frame.body.len()))?;
-    }
-    assert!(rt; seen.as_slice() == [(41, 36), (79, 31)].as_slice());
+    assert!(rt; frames_of(rt.alloc(), last)?.as_slice() == [(41, 36), (79, 31)].as_slice());
     Ok(())
+}
+
+/// Whether a file that is cut at these ends has these starts, or this fault.
+fn is_cut_at(
+    alloc: Global,
+    file: &DayFile,
+    ends: &[u64],
+    want: Result<&[u64], CutFault>,
+) -> Result<bool, AllocError> {
+    match (starts_of(alloc, cut_at(alloc, file, ends))?, want) {
+        (Ok(starts), Ok(want)) => Ok(starts.as_slice() == want),
+        (Err(fault), Err(want)) => Ok(fault == want),
+        _ => Ok(false),
+    }
 }
 
 #[test]
 fn an_end_is_the_place_of_a_frame_behind_the_one_before_it(rt: HostRuntime) -> Result<(), Fail> {
     let whole = file_of(Day::of(rt.alloc(), &NAMED)?.bytes)?;
-    let empty = file_of(Vec::new(rt.alloc()))?;
-    let short = file_of(vec![in rt.alloc(); 7u8; 1]?)?;
-    let table: [(&DayFile, &[u64], Result<&[u64], CutFault>); 9] = [
-        (&whole, &[79], Ok(&[0, 79])),
-        (&whole, &[], Ok(&[0])),
-        (&empty, &[], Ok(&[])),
-        (&whole, &[40], Err(CutFault::NotABoundary { end: 40 })),
-        (&whole, &[79, 41], Err(CutFault::NotABoundary { end: 41 })),
-        (&whole, &[112], Err(CutFault::NotABoundary { end: 112 })),
-        (&whole, &[41, 41], Err(CutFault::NotABoundary { end: 41 })),
-        (&empty, &[0], Err(CutFault::NotABoundary { end: 0 })),
-        (&short, &[0], Err(CutFault::Truncated { place: 0 })),
+    let table: [(&[u64], Result<&[u64], CutFault>); 6] = [
+        (&[79], Ok(&[0, 79])),
+        (&[], Ok(&[0])),
+        (&[40], Err(CutFault::NotABoundary { end: 40 })),
+        (&[79, 41], Err(CutFault::NotABoundary { end: 41 })),
+        (&[112], Err(CutFault::NotABoundary { end: 112 })),
+        (&[41, 41], Err(CutFault::NotABoundary { end: 41 })),
     ];
-    for (file, ends, want) in table {
-        let cut = match cut_at(rt.alloc(), file, ends) {
-            Ok(cut) => Ok(starts(rt.alloc(), &cut)?),
-            Err(fault) => Err(fault),
-        };
-        let found = cut.as_ref().map(|starts| starts.as_slice());
-        assert!(rt; found == want.as_ref().map(|starts| *starts), "at {ends:?}");
+    for (ends, want) in table {
+        assert!(rt; is_cut_at(rt.alloc(), &whole, ends, want)?, "at {ends:?}");
     }
     Ok(())
+}
+
+#[test]
+fn a_file_without_frames_has_no_end(rt: HostRuntime) -> Result<(), Fail> {
+    let empty = file_of(Vec::new(rt.alloc()))?;
+    assert!(rt; is_cut_at(rt.alloc(), &empty, &[], Ok(&[]))?);
+    let not_there = CutFault::NotABoundary { end: 0 };
+    assert!(rt; is_cut_at(rt.alloc(), &empty, &[0], Err(not_there))?);
+    let short = file_of(vec![in rt.alloc(); 7u8; 1]?)?;
+    let truncated = CutFault::Truncated { place: 0 };
+    assert!(rt; is_cut_at(rt.alloc(), &short, &[0], Err(truncated))?);
+    Ok(())
+}
+
+/// How many morsels there are, or the fault.
+fn count_of(found: Starts) -> Result<usize, CutFault> {
+    match found {
+        Ok(starts) => Ok(starts.len()),
+        Err(fault) => Err(fault),
+    }
+}
+
+/// How many morsels a file of so many zeros is cut into by `cut`, and by a `Cutter`.
+fn counts_of_zeros(
+    alloc: Global,
+    length: usize,
+    target: u64,
+) -> Result<[Result<usize, CutFault>; 2], Fail> {
+    let bytes = vec![in alloc; 0u8; length]?;
+    let fed = count_of(fed_by(alloc, &bytes, target, &[65_536])?);
+    let file = file_of(bytes)?;
+    Ok([count_of(cut_by(alloc, &file, target)?), fed])
 }
 
 #[test]
@@ -140,14 +202,10 @@ fn a_cut_has_no_more_than_the_most_morsels(rt: HostRuntime) -> Result<(), Fail> 
             }),
         ),
     ];
+    // Messages of no bytes, and perhaps one byte more.
     for (length, target, want) in table {
-        // Messages of no bytes, and perhaps one byte more.
-        let bytes = vec![in rt.alloc(); 0u8; length]?;
-        let file = file_of(Vec::from_slice(rt.alloc(), &bytes)?)?;
-        let found = cut_by(rt.alloc(), &file, target)?.map(|starts| starts.len());
-        assert!(rt; found == want, "{length} by {target}");
-        let found = fed_by(rt.alloc(), &bytes, target, &[65_536])?.map(|starts| starts.len());
-        assert!(rt; found == want, "{length} fed by {target}");
+        let counts = counts_of_zeros(rt.alloc(), length, target)?;
+        assert!(rt; counts == [want; 2], "{length} by {target}");
     }
     Ok(())
 }

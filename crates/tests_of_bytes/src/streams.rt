@@ -20,6 +20,39 @@ fn morsels<'a>(alloc: Global, cut: &'a Cut) -> Result<Vec<(u64, &'a [u8])>, Fail
     Ok(morsels)
 }
 
+/// Whether the source failed, how often its reader was called, and how many bytes that kept.
+type Told = (bool, u32, usize);
+
+/// What a reader of these bytes gives that gives so many of them a call, where at most so many are wanted: the cut by
+/// this target, or the fault, and what is told of the reader.
+fn read_by(
+    alloc: Global,
+    bytes: &[u8],
+    step: usize,
+    limit: u64,
+    target: u64,
+) -> (Result<Cut, CutReadFault>, Told) {
+    let mut reader = Interrupted::of(bytes, step, u32::MAX);
+    let mut source = Counted::of(&mut reader);
+    let limit = limit.min(LONGEST_FILE);
+    let read = read_cut(alloc, &mut source, limit, target.max(1), &mut NoListener);
+    let failed = source.failed();
+    (read, (failed, reader.calls, reader.rest.len()))
+}
+
+/// Whether these morsels are read by so many bytes a call.
+fn are_read_by(
+    alloc: Global,
+    bytes: &[u8],
+    step: usize,
+    target: u64,
+    want: &[(u64, &[u8])],
+) -> Result<bool, Fail> {
+    let (read, _) = read_by(alloc, bytes, step, LONGEST_FILE, target);
+    let cut = read?;
+    Ok(morsels(alloc, &cut)?.as_slice() == want)
+}
+
 #[test]
 fn what_is_read_by_few_bytes_a_call_is_cut_alike(rt: HostRuntime) -> Result<(), Fail> {
     let alloc = rt.alloc();
@@ -29,47 +62,49 @@ fn what_is_read_by_few_bytes_a_call_is_cut_alike(rt: HostRuntime) -> Result<(), 
         let whole = cut(alloc, &file, target)?;
         let want = morsels(alloc, &whole)?;
         for step in [1, 2, 3, 7, 65_536] {
-            let mut reader = Interrupted::of(&bytes, step, u32::MAX);
-            let mut source = Counted::of(&mut reader);
-            let read = read_cut(alloc, &mut source, LONGEST_FILE, target, &mut NoListener)?;
-            let found = morsels(alloc, &read)?;
-            assert!(rt; found.as_slice() == want.as_slice(), "{target} by {step}");
+            let are_alike = are_read_by(alloc, &bytes, step, target, want.as_slice())?;
+            assert!(rt; are_alike, "{target} by {step}");
         }
     }
     Ok(())
+}
+
+/// How many morsels are read by so many bytes a call, or the fault.
+fn count_by(alloc: Global, bytes: &[u8], step: usize, target: u64) -> Result<usize, CutReadFault> {
+    let (read, _) = read_by(alloc, bytes, step, LONGEST_FILE, target);
+    Ok(read?.count() as usize)
 }
 
 #[test]
 fn many_pieces_are_cut_as_the_whole(rt: HostRuntime) -> Result<(), Fail> {
     let alloc = rt.alloc();
     let most = 65_536;
+    let truncated = Err(CutReadFault::Truncated { place: 131_074 });
     let table: [(usize, u64, Result<usize, CutReadFault>); 5] = [
         (2 * most, 1, Ok(65_536)),
         (2 * most + 2, 1, Err(CutReadFault::TooManyMorsels)),
         (2 * most + 2, 3, Ok(32_769)),
-        (
-            2 * most + 3,
-            1,
-            Err(CutReadFault::Truncated { place: 131_074 }),
-        ),
-        (
-            2 * most + 3,
-            3,
-            Err(CutReadFault::Truncated { place: 131_074 }),
-        ),
+        (2 * most + 3, 1, truncated),
+        (2 * most + 3, 3, truncated),
     ];
     for (length, target, want) in table {
         // Messages of no bytes, and perhaps one byte more.
         let bytes = vec![in alloc; 0u8; length]?;
         for step in [1, 65_536] {
-            let mut reader = Interrupted::of(&bytes, step, u32::MAX);
-            let mut source = Counted::of(&mut reader);
-            let read = read_cut(alloc, &mut source, LONGEST_FILE, target, &mut NoListener);
-            let count = read.map(|cut| cut.count() as usize);
+            let count = count_by(alloc, &bytes, step, target);
             assert!(rt; count == want, "{length} by {target}");
         }
     }
     Ok(())
+}
+
+/// How many bytes are read within a limit, or the fault, and what is told of the reader.
+fn length_within(alloc: Global, bytes: &[u8], limit: u64) -> (Result<u64, CutReadFault>, Told) {
+    let (read, told) = read_by(alloc, bytes, 1_000_000, limit, 50);
+    match read {
+        Ok(cut) => (Ok(cut.length()), told),
+        Err(fault) => (Err(fault), told),
+    }
 }
 
 #[test]
@@ -88,19 +123,9 @@ fn no_more_than_the_limit_and_a_byte_is_asked_for(rt: HostRuntime) -> Result<(),
         (&long, 65_536, Err(CutReadFault::TooLong), 2, 74_463),
     ];
     for (bytes, limit, want, calls, kept) in table {
-        let mut reader = Interrupted::of(bytes, 1_000_000, u32::MAX);
-        let mut source = Counted::of(&mut reader);
-        let read = read_cut(
-            alloc,
-            &mut source,
-            limit.min(LONGEST_FILE),
-            50,
-            &mut NoListener,
-        );
-        let length = read.map(|cut| cut.length());
-        assert!(rt; length == want && !source.failed(), "at {limit}");
+        let (length, told) = length_within(alloc, bytes, limit);
         assert!(rt;
-            (reader.calls, reader.rest.len()) == (calls, kept),
+            length == want && told == (false, calls, kept),
             "at {limit}"
         );
     }
@@ -182,29 +207,34 @@ fn wanted(alloc: Global, cut: &Cut, step: u64) -> Result<Vec<Note>, Fail>
     Ok(notes)
 }
 
+/// Whether each morsel of the bytes is told at once where so many of them are given a call.
+fn are_told_at_once(alloc: Global, bytes: &[u8], target: u64, step: usize) -> Result<bool, Fail>
+    requires target { 0 < target }
+    requires step { 0 < step }
+{
+    let given = AtomicU64::new(0);
+    let mut reader = Seen {
+        rest: bytes,
+        step,
+        given: &given,
+    };
+    let mut source = Counted::of(&mut reader);
+    let mut listener = Notes {
+        given: &given,
+        notes: Vec::new(alloc),
+    };
+    let cut = read_cut(alloc, &mut source, LONGEST_FILE, target, &mut listener)?;
+    let want = wanted(alloc, &cut, step as u64)?;
+    Ok(listener.notes.as_slice() == want.as_slice())
+}
+
 #[test]
 fn each_morsel_is_told_in_order_and_at_once(rt: HostRuntime) -> Result<(), Fail> {
-    let alloc = rt.alloc();
-    let bytes = Day::of(alloc, &NAMED)?.bytes;
+    let bytes = Day::of(rt.alloc(), &NAMED)?.bytes;
     for target in [1, 39, 40, 80, 113, 1_000] {
         for step in [1, 7, 65_536] {
-            let given = AtomicU64::new(0);
-            let mut reader = Seen {
-                rest: &bytes,
-                step,
-                given: &given,
-            };
-            let mut source = Counted::of(&mut reader);
-            let mut listener = Notes {
-                given: &given,
-                notes: Vec::new(alloc),
-            };
-            let cut = read_cut(alloc, &mut source, LONGEST_FILE, target, &mut listener)?;
-            let want = wanted(alloc, &cut, step as u64)?;
-            assert!(rt;
-                listener.notes.as_slice() == want.as_slice(),
-                "{target} by {step}"
-            );
+            let are_told = are_told_at_once(rt.alloc(), &bytes, target, step)?;
+            assert!(rt; are_told, "{target} by {step}");
         }
     }
     Ok(())

@@ -34,15 +34,42 @@ fn given<A: Allocator, R: Abort>(
     assert!(rt; dispatcher.claim(seat) == Claim::Task { claim, task });
 }
 
+/// The only task is given twice and then no more, and is not marked.
+fn twice<A: Allocator, R: Abort>(rt: &R, dispatcher: &Dispatcher<A>, seat: &mut Seat)
+    requires size { tasks_of dispatcher.now ≡ 1 }
+    requires own { IsSeatOf dispatcher.now seat.old }
+    requires unused { IsUnused seat.old }
+    ensures { IsSameSeat seat.old seat.new }
+{
+    given(rt, dispatcher, seat, 0, 0);
+    given(rt, dispatcher, seat, 1, 0);
+    assert!(rt; dispatcher.claim(seat) == Claim::NoMore { claim: 2 });
+    assert!(rt; !dispatcher.is_marked(seat, 0));
+}
+
+/// The same of the only seat.
+fn by_one<A: Allocator, R: Abort>(
+    rt: &R,
+    dispatcher: &Dispatcher<A>,
+    seats: &mut Vec<Seat, A>,
+) -> Result<(), OutOfMemory>
+    requires size { tasks_of dispatcher.now ≡ 1 }
+    requires count { length seats.old.items ≡ 1 }
+    requires own { All (IsSeatOf dispatcher.now) seats.old.items }
+    requires unused { All IsUnused seats.old.items }
+    ensures count { OnOk result (length seats.new.items ≡ 1) }
+    ensures own { OnOk result (All (IsSeatOf dispatcher.now) seats.new.items) }
+{
+    let mut seat = seats.pop().unwrap();
+    twice(rt, dispatcher, &mut seat);
+    seats.push(seat)?;
+    Ok(())
+}
+
 #[test]
 fn one_task_is_given_twice(rt: HostRuntime) -> Result<(), Fail> {
     let (dispatcher, mut seats) = Dispatcher::new(rt.alloc(), 1, 1)?;
-    let mut seat = seats.pop().unwrap();
-    given(&rt, &dispatcher, &mut seat, 0, 0);
-    given(&rt, &dispatcher, &mut seat, 1, 0);
-    assert!(rt; dispatcher.claim(&mut seat) == Claim::NoMore { claim: 2 });
-    assert!(rt; !dispatcher.is_marked(&mut seat, 0));
-    seats.push(seat)?;
+    by_one(&rt, &dispatcher, &mut seats)?;
     let Ok(tally) = dispatcher.settle(seats) else {
         panic!(rt; "no memory")
     };

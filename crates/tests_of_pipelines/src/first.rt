@@ -1,6 +1,6 @@
 //! The first pipeline alone.
 use crate::gatherers::{Order, Run, TWO_AND_TWO};
-use crate::threads::{Ledger, ONE, TWO, counts};
+use crate::threads::{Ledger, ONE, TWO};
 use pipelines::{FreeGate, run_first};
 use std::test::Fail;
 use tests_works::{NUMBERS, Watch, shared_inputs_of};
@@ -12,10 +12,8 @@ fn one_pipeline_gives_each_task_to_a_worker(rt: HostRuntime) -> Result<(), Fail>
     let gate = Ledger::new(alloc, &watch)?;
     let inputs = shared_inputs_of(alloc, &watch, &NUMBERS)?;
     assert!(rt; run_first(&rt, alloc, &inputs, ONE, &gate)? == 255);
-    assert!(rt; !gate.heard_wrong() && gate.tasks(1, 0) == [1; 8]);
-    assert!(rt; gate.tasks(1, 1) == [0; 8] && gate.tasks(1, 2) == [0; 8]);
-    assert!(rt; watch.runs() == 8);
-    assert!(rt; counts(&gate.done) == [1, 0] && counts(&gate.all_when_done) == [8, 0]);
+    assert!(rt; gate.has(1, 0, [1; 8]) && gate.has(1, 1, [0; 8]) && gate.has(1, 2, [0; 8]));
+    assert!(rt; watch.runs() == 8 && gate.has_all(8, [8, 0], [1, 0]));
     Ok(())
 }
 

@@ -14,6 +14,7 @@ use std::sync::atomic::{AtomicBool, AtomicU64, Ordering};
 use std::sync::{Arc, Wait};
 use std::test::Fail;
 use std::thread;
+use std::thread::Threads;
 use tests_works::{NUMBERS, Number, Sum, Watch, hold, shared_inputs_of};
 
 /// A run: its pipeline, its task and its round.
@@ -96,6 +97,27 @@ const TURNS: [(Run, Run); 3] = [
     ((1, 2, 0), (1, 2, 1)),
 ];
 
+/// The sums of a crew's runs over the first numbers under this order, or none for want of memory.
+fn sums_under<R: Threads + Wait + Sync>(
+    rt: &R,
+    alloc: Global,
+    watch: &Arc<Watch, Global>,
+    count: usize,
+    halts: bool,
+    crew: Crew,
+    gate: &Order,
+) -> Result<Option<(u128, u128)>, OutOfMemory>
+    requires { count ≤ 8 }
+{
+    let linked = Arc::try_clone(watch)?;
+    let numbers = &NUMBERS[..count];
+    match outcome(rt, alloc, watch, linked, numbers, halts, crew, gate) {
+        Ok(Outcome::Finished { total, kept }) => Ok(Some((total, kept))),
+        Ok(Outcome::Stopped { stop }) => Ok(Some((stop, 0))),
+        Err(_) => Ok(None),
+    }
+}
+
 #[test]
 fn what_each_gathered_is_merged(rt: HostRuntime) -> Result<(), Fail> {
     let alloc = rt.alloc();
@@ -104,25 +126,10 @@ fn what_each_gathered_is_merged(rt: HostRuntime) -> Result<(), Fail> {
         (3, true, &TURNS[..], (7, 0), [3, 1, 0]),
     ] {
         let watch = Watch::shared(alloc)?;
-        let linked = Arc::try_clone(&watch)?;
         let gate = Order::new(holds);
-        let numbers = &NUMBERS[..count];
-        let got = match outcome(
-            &rt,
-            alloc,
-            &watch,
-            linked,
-            numbers,
-            halts,
-            TWO_AND_TWO,
-            &gate,
-        )? {
-            Outcome::Finished { total, kept } => (total, kept),
-            Outcome::Stopped { stop } => (stop, 0),
-        };
-        assert!(rt; got == sums);
-        assert!(rt; gate.rounds() == rounds);
-        assert!(rt; !gate.gave_up());
+        let got = sums_under(&rt, alloc, &watch, count, halts, TWO_AND_TWO, &gate)?;
+        assert!(rt; got == Some(sums));
+        assert!(rt; gate.rounds() == rounds && !gate.gave_up());
     }
     Ok(())
 }
@@ -132,24 +139,19 @@ fn what_each_gathered_is_merged(rt: HostRuntime) -> Result<(), Fail> {
 #[test]
 fn refused_runs_are_made_again_by_the_caller(rt: HostRuntime) -> Result<(), Fail> {
     let alloc = rt.alloc();
-    for (refuses, gatherers, answers, rounds) in [
-        (8, 1, true, [4, 4, 4]),
-        (9, 1, false, [4, 4, 1]),
-        (8, 2, true, [4, 4, 4]),
-        (9, 2, false, [4, 4, 1]),
+    for (refuses, gatherers, sums, rounds) in [
+        (8, 1, Some((15, 0)), [4, 4, 4]),
+        (9, 1, None, [4, 4, 1]),
+        (8, 2, Some((15, 0)), [4, 4, 4]),
+        (9, 2, None, [4, 4, 1]),
     ] {
         let watch = Watch::refusing(alloc, 0..refuses)?;
-        let linked = Arc::try_clone(&watch)?;
         let gate = Order::new(&[]);
         let crew = Crew {
             workers: 2,
             gatherers,
         };
-        match outcome(&rt, alloc, &watch, linked, &NUMBERS[..4], true, crew, &gate) {
-            Ok(Outcome::Stopped { stop }) => assert!(rt; (stop, answers) == (15, true)),
-            Ok(Outcome::Finished { total: _, kept: _ }) => assert!(rt; false),
-            Err(_) => assert!(rt; !answers),
-        }
+        assert!(rt; sums_under(&rt, alloc, &watch, 4, true, crew, &gate)? == sums);
         assert!(rt; gate.rounds() == rounds);
     }
     Ok(())

@@ -104,9 +104,9 @@ pub(crate) struct Ledger {
     /// How often it heard of a run, by its pipeline, its round and its task.
     heard: Vec<AtomicU64>,
     all: AtomicU64,
-    pub(crate) all_when_done: [AtomicU64; 2],
+    all_when_done: [AtomicU64; 2],
     /// How often each pipeline was done.
-    pub(crate) done: [AtomicU64; 2],
+    done: [AtomicU64; 2],
     /// It heard of a run or a pipeline that is none of these, or only after the run was made.
     is_wrong: AtomicBool,
 }
@@ -117,7 +117,7 @@ fn place_of(pipeline: u8, round: u8, task: u32) -> usize {
 }
 
 /// Both counts.
-pub(crate) fn counts(of: &[AtomicU64; 2]) -> [u64; 2] {
+fn counts(of: &[AtomicU64; 2]) -> [u64; 2] {
     let [first, second] = of;
     [first.load(Ordering::SeqCst), second.load(Ordering::SeqCst)]
 }
@@ -138,13 +138,8 @@ impl Ledger {
         })
     }
 
-    /// Whether it heard of what there is none of, or too late.
-    pub(crate) fn heard_wrong(&self) -> bool {
-        self.is_wrong.load(Ordering::SeqCst)
-    }
-
     /// How often it heard of each task in a round.
-    pub(crate) fn tasks(&self, pipeline: u8, round: u8) -> [u64; 8] {
+    fn tasks(&self, pipeline: u8, round: u8) -> [u64; 8] {
         let mut tasks = [0; 8];
         for (task, count) in tasks.iter_mut().enumerate() {
             if let Some(heard) = self.heard.get(place_of(pipeline, round, task as u32)) {
@@ -152,6 +147,20 @@ impl Ledger {
             }
         }
         tasks
+    }
+
+    /// Whether it heard so often of each task in a round.
+    pub(crate) fn has(&self, pipeline: u8, round: u8, wanted: [u64; 8]) -> bool {
+        self.tasks(pipeline, round) == wanted
+    }
+
+    /// Whether it heard nothing wrong, and of so many runs in all, of which so many were made when the pipelines were
+    /// done, each so often.
+    pub(crate) fn has_all(&self, all: u64, when_done: [u64; 2], done: [u64; 2]) -> bool {
+        !self.is_wrong.load(Ordering::SeqCst)
+            && self.all.load(Ordering::SeqCst) == all
+            && counts(&self.all_when_done) == when_done
+            && counts(&self.done) == done
     }
 }
 
@@ -178,28 +187,51 @@ impl Gate for Ledger {
     }
 }
 
+/// What is heard of the runs over these numbers by one worker.
+fn heard_of_one<R: Threads + Wait + Sync>(
+    rt: &R,
+    alloc: Global,
+    watch: &Arc<Watch, Global>,
+    numbers: &[u64],
+    halts: bool,
+) -> Result<Ledger, OutOfMemory>
+    requires { length numbers.now ≤ MOST_TASKS }
+{
+    let gate = Ledger::new(alloc, watch)?;
+    let linked = Arc::try_clone(watch)?;
+    let _ = outcome(rt, alloc, watch, linked, numbers, halts, ONE, &gate)?;
+    Ok(gate)
+}
+
 #[test]
 fn marked_tasks_are_passed_over(rt: HostRuntime) -> Result<(), Fail> {
     let alloc = rt.alloc();
     // A second pipeline that doesn't run is never done.
-    for (halts, second, all_when_done, done) in [
-        (false, [1, 1, 0, 0, 0, 0, 0, 0], [8, 10], [1, 1]),
-        (true, [0; 8], [8, 0], [1, 0]),
+    for (halts, all, second, when_done, done) in [
+        (false, 10, [1, 1, 0, 0, 0, 0, 0, 0], [8, 10], [1, 1]),
+        (true, 8, [0; 8], [8, 0], [1, 0]),
     ] {
         let watch = Watch::shared(alloc)?;
-        let gate = Ledger::new(alloc, &watch)?;
-        let linked = Arc::try_clone(&watch)?;
-        let _ = outcome(&rt, alloc, &watch, linked, &NUMBERS, halts, ONE, &gate)?;
-        assert!(rt; !gate.heard_wrong());
-        assert!(rt; gate.tasks(1, 0) == [1; 8]);
-        assert!(rt; gate.tasks(2, 0) == second);
-        assert!(rt; counts(&gate.all_when_done) == all_when_done);
-        assert!(rt; counts(&gate.done) == done);
-        let all = if halts { 8 } else { 10 };
-        assert!(rt; gate.all.load(Ordering::SeqCst) == all);
-        assert!(rt; watch.runs() == all);
+        let gate = heard_of_one(&rt, alloc, &watch, &NUMBERS, halts)?;
+        assert!(rt; gate.has_all(all, when_done, done) && watch.runs() == all);
+        assert!(rt; gate.has(1, 0, [1; 8]) && gate.has(2, 0, second));
     }
     Ok(())
+}
+
+/// The first total of four tasks by one worker, the runs of which this gate hears, or none for want of memory.
+fn sum_of_four<R: Threads + Wait + Sync>(
+    rt: &R,
+    alloc: Global,
+    watch: &Arc<Watch, Global>,
+    gate: &Ledger,
+) -> Result<Option<u128>, OutOfMemory> {
+    let linked = Arc::try_clone(watch)?;
+    match outcome(rt, alloc, watch, linked, &NUMBERS[..4], true, ONE, gate) {
+        Ok(Outcome::Stopped { stop }) => Ok(Some(stop)),
+        Ok(Outcome::Finished { total: _, kept: _ }) => Ok(Some(0)),
+        Err(_) => Ok(None),
+    }
 }
 
 #[test]
@@ -209,24 +241,15 @@ fn lost_pieces_are_run_again(rt: HostRuntime) -> Result<(), Fail> {
     // pipeline is done after the last of them, or never if one is refused.
     let each = [1, 1, 1, 1, 0, 0, 0, 0];
     let first = [1, 0, 0, 0, 0, 0, 0, 0];
-    for (refuses, answers, by_caller, all, when_done, done) in [
-        (8, true, each, 12, [12, 0], [1, 0]),
-        (9, false, first, 9, [0, 0], [0, 0]),
+    for (refuses, sum, by_caller, all, when_done, done) in [
+        (8, Some(15), each, 12, [12, 0], [1, 0]),
+        (9, None, first, 9, [0, 0], [0, 0]),
     ] {
         let watch = Watch::refusing(alloc, 0..refuses)?;
         let gate = Ledger::new(alloc, &watch)?;
-        let linked = Arc::try_clone(&watch)?;
-        match outcome(&rt, alloc, &watch, linked, &NUMBERS[..4], true, ONE, &gate) {
-            Ok(Outcome::Stopped { stop }) => assert!(rt; (stop, answers) == (15, true)),
-            Ok(Outcome::Finished { total: _, kept: _ }) => assert!(rt; false),
-            Err(_) => assert!(rt; !answers),
-        }
-        assert!(rt; !gate.heard_wrong());
-        assert!(rt; gate.tasks(1, 0) == each && gate.tasks(1, 1) == each);
-        assert!(rt; gate.tasks(1, 2) == by_caller);
-        assert!(rt; gate.all.load(Ordering::SeqCst) == all);
-        assert!(rt; counts(&gate.all_when_done) == when_done);
-        assert!(rt; counts(&gate.done) == done);
+        assert!(rt; sum_of_four(&rt, alloc, &watch, &gate)? == sum);
+        assert!(rt; gate.has_all(all, when_done, done));
+        assert!(rt; gate.has(1, 0, each) && gate.has(1, 1, each) && gate.has(1, 2, by_caller));
     }
     Ok(())
 }
@@ -294,13 +317,10 @@ fn runs_at_once(rt: HostRuntime) -> Result<(), Fail> {
 /// A pipeline of one task has a worker, too.
 #[test]
 fn one_task_is_given_to_a_worker(rt: HostRuntime) -> Result<(), Fail> {
-    let alloc = rt.alloc();
-    let watch = Watch::shared(alloc)?;
-    let gate = Ledger::new(alloc, &watch)?;
-    let linked = Arc::try_clone(&watch)?;
-    let _ = outcome(&rt, alloc, &watch, linked, &[1], true, ONE, &gate)?;
-    assert!(rt; !gate.heard_wrong() && watch.runs() == 1);
-    assert!(rt; gate.tasks(1, 0) == [1, 0, 0, 0, 0, 0, 0, 0]);
+    let watch = Watch::shared(rt.alloc())?;
+    let gate = heard_of_one(&rt, rt.alloc(), &watch, &[1], true)?;
+    assert!(rt; gate.has_all(1, [1, 0], [1, 0]) && watch.runs() == 1);
+    assert!(rt; gate.has(1, 0, [1, 0, 0, 0, 0, 0, 0, 0]));
     Ok(())
 }
 

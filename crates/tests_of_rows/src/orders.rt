@@ -2,7 +2,7 @@
 use crate::rows::{forty_rows, hundred_rows, order_rows};
 use linked_list_allocator::LocalHeap;
 use order_table::{Built, OrderRow, OrderTable, Repeated, partition};
-use std::alloc::Allocator;
+use std::alloc::{Allocator, Global};
 use std::test::Fail;
 
 #[test]
@@ -64,23 +64,37 @@ fn a_table_takes_room_for_its_rows_alone(rt: HostRuntime) -> Result<(), Fail> {
     Ok(())
 }
 
+/// Whether a table of forty rows by this factor, if there is room for it, prices each.
+fn prices_within(alloc: Global, heap: &LocalHeap, factor: u64) -> Result<Option<bool>, Fail> {
+    let rows = forty_rows(alloc, factor)?;
+    match OrderTable::build(heap, rows.as_slice()) {
+        Ok(built) => Ok(Some(prices_each(&built, rows.as_slice()))),
+        Err(_) => Ok(None),
+    }
+}
+
+/// Whether there is room in so many bytes for rows that rise and for others, or for none; None if only for some, or if
+/// a table is wrong.
+fn is_room_for_all(alloc: Global, bytes: usize) -> Result<Option<bool>, Fail> {
+    let heap = LocalHeap::new(alloc, bytes)?;
+    let rising = prices_within(alloc, &heap, 1)?;
+    let mixed = prices_within(alloc, &heap, 17)?;
+    let falling = prices_within(alloc, &heap, 40)?;
+    match (rising, mixed, falling) {
+        (None, None, None) => Ok(Some(false)),
+        (Some(true), Some(true), Some(true)) => Ok(Some(true)),
+        _ => Ok(None),
+    }
+}
+
 // The room that is enough for rows that rise is enough for others, which are sorted where they are.
 #[test]
 fn rows_are_sorted_where_they_are(rt: HostRuntime) -> Result<(), Fail> {
-    let rising = forty_rows(rt.alloc(), 1)?;
     let (mut was_refused, mut finished) = (false, false);
     for step in 1..400 {
-        let heap = LocalHeap::new(rt.alloc(), 16 * step)?;
-        let is_kept = OrderTable::build(&heap, rising.as_slice()).is_ok();
-        for factor in [17, 40] {
-            let rows = forty_rows(rt.alloc(), factor)?;
-            let built = OrderTable::build(&heap, rows.as_slice());
-            assert!(rt; built.is_ok() == is_kept, "factor {factor}");
-            if let Ok(built) = built {
-                assert!(rt; prices_each(&built, rows.as_slice()), "factor {factor}");
-            }
-        }
-        if is_kept {
+        let is_kept = is_room_for_all(rt.alloc(), 16 * step)?;
+        assert!(rt; is_kept.is_some());
+        if is_kept == Some(true) {
             finished = true;
             break;
         }

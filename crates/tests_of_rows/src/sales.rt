@@ -5,75 +5,127 @@ use probe::{
     Breaks, Kind, Kinds, LocateList, Locates, OrderTable, Priced, Selection, Span, Unknown, keep,
     price_all, price_into,
 };
+use std::alloc::{AllocError, Allocator, Global};
 use std::test::Fail;
 
-#[test]
-fn executions_are_priced_once_there_is_room(rt: HostRuntime) -> Result<(), Fail> {
-    let table = OrderTable::build(rt.alloc(), &order_rows())?.table;
+/// Whether the sale of the first execution stands there alone, and the second one's reference is the unknown one.
+fn are_priced<A: Allocator>(priced: &Priced<A>) -> bool {
     let unknown = Unknown {
         place: 80,
         order_no: 2,
     };
+    priced.sales.as_slice() == [sale(9, 0, Kind::E, 5)].as_slice()
+        && priced.unknown == Some(unknown)
+}
+
+/// Whether nothing was priced.
+fn is_none_priced<A: Allocator>(priced: &Priced<A>) -> bool {
+    priced.sales.is_empty() && priced.unknown.is_none()
+}
+
+/// Whether so many bytes are enough to price the executions, and whether what was priced is right.
+fn priced_within(
+    alloc: Global,
+    bytes: usize,
+    table: &OrderTable,
+) -> Result<Option<bool>, AllocError> {
+    let heap = LocalHeap::new(alloc, bytes)?;
+    match price_all(&heap, table, &executions()) {
+        Ok(priced) => Ok(Some(are_priced(&priced))),
+        Err(_) => Ok(None),
+    }
+}
+
+#[test]
+fn executions_are_priced_once_there_is_room(rt: HostRuntime) -> Result<(), Fail> {
+    let table = OrderTable::build(rt.alloc(), &order_rows())?.table;
     let mut enough = None;
     for step in 1..100 {
-        let heap = LocalHeap::new(rt.alloc(), 16 * step)?;
-        if let Ok(priced) = price_all(&heap, &table, &executions()) {
-            assert!(rt; priced.sales.as_slice() == [sale(9, 0, Kind::E, 5)].as_slice());
-            assert!(rt; priced.unknown == Some(unknown));
+        if let Some(are_right) = priced_within(rt.alloc(), 16 * step, &table)? {
+            assert!(rt; are_right);
             enough = Some(step);
             break;
         }
     }
     assert!(rt; enough.is_some_and(|step| step > 1));
-    let none = price_all(rt.alloc(), &table, &[])?;
-    assert!(rt; none.sales.is_empty() && none.unknown.is_none());
     Ok(())
+}
+
+#[test]
+fn no_executions_have_no_sales(rt: HostRuntime) -> Result<(), Fail> {
+    let table = OrderTable::build(rt.alloc(), &order_rows())?.table;
+    assert!(rt; is_none_priced(&price_all(rt.alloc(), &table, &[])?));
+    Ok(())
+}
+
+/// The executions priced one after the other.
+fn priced_by_one(alloc: Global, table: &OrderTable) -> Result<Priced, AllocError> {
+    let executions = executions();
+    let mut priced = Priced {
+        sales: Vec::new(alloc),
+        unknown: None,
+    };
+    for at in [0, 1] {
+        price_into(&mut priced, table, &executions[at..=at])?;
+    }
+    Ok(priced)
 }
 
 #[test]
 fn executions_are_priced_after_others(rt: HostRuntime) -> Result<(), Fail> {
     let table = OrderTable::build(rt.alloc(), &order_rows())?.table;
-    let executions = executions();
-    let both = price_all(rt.alloc(), &table, &executions)?;
-    let mut priced = Priced {
-        sales: Vec::new(rt.alloc()),
-        unknown: None,
-    };
-    for at in [0, 1] {
-        price_into(&mut priced, &table, &executions[at..=at])?;
-    }
-    assert!(rt; priced.sales.as_slice() == both.sales.as_slice() && priced.unknown == both.unknown);
-    price_into(&mut priced, &table, &executions)?;
+    let mut priced = priced_by_one(rt.alloc(), &table)?;
+    assert!(rt; are_priced(&priced));
+    price_into(&mut priced, &table, &executions())?;
     assert!(rt; priced.sales.len() == 2 && priced.unknown.map(|unknown| unknown.place) == Some(80));
     Ok(())
+}
+
+/// Whether the executions are priced once more in so many bytes, and whether what comes is right: two sales, or what
+/// stood. None if there is no room for the first of the two.
+fn priced_twice_within(
+    alloc: Global,
+    bytes: usize,
+    table: &OrderTable,
+) -> Result<Option<(bool, bool)>, AllocError> {
+    let heap = LocalHeap::new(alloc, bytes)?;
+    let Ok(mut priced) = price_all(&heap, table, &executions()) else {
+        return Ok(None);
+    };
+    let is_priced = price_into(&mut priced, table, &executions()).is_ok();
+    let is_right = if is_priced {
+        priced.sales.len() == 2
+    } else {
+        are_priced(&priced)
+    };
+    Ok(Some((is_priced, is_right)))
+}
+
+/// Whether nothing is priced where there is room for no sale.
+fn is_none_priced_without_room(alloc: Global, table: &OrderTable) -> Result<bool, AllocError> {
+    let heap = LocalHeap::new(alloc, 16)?;
+    let mut priced = Priced {
+        sales: Vec::new(&heap),
+        unknown: None,
+    };
+    let is_refused = price_into(&mut priced, table, &executions()).is_err();
+    Ok(is_refused && is_none_priced(&priced))
 }
 
 #[test]
 fn pricing_that_is_refused_leaves_what_was_priced(rt: HostRuntime) -> Result<(), Fail> {
     let table = OrderTable::build(rt.alloc(), &order_rows())?.table;
-    let executions = executions();
     let mut refused = false;
     for step in 1..100 {
-        let heap = LocalHeap::new(rt.alloc(), 16 * step)?;
-        let Ok(mut priced) = price_all(&heap, &table, &executions) else {
-            continue;
-        };
-        if price_into(&mut priced, &table, &executions).is_ok() {
-            assert!(rt; priced.sales.len() == 2);
-            break;
+        if let Some((is_priced, is_right)) = priced_twice_within(rt.alloc(), 16 * step, &table)? {
+            assert!(rt; is_right);
+            if is_priced {
+                break;
+            }
+            refused = true;
         }
-        assert!(rt; priced.sales.as_slice() == [sale(9, 0, Kind::E, 5)].as_slice());
-        assert!(rt; priced.unknown.map(|unknown| unknown.place) == Some(80));
-        refused = true;
     }
-    assert!(rt; refused);
-    let heap = LocalHeap::new(rt.alloc(), 16)?;
-    let mut priced = Priced {
-        sales: Vec::new(&heap),
-        unknown: None,
-    };
-    assert!(rt; price_into(&mut priced, &table, &executions).is_err());
-    assert!(rt; priced.sales.is_empty() && priced.unknown.is_none());
+    assert!(rt; refused && is_none_priced_without_room(rt.alloc(), &table)?);
     Ok(())
 }
 
