@@ -1,7 +1,7 @@
 """Runs the program that `rt ci` built under counts.c, and says what it did: its threads, the memory that each of them took of
 the heap, its readings and its writes. Also the days that `threads` and `memory` are run over.
 """
-import collections, os, pathlib, resource, struct, subprocess, sys, tempfile
+import collections, os, pathlib, resource, struct, subprocess, sys, tempfile, time
 
 TOP = pathlib.Path(__file__).resolve().parent.parent
 PROGRAM = pathlib.Path(os.environ.get("ITCH_BARS", TOP / "crates/itch_bars/out/itch_bars"))
@@ -9,6 +9,8 @@ PROGRAM = pathlib.Path(os.environ.get("ITCH_BARS", TOP / "crates/itch_bars/out/i
 MOST_SECONDS = 60
 # A run that waits so many seconds waits for ever.
 LONGEST_WAIT = 900
+# A thread that doesn't sleep at two of so many looks in turn, twenty a second, never does.
+MOST_LOOKS = 600
 
 Thread = collections.namedtuple("Thread", "number starter allocations bytes largest")
 Call = collections.namedtuple("Call", "kind thread file place asked count")
@@ -76,10 +78,11 @@ class Runner:
                 file.write(frame)
         return path
 
-    def run(self, words, given=None, meet="", reading=0, first=(), room=None, seconds=MOST_SECONDS):
+    def run(self, words, given=None, meet="", reading=0, first=(), room=None, seconds=MOST_SECONDS, status=0):
         """The counts of a run. `given` is its standard input, a file; `meet` says which threads wait for one another, `reading`
         which reading of the caller does with the first of them, and `first` for the end of which ones their starter waits
-        (counts.c); `room` is how many bytes of addresses it may have, and `seconds` how much processor time it may take."""
+        (counts.c); `room` is how many bytes of addresses it may have, `seconds` how much processor time it may take, and
+        `status` its status: only where that isn't 0, a line is told."""
 
         def limit():
             resource.setrlimit(resource.RLIMIT_CPU, (seconds, seconds))
@@ -89,17 +92,39 @@ class Runner:
         report = self.folder / "report"
         report.unlink(missing_ok=True)
         counted = {"REPORT": report, "MEET": meet, "READING": reading, "FIRST": ",".join(map(str, first))}
-        counted = {f"COUNTS_{key}": str(value) for key, value in counted.items()} | {"LD_PRELOAD": str(self.library)}
         words = [str(word) for word in words]
         with open(given or os.devnull, "rb") as source:
-            settings = {"env": {**os.environ, **counted}, "preexec_fn": limit, "timeout": LONGEST_WAIT}
+            settings = {"env": self.environment(counted), "preexec_fn": limit, "timeout": LONGEST_WAIT}
             try:
                 done = subprocess.run([PROGRAM, *words], stdin=source, capture_output=True, **settings)
             except subprocess.TimeoutExpired:
                 stop(f"doesn't end: {' '.join(words)}")
-        if done.returncode or done.stderr:
+        if done.returncode != status or bool(done.stderr) != bool(status):
             stop(f"status {done.returncode} {done.stderr[:300]}: {' '.join(words)}")
         return Counts(report.read_text())
+
+    def environment(self, counted):
+        """The environment of a run with these settings of counts.c."""
+        counted = {f"COUNTS_{key}": str(value) for key, value in counted.items()}
+        return {**os.environ, **counted, "LD_PRELOAD": str(self.library)}
+
+    def waits(self, words, meet):
+        """Whether the caller of a run sleeps while its threads wait for one another in vain: it does so by and by, or never. The
+        run is ended then."""
+        settings = {"env": self.environment({"MEET": meet}), "stdout": subprocess.DEVNULL}
+        with subprocess.Popen([PROGRAM, *(str(word) for word in words)], **settings) as running:
+            looks = [None, sleep_of(running.pid)]
+            while len(looks) < MOST_LOOKS and (looks[-1] is None or looks[-1] != looks[-2]):
+                time.sleep(0.05)
+                looks.append(sleep_of(running.pid))
+            running.kill()
+        return len(looks) < MOST_LOOKS
+
+
+def sleep_of(process):
+    """How much processor time the first thread of a process has taken, where it sleeps now."""
+    fields = pathlib.Path(f"/proc/{process}/task/{process}/stat").read_text().rpartition(")")[2].split()
+    return fields[11:13] if fields[0] == "S" else None
 
 
 def frame(body):
@@ -194,6 +219,15 @@ def trades(count, locates=65_536):
     """Trades, each a bar of its own."""
     for number in range(count):
         yield trade(number, number * 40_503 % locates, time_of(number, count))
+
+
+def trades_last(count):
+    """Orders whose references rise, with executions, and then trades alone, so that some morsels have no orders. Those before a
+    name are at even places and those behind it at odd ones, or the other way round: so each partition has some."""
+    yield from orders(count, rising)
+    yield from trades(count // 6)
+    yield named(0, b"MSFT    ")
+    yield from trades(count // 6)
 
 
 def names(count):
