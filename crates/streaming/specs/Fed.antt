@@ -1,5 +1,5 @@
 -- What a source gave and a `Cutter` was fed.
--- Derived: what is promised of `read_cut` speaks of what the source gave alone.
+-- Derived: what is promised of a `BatchReader` speaks of what the source gave alone.
 use Rattle.std.specs.Prelude.{ℕ, List, ◌++◌}
 use Rattle.day_file.specs.Feeding.{CutterView, HasFed}
 

@@ -33,7 +33,7 @@ HasTooMany target day = (runs : List (List ℕ)) × IsCutBy target runs day × (
 
 -- what each refusal of a source that is cut while it is read says of what the source gave. If a call failed, or
 -- memory ran out, that is only how many bytes it may have given at most; that a call failed is a clause of its own,
--- `failed` of `read_cut`.
+-- `failed` of `next_batch`.
 abbrev pub IsReadFault : {S : Type 0} → (S → S → List ℕ → Type 0) → (S → Type 0)
     → ℕ → ℕ → S → S → CutReadFault → Type 0
 IsReadFault Gave HasEnded limit target before after fault.ReadFailed = GaveSome Gave limit before after

@@ -1,11 +1,9 @@
-//! A day file that is cut into morsels while it is read from a source of bytes.
+//! A day file that is cut into morsels, batch by batch, while it is read from a source of bytes.
 #![tactic(auto)]
 
 mod batches;
-mod listener;
 mod reading;
 
 pub use batches::{Batch, BatchReader};
 pub use day_file::{Cut, LONGEST_FILE, MOST_MORSELS, Morsel, OutOfMemory, Source};
-pub use listener::{Listener, NoListener};
-pub use reading::{CutReadFault, read_cut};
+pub use reading::CutReadFault;

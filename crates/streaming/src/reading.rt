@@ -1,15 +1,10 @@
-ghost use Rattle.std.specs.Prelude.{◌≡◌, ◌≤◌, ◌<◌, ◌+◌, ◌↔◌, ℕ, List, [], length, true, false, vec_len};
+ghost use Rattle.std.specs.Prelude.{◌≡◌, ◌≤◌, ◌<◌, ◌+◌, ◌↔◌, ℕ, List, length, true, false, vec_len};
 ghost use Rattle.std.specs.Prelude.{IfErr, IfOk, IsErrOf, OnOk};
-ghost use Rattle.std.specs.List.{concat};
-ghost use Rattle.day_file.specs.Cuts.{IsCutBy};
 ghost use Rattle.day_file.specs.Feeding.{HasFed, fed_length};
 ghost use Rattle.streaming.specs.Fed.{IsFedBy};
-ghost use Rattle.streaming.specs.Streams.{GaveAll, IsReadFault};
+ghost use Rattle.streaming.specs.Streams.{IsReadFault};
 
-use crate::listener::{Listener, tell};
-use day_file::{
-    Cut, CutFault, Cutter, DeviceFailed, LONGEST_FILE, MOST_MORSELS, OutOfMemory, Source,
-};
+use day_file::{Cutter, DeviceFailed, LONGEST_FILE, OutOfMemory, Source};
 use std::alloc::Global;
 
 /// The most bytes that one call asks of a source.
@@ -48,74 +43,6 @@ impl From<DeviceFailed> for CutReadFault {
     fn from(_failed: DeviceFailed) -> CutReadFault {
         CutReadFault::ReadFailed
     }
-}
-
-/// Reads a source of at most `limit` bytes to its end, and cuts what it gives meanwhile: each
-/// morsel is the shortest run of frames that has at least `target` bytes, or the rest. It asks for
-/// at most 65,536 bytes a call and for at most `limit` + 1 in all, and stops at the first call that
-/// fails. Besides the morsels it holds no more than such a piece and a morsel that is not full yet.
-///
-/// The listener hears of each morsel once it is cut, and of the last one at the source's end.
-pub fn read_cut<S: Source, L: Listener>(
-    alloc: Global,
-    source: &mut S,
-    limit: u64,
-    target: u64,
-    listener: &mut L,
-) -> Result<Cut, CutReadFault>
-    requires source { S.has_failed source.old ≡ false }
-    requires limit { limit ≤ LONGEST_FILE }
-    requires target { 0 < target }
-
-    // What it gives is the cut of all that the source had to give.
-    ensures gave { IfOk result (λ cut.
-        GaveAll S.Gave S.HasEnded limit source.old source.new (concat cut)) }
-    ensures cut { IfOk result (λ cut. IsCutBy target cut (concat cut)) }
-    ensures few { IfOk result (λ cut. length cut ≤ MOST_MORSELS) }
-
-    // After a refusal the source may have been read in part.
-    ensures fault { IfErr result (IsReadFault S.Gave S.HasEnded limit target source.old source.new) }
-    ensures failed { IsErrOf result CutReadFault.ReadFailed ↔ (S.has_failed source.new ≡ true) }
-{
-    let mut cutter = Cutter::new(alloc, target);
-    let told = feed_all(alloc, source, &mut cutter, limit, listener)?;
-    match cutter.finish() {
-        Ok(cut) => {
-            let count = tell(listener, &cut, told);
-            prove!(count <= MOST_MORSELS);
-            Ok(cut)
-        }
-        Err(CutFault::Truncated { place }) => Err(CutReadFault::Truncated { place }),
-        Err(CutFault::NotABoundary { .. }) => unreachable!(),
-        Err(CutFault::TooManyMorsels) => Err(CutReadFault::TooManyMorsels),
-        Err(CutFault::OutOfMemory) => Err(CutReadFault::OutOfMemory),
-    }
-}
-
-/// Feeds the cutter all that the source gives, and says of how many morsels it has told the listener.
-fn feed_all<S: Source, L: Listener>(
-    alloc: Global,
-    source: &mut S,
-    cutter: &mut Cutter,
-    limit: u64,
-    listener: &mut L,
-) -> Result<u32, CutReadFault>
-    requires source { S.has_failed source.old ≡ false }
-    requires limit { limit ≤ LONGEST_FILE }
-    requires none { HasFed cutter.old [] }
-    ensures fed { OnOk result ((day : List ℕ)
-        × GaveAll S.Gave S.HasEnded limit source.old source.new day × HasFed cutter.new day) }
-    ensures target { cutter.new.target ≡ cutter.old.target }
-    ensures fault { IfErr result
-        (IsReadFault S.Gave S.HasEnded limit cutter.old.target source.old source.new) }
-    ensures failed { IsErrOf result CutReadFault.ReadFailed ↔ (S.has_failed source.new ≡ true) }
-{
-    let mut piece = zeros(alloc, PIECE)?;
-    let mut told = 0;
-    while feed_next(source, cutter, &mut piece, 0, limit)? > 0 {
-        told = tell(listener, cutter.cut_so_far(), told);
-    }
-    Ok(told)
 }
 
 /// So many bytes.

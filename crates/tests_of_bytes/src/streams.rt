@@ -1,13 +1,11 @@
 //! Day files that are cut while they are read from a source.
-ghost use Rattle.std.specs.Prelude.{◌≡◌, ◌<◌, false};
+ghost use Rattle.std.specs.Prelude.{◌≡◌, ◌<◌, ◌≤◌, ◌↔◌, false, true, IsErrOf};
+ghost use Rattle.lists.specs.declared.limits.TheConstants.{LONGEST_FILE};
 
-use day_file::{Counted, LONGEST_FILE, Morsel, Source, cut};
+use day_file::{Counted, LONGEST_FILE, Source, cut};
 use std::alloc::Global;
-use std::io::{self, Read};
-use std::sync::Arc;
-use std::sync::atomic::{AtomicU64, Ordering};
 use std::test::Fail;
-use streaming::{Cut, CutReadFault, Listener, NoListener, read_cut};
+use streaming::{BatchReader, Cut, CutReadFault};
 use tests_support::{Day, Interrupted, NAMED, Trickle, UNNAMED, file_of};
 
 /// The bytes of each morsel, with where it starts.
@@ -18,6 +16,23 @@ fn morsels<'a>(alloc: Global, cut: &'a Cut) -> Result<Vec<(u64, &'a [u8])>, Fail
         morsels.push((morsel.start(), morsel.bytes()))?;
     }
     Ok(morsels)
+}
+
+/// The cut of all that a source gives, in one batch.
+fn read_whole<S: Source>(
+    alloc: Global,
+    source: &mut S,
+    limit: u64,
+    target: u64,
+) -> Result<Cut, CutReadFault>
+    requires source { S.has_failed source.old ≡ false }
+    requires limit { limit ≤ LONGEST_FILE }
+    requires target { 0 < target }
+    ensures { (S.has_failed source.new ≡ true) ↔ IsErrOf result CutReadFault.ReadFailed }
+{
+    let mut reader = BatchReader::new(alloc, limit, target, u64::MAX)?;
+    let batch = reader.next_batch(source)?;
+    Ok(batch.cut)
 }
 
 /// Whether the source failed, how often its reader was called, and how many bytes that kept.
@@ -35,7 +50,7 @@ fn read_by(
     let mut reader = Interrupted::of(bytes, step, u32::MAX);
     let mut source = Counted::of(&mut reader);
     let limit = limit.min(LONGEST_FILE);
-    let read = read_cut(alloc, &mut source, limit, target.max(1), &mut NoListener);
+    let read = read_whole(alloc, &mut source, limit, target.max(1));
     let failed = source.failed();
     (read, (failed, reader.calls, reader.rest.len()))
 }
@@ -139,7 +154,7 @@ fn a_source_that_fails_at_some_call_has_no_cut(rt: HostRuntime) -> Result<(), Fa
     // 71 bytes, and the call behind them tells the end.
     for calls in 0..74 {
         let mut source = Trickle::of(&bytes, calls);
-        let read = read_cut(alloc, &mut source, 71, 1, &mut NoListener).map(|cut| cut.count());
+        let read = read_whole(alloc, &mut source, 71, 1).map(|cut| cut.count());
         let want = if calls < 72 {
             Err(CutReadFault::ReadFailed)
         } else {
@@ -150,113 +165,6 @@ fn a_source_that_fails_at_some_call_has_no_cut(rt: HostRuntime) -> Result<(), Fa
             "at {calls}"
         );
         assert!(rt; source.calls == calls.saturating_sub(72), "at {calls}");
-    }
-    Ok(())
-}
-
-/// A reader that gives at most `step` bytes a call, and counts them where others see it.
-#[derive(Drop)]
-struct Seen<'a> {
-    rest: &'a [u8],
-    step: usize,
-    given: &'a AtomicU64,
-}
-
-impl<'a> Read for Seen<'a> {
-    fn read(&mut self, buf: &mut [u8]) -> io::Result<usize> {
-        let count = self.step.min(buf.len()).min(self.rest.len());
-        let (given, rest) = self.rest.split_at(count);
-        buf[..count].copy_from_slice(given);
-        self.rest = rest;
-        self.given.fetch_add(count as u64, Ordering::SeqCst);
-        Ok(count)
-    }
-}
-
-/// What is noted of a morsel: its number, start and length, and how many bytes had been given.
-type Note = (u32, u64, u64, u64);
-
-/// Notes each morsel that it hears of.
-#[derive(Drop)]
-struct Notes<'a> {
-    given: &'a AtomicU64,
-    notes: Vec<Note>,
-}
-
-impl Listener for Notes<'_> {
-    fn hear(&mut self, number: u32, morsel: &Arc<Morsel, Global>) {
-        let given = self.given.load(Ordering::SeqCst);
-        let length = morsel.bytes().len() as u64;
-        let _ = self.notes.push((number, morsel.start(), length, given));
-    }
-}
-
-/// What is heard of a cut, if each morsel is told with the first piece behind it, or at the end.
-fn wanted(alloc: Global, cut: &Cut, step: u64) -> Result<Vec<Note>, Fail>
-    requires { 0 < step }
-{
-    let mut notes = Vec::new(alloc);
-    let all = cut.length();
-    for number in 0..cut.count() {
-        let morsel = cut.morsel(number);
-        let (start, length) = (morsel.start(), morsel.bytes().len() as u64);
-        let end = start.saturating_add(length);
-        let given = all.min(end.div_ceil(step).saturating_add(1).saturating_mul(step));
-        notes.push((number, start, length, given))?;
-    }
-    Ok(notes)
-}
-
-/// Whether each morsel of the bytes is told at once where so many of them are given a call.
-fn are_told_at_once(alloc: Global, bytes: &[u8], target: u64, step: usize) -> Result<bool, Fail>
-    requires target { 0 < target }
-    requires step { 0 < step }
-{
-    let given = AtomicU64::new(0);
-    let mut reader = Seen {
-        rest: bytes,
-        step,
-        given: &given,
-    };
-    let mut source = Counted::of(&mut reader);
-    let mut listener = Notes {
-        given: &given,
-        notes: Vec::new(alloc),
-    };
-    let cut = read_cut(alloc, &mut source, LONGEST_FILE, target, &mut listener)?;
-    let want = wanted(alloc, &cut, step as u64)?;
-    Ok(listener.notes.as_slice() == want.as_slice())
-}
-
-#[test]
-fn each_morsel_is_told_in_order_and_at_once(rt: HostRuntime) -> Result<(), Fail> {
-    let bytes = Day::of(rt.alloc(), &NAMED)?.bytes;
-    for target in [1, 39, 40, 80, 113, 1_000] {
-        for step in [1, 7, 65_536] {
-            let are_told = are_told_at_once(rt.alloc(), &bytes, target, step)?;
-            assert!(rt; are_told, "{target} by {step}");
-        }
-    }
-    Ok(())
-}
-
-#[test]
-fn a_morsel_is_told_before_a_later_call_fails(rt: HostRuntime) -> Result<(), Fail> {
-    let alloc = rt.alloc();
-    let bytes = Day::of(alloc, &UNNAMED)?.bytes;
-    // The first of two morsels has 38 bytes.
-    for (calls, told) in [(0, 0), (38, 0), (40, 1), (70, 1), (71, 1), (72, 2)] {
-        let given = AtomicU64::new(0);
-        let mut listener = Notes {
-            given: &given,
-            notes: Vec::new(alloc),
-        };
-        let mut source = Trickle::of(&bytes, calls);
-        let read = read_cut(alloc, &mut source, 71, 1, &mut listener);
-        assert!(rt;
-            read.is_ok() == (calls == 72) && listener.notes.len() == told,
-            "at {calls}"
-        );
     }
     Ok(())
 }

@@ -20,9 +20,9 @@ use streaming::{Batch, BatchReader, CutReadFault, Source};
 /// them, and little beside what a day's rows take.
 const BATCH: u64 = 32 << 20;
 
-/// What the scans of all that a source gives add up to. It is cut as `read_cut` cuts it, but batch by
-/// batch: the morsels of one are the tasks of a pipeline, while the caller reads the next one. So no more
-/// than two batches are in memory, and no bytes of those before. It waits for the threads.
+/// What the scans of all that a source gives add up to. It is read and cut batch by batch: the morsels of
+/// one are the tasks of a pipeline, while the caller reads the next one. So no more than two batches are in
+/// memory, and no bytes of those before. It waits for the threads.
 pub(crate) fn scan_source<R: Threads + Wait + Sync, S: Source>(
     rt: &R,
     alloc: Global,

@@ -19,5 +19,5 @@ returns-in-Err-TooManyMorsels-clause-answers g c = search rules
 pub returns-in-Err-TooManyMorsels-clause-refused : goal.returns-in-Err-TooManyMorsels-clause-refused
 returns-in-Err-TooManyMorsels-clause-refused g c = search rules
 
-pub returns-in-Ok-answer_cut-clause-answers : goal.returns-in-Ok-answer_cut-clause-answers
-returns-in-Ok-answer_cut-clause-answers g c = search rules
+pub returns-in-Ok-answer_scans-clause-answers : goal.returns-in-Ok-answer_scans-clause-answers
+returns-in-Ok-answer_scans-clause-answers g c = search rules
