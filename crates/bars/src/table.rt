@@ -177,13 +177,14 @@ pub(crate) fn count_bars_of(sales: &[Sale], width: u32) -> usize
     ensures { All (λ sale. IsTraded (bar_of_one width sale)) sales.now }
 {
     let mut count = 0usize;
-    let mut last: Option<Bar> = None;
+    let mut last: Option<(u16, u64)> = None;
     for sale in sales {
         let bar = Bar::of_sale(sale, width);
-        if !last.is_some_and(|last| last.has_key_of(&bar)) {
+        let key = (bar.locate, bar.start);
+        if last != Some(key) {
             count = count.saturating_add(1);
         }
-        last = Some(bar);
+        last = Some(key);
     }
     count
 }
