@@ -117,6 +117,14 @@ impl<A: Allocator> LeanRows<A> {
         Ok(())
     }
 
+    /// What the rows take memory from.
+    pub(crate) fn allocator(&self) -> A
+    where
+        A: Copy,
+    {
+        *self.rows.allocator()
+    }
+
     /// For how many rows there is room, those that are there among them.
     pub(crate) fn room(&self) -> usize {
         self.rows.capacity()

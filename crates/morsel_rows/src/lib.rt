@@ -4,6 +4,7 @@
 //! own in that of their place; breaks and directory rows are few, and stand together.
 #![tactic(auto)]
 
+mod behind;
 mod lean;
 mod narrow;
 mod numbers;

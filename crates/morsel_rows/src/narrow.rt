@@ -1,5 +1,5 @@
 //! Order rows in 16 bytes each.
-ghost use Rattle.std.specs.Prelude.{◌≡◌, ◌↔◌, ◌+◌, ◌^◌, ◌<◌, ◌≤◌, [], ◌∷◌, ◌++◌, if◌then◌else◌, length, map};
+ghost use Rattle.std.specs.Prelude.{◌≡◌, ◌+◌, ◌^◌, ◌<◌, ◌≤◌, [], ◌∷◌, ◌++◌, if◌then◌else◌, length, map};
 ghost use Rattle.std.specs.Prelude.{IfOk, IsTrue, OnErr, slice_index_or, vec_capacity, vec_len};
 ghost use Rattle.std.specs.Option.{IfSome};
 ghost use Rattle.morsel_rows.specs.NarrowRows.{row_of_narrow};
@@ -112,14 +112,6 @@ impl<A: Allocator> NarrowRows<A> {
         ensures { self.new ≡ self.old }
     {
         self.rows.shrink_to_fit();
-    }
-
-    /// Whether there are no rows.
-    #[inline(always)]
-    pub(crate) fn is_empty(&self) -> bool
-        ensures { IsTrue result ↔ self.now ≡ [] }
-    {
-        self.rows.is_empty()
     }
 
     /// How many rows there are.

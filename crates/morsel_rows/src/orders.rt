@@ -1,5 +1,5 @@
 //! Order rows in little memory.
-ghost use Rattle.std.specs.Prelude.{◌≡◌, ◌<◌, ◌≤◌, [], ◌∷◌, ◌++◌, length, IfOk, IsTrue, OnErr, OnOk, slice_index_or};
+ghost use Rattle.std.specs.Prelude.{◌≡◌, ◌<◌, [], ◌∷◌, ◌++◌, length, IfOk, IsTrue, OnErr, OnOk, slice_index_or};
 ghost use Rattle.std.specs.Cmp.{partial_equiv_from_equiv};
 ghost use Rattle.std.specs.List.{AllPairs};
 ghost use Rattle.std.specs.Option.{IfSome};
@@ -7,15 +7,12 @@ ghost use Rattle.std.specs.Cmp.Lexicographic.{pointwise};
 ghost use Rattle.morsel_rows.specs.SameRows.{is_same_order, orders_equiv};
 
 use crate::OutOfMemory;
+use crate::behind::RowsBehind;
 use crate::lean::LeanRows;
-use crate::narrow::NarrowRows;
 use crate::rising::RisingRows;
 use row_types::OrderRow;
-use std::alloc::{AllocError, Allocator, Global};
+use std::alloc::{Allocator, Global};
 use std::marker::Model;
-
-/// The most rows that aren't lean, so that the number of all rows is a `usize`. No memory holds as many.
-const MOST_BEHIND: usize = 1 << 62;
 
 /// Order rows, in the order in which they were pushed.
 ///
@@ -26,21 +23,18 @@ const MOST_BEHIND: usize = 1 << 62;
 #[derive(Drop)]
 pub struct OrderList<A: Allocator = Global> {
     lean: LeanRows<A>,
-    /// The first row that isn't lean, and those that follow it. If only one is before it, that is here, too.
-    narrow: NarrowRows<A>,
-    /// The first row behind the lean ones that isn't narrow, and all that follow it.
-    wide: Vec<OrderRow, A>,
+    /// The first row that isn't lean, and all that follow it. If only one is before it, that is here, too.
+    behind: Option<Box<RowsBehind<A>, A>>,
 }
 
 impl<A: Allocator> Model for OrderList<A> {
-    ghost use Rattle.std.specs.Prelude.{List, ◌++◌, ◌+◌, ◌^◌, ◌≤◌, length};
+    ghost use Rattle.std.specs.Prelude.{List, ◌++◌};
     ghost use Rattle.row_types.specs.declared.order.OrderRow.{OrderRow};
+    ghost use Rattle.morsel_rows.specs.NarrowRows.{rows_behind};
 
     ghost Value = { List OrderRow };
 
-    ghost view = { λ list. list.lean ++ list.narrow ++ list.wide.items };
-
-    ghost invariant = { λ list. length list.narrow + length list.wide.items ≤ 2 ^ 62 };
+    ghost view = { λ list. list.lean ++ rows_behind list.behind };
 }
 
 impl<A: Allocator + Copy> OrderList<A> {
@@ -50,8 +44,7 @@ impl<A: Allocator + Copy> OrderList<A> {
     {
         OrderList {
             lean: LeanRows::new(alloc),
-            narrow: NarrowRows::new(alloc),
-            wide: Vec::new(alloc),
+            behind: None,
         }
     }
 
@@ -62,58 +55,35 @@ impl<A: Allocator + Copy> OrderList<A> {
     {
         let mut lean = LeanRows::new(alloc);
         lean.reserve(rows)?;
-        Ok(OrderList {
-            lean,
-            narrow: NarrowRows::new(alloc),
-            wide: Vec::new(alloc),
-        })
+        Ok(OrderList { lean, behind: None })
     }
-}
 
-impl<A: Allocator> OrderList<A> {
     /// Adds a row at the end. If there is no memory for it, the list stays as it was.
     #[inline(always)]
     pub fn push(&mut self, row: OrderRow) -> Result<(), OutOfMemory>
         ensures added { OnOk result (self.new ≡ self.old ++ row ∷ []) }
         ensures unchanged { OnErr result (self.new ≡ self.old) }
     {
-        if self.narrow.is_empty() && self.wide.is_empty() {
-            if self.lean.push_near(row)? {
-                return Ok(());
-            }
-            begin_narrow(&mut self.lean, &mut self.narrow)?;
-            return self.push_behind(row);
+        if let Some(behind) = &mut self.behind {
+            return behind.push(row);
         }
-        self.push_behind(row)
-    }
-
-    /// Adds a row behind the lean ones.
-    #[inline(never)]
-    fn push_behind(&mut self, row: OrderRow) -> Result<(), OutOfMemory>
-        ensures added { OnOk result (self.new ≡ self.old ++ row ∷ []) }
-        ensures unchanged { OnErr result (self.new ≡ self.old) }
-    {
-        if self.narrow.len() + self.wide.len() >= MOST_BEHIND {
-            return Err(AllocError);
-        }
-        if !self.wide.is_empty() {
-            self.wide.push(row)?;
+        if self.lean.push_near(row)? {
             return Ok(());
         }
-        if self.narrow.push_near(row)? {
-            return Ok(());
-        }
-        self.wide.push(row)?;
+        self.behind = Some(begin_behind(&mut self.lean, row)?);
         Ok(())
     }
+}
 
+impl<A: Allocator> OrderList<A> {
     /// Gives memory back that is taken for further rows.
     pub(crate) fn shrink_to_fit(&mut self)
         ensures { self.new ≡ self.old }
     {
         self.lean.shrink_to_fit();
-        self.narrow.shrink_to_fit();
-        self.wide.shrink_to_fit();
+        if let Some(behind) = &mut self.behind {
+            behind.shrink_to_fit();
+        }
     }
 
     /// How many rows there are.
@@ -121,7 +91,10 @@ impl<A: Allocator> OrderList<A> {
     pub fn len(&self) -> usize
         ensures { result ≡ length self.now }
     {
-        self.lean.len() + (self.narrow.len() + self.wide.len())
+        match &self.behind {
+            Some(behind) => self.lean.len() + behind.len(),
+            None => self.lean.len(),
+        }
     }
 
     /// The rows where they are, if there are some, all are lean, and each has a greater reference
@@ -130,10 +103,10 @@ impl<A: Allocator> OrderList<A> {
         ensures rows { IfSome result (λ rising. rising ≡ self.now) }
         ensures rise { IfSome result (λ rising. AllPairs (λ x y. x.order_no < y.order_no) rising) }
     {
-        if !self.narrow.is_empty() || !self.wide.is_empty() {
-            return None;
+        match &self.behind {
+            Some(_) => None,
+            None => self.lean.rising(),
         }
-        self.lean.rising()
     }
 
     /// Adds the rows to a vector. If there is no memory for them, the vector stays as it was.
@@ -143,8 +116,9 @@ impl<A: Allocator> OrderList<A> {
     {
         out.try_reserve(self.len())?;
         self.lean.append_reserved(out);
-        self.narrow.append_reserved(out);
-        out.extend_from_slice(&self.wide)?;
+        if let Some(behind) = &self.behind {
+            behind.append_reserved(out);
+        }
         Ok(())
     }
 
@@ -152,9 +126,14 @@ impl<A: Allocator> OrderList<A> {
     fn lies_alike(&self, other: &OrderList<A>) -> bool
         ensures { IsTrue result → self.now ≡ other.now }
     {
-        self.lean.lies_as(&other.lean)
-            && self.narrow.lies_as(&other.narrow)
-            && self.wide == other.wide
+        if !self.lean.lies_as(&other.lean) {
+            return false;
+        }
+        match (&self.behind, &other.behind) {
+            (None, None) => true,
+            (Some(one), Some(another)) => one.lies_as(another),
+            _ => false,
+        }
     }
 
     /// The row at this index.
@@ -163,41 +142,42 @@ impl<A: Allocator> OrderList<A> {
         requires { index < length self.now }
         ensures { result ≡ slice_index_or self.now index result }
     {
-        let (lean, narrow) = (self.lean.len(), self.narrow.len());
-        if index < lean {
-            self.lean.at(index)
-        } else if index - lean < narrow {
-            self.narrow.at(index - lean)
-        } else {
-            self.wide[index - lean - narrow]
+        match &self.behind {
+            Some(behind) if index >= self.lean.len() => behind.at(index - self.lean.len()),
+            _ => self.lean.at(index),
         }
     }
 }
 
-/// Makes the room that was taken for lean rows room for narrow ones, at the first row that isn't lean. If that is the
-/// second one, as it is where references are any numbers, the first is made narrow, too, so that no memory of lean
-/// rows is left between that of others.
+/// The rows from the first that isn't lean on, in the room that was taken for lean ones. If it is the second row, as
+/// where references are any numbers, the first is made narrow, too, so that no memory of lean rows is left
+/// between that of others.
 #[cold]
 #[inline(never)]
-fn begin_narrow<A: Allocator>(
+fn begin_behind<A: Allocator + Copy>(
     lean: &mut LeanRows<A>,
-    narrow: &mut NarrowRows<A>,
-) -> Result<(), OutOfMemory>
-    requires { narrow.old ≡ [] }
-    ensures rows { lean.new ++ narrow.new ≡ lean.old }
-    ensures few { length narrow.new ≤ 1 }
+    row: OrderRow,
+) -> Result<Box<RowsBehind<A>, A>, OutOfMemory>
+    ensures added { IfOk result (λ behind. lean.new ++ behind.value ≡ lean.old ++ row ∷ []) }
+    ensures unchanged { OnErr result (lean.new ≡ lean.old) }
 {
+    let alloc = lean.allocator();
     let room = lean.room();
+    let mut behind = RowsBehind::new(alloc);
     if lean.len() == 1 {
-        narrow.reserve(room)?;
-        if narrow.push_near(lean.at(0))? {
-            lean.clear();
-        }
-        return Ok(());
+        behind.reserve(room)?;
+        behind.push(lean.at(0))?;
+        behind.push(row)?;
+        let behind = Box::new(alloc, behind)?;
+        lean.clear();
+        return Ok(behind);
     }
     let rest = room.saturating_sub(lean.len());
     lean.shrink_to_fit();
-    narrow.reserve(rest)
+    behind.reserve(rest)?;
+    behind.push(row)?;
+    let behind = Box::new(alloc, behind)?;
+    Ok(behind)
 }
 
 /// Lists are equal if they have the same rows in the same order.

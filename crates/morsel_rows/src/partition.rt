@@ -54,6 +54,15 @@ impl<A: Allocator + Copy> Partition<A> {
             own_priced: Vec::new(alloc),
         })
     }
+
+    /// Adds an order reference. Where there is no memory for it, the partition stays as it was.
+    #[inline(always)]
+    pub(crate) fn push_order(&mut self, row: OrderRow) -> Result<(), OutOfMemory>
+        ensures added { OnOk result (self.new ≡ with_order row self.old) }
+        ensures unchanged { OnErr result (self.new ≡ self.old) }
+    {
+        self.orders.push(row)
+    }
 }
 
 impl<A: Allocator> Partition<A> {
@@ -80,15 +89,6 @@ impl<A: Allocator> Partition<A> {
         ensures { result.now ≡ self.now.own_priced }
     {
         self.own_priced.as_slice()
-    }
-
-    /// Adds an order reference. Where there is no memory for it, the partition stays as it was.
-    #[inline(always)]
-    pub(crate) fn push_order(&mut self, row: OrderRow) -> Result<(), OutOfMemory>
-        ensures added { OnOk result (self.new ≡ with_order row self.old) }
-        ensures unchanged { OnErr result (self.new ≡ self.old) }
-    {
-        self.orders.push(row)
     }
 
     /// Adds an execution. Where there is no memory for it, the partition stays as it was.

@@ -1,0 +1,132 @@
+//! Order rows behind lean ones.
+ghost use Rattle.std.specs.Prelude.{◌≡◌, ◌+◌, ◌^◌, ◌<◌, ◌≤◌, [], ◌∷◌, ◌++◌, length, IsTrue, OnErr, OnOk};
+ghost use Rattle.std.specs.Prelude.{slice_index_or, vec_capacity, vec_len};
+
+use crate::OutOfMemory;
+use crate::narrow::NarrowRows;
+use row_types::OrderRow;
+use std::alloc::{AllocError, Allocator};
+use std::marker::Model;
+
+/// The most rows behind lean ones, so that the number of all rows is a `usize`. No memory holds as many.
+const MOST: usize = 1 << 62;
+
+/// Order rows in 16 bytes each, as long as their places are near that of the first. The first one whose place
+/// isn't, and all that follow, take 24.
+#[derive(Drop)]
+pub(crate) struct RowsBehind<A: Allocator> {
+    narrow: NarrowRows<A>,
+    /// The first row that isn't narrow, and all that follow it.
+    wide: Vec<OrderRow, A>,
+}
+
+impl<A: Allocator> Model for RowsBehind<A> {
+    ghost use Rattle.std.specs.Prelude.{List, ◌++◌, ◌+◌, ◌^◌, ◌≤◌, length};
+    ghost use Rattle.row_types.specs.declared.order.OrderRow.{OrderRow};
+
+    ghost Value = { List OrderRow };
+
+    ghost view = { λ behind. behind.narrow ++ behind.wide.items };
+
+    ghost invariant = { λ behind. length behind.narrow + length behind.wide.items ≤ 2 ^ 62 };
+}
+
+impl<A: Allocator + Copy> RowsBehind<A> {
+    /// No rows. It takes no memory.
+    pub(crate) fn new(alloc: A) -> Self
+        ensures { result ≡ [] }
+    {
+        RowsBehind {
+            narrow: NarrowRows::new(alloc),
+            wide: Vec::new(alloc),
+        }
+    }
+}
+
+impl<A: Allocator> RowsBehind<A> {
+    /// Takes room for so many narrow rows more. It is refused if there is no memory for them.
+    pub(crate) fn reserve(&mut self, rows: usize) -> Result<(), OutOfMemory>
+        ensures { self.new ≡ self.old }
+    {
+        self.narrow.reserve(rows)
+    }
+
+    /// Adds a row at the end. If there is no memory for it, the rows stay as they were.
+    pub(crate) fn push(&mut self, row: OrderRow) -> Result<(), OutOfMemory>
+        ensures added { OnOk result (self.new ≡ self.old ++ row ∷ []) }
+        ensures unchanged { OnErr result (self.new ≡ self.old) }
+    {
+        if self.narrow.len() + self.wide.len() >= MOST {
+            return Err(AllocError);
+        }
+        if !self.wide.is_empty() {
+            self.wide.push(row)?;
+            return Ok(());
+        }
+        if self.narrow.push_near(row)? {
+            return Ok(());
+        }
+        self.wide.push(row)?;
+        Ok(())
+    }
+
+    /// Gives memory back that is taken for further rows.
+    pub(crate) fn shrink_to_fit(&mut self)
+        ensures { self.new ≡ self.old }
+    {
+        self.narrow.shrink_to_fit();
+        self.wide.shrink_to_fit();
+    }
+
+    /// How many rows there are.
+    #[inline(always)]
+    pub(crate) fn len(&self) -> usize
+        ensures len { result ≡ length self.now }
+        ensures few { result ≤ 2 ^ 62 }
+    {
+        self.narrow.len() + self.wide.len()
+    }
+
+    /// The row at this index.
+    #[inline(always)]
+    pub(crate) fn at(&self, index: usize) -> OrderRow
+        requires { index < length self.now }
+        ensures { result ≡ slice_index_or self.now index result }
+    {
+        if index < self.narrow.len() {
+            self.narrow.at(index)
+        } else {
+            self.wide[index - self.narrow.len()]
+        }
+    }
+
+    /// Whether the rows are the same and lie alike, narrow or wide.
+    pub(crate) fn lies_as(&self, other: &RowsBehind<A>) -> bool
+        ensures { IsTrue result → self.now ≡ other.now }
+    {
+        self.narrow.lies_as(&other.narrow) && self.wide == other.wide
+    }
+
+    /// Adds the rows to a vector that has room for them.
+    pub(crate) fn append_reserved<B: Allocator>(&self, out: &mut Vec<OrderRow, B>)
+        requires room { vec_len out.old + length self.now ≤ vec_capacity out.old }
+        ensures items { out.new.items ≡ out.old.items ++ self.now }
+        ensures len { vec_len out.new ≡ vec_len out.old + length self.now }
+        ensures capacity { vec_capacity out.new ≡ vec_capacity out.old }
+    {
+        self.narrow.append_reserved(out);
+        append_wide(&self.wide, out);
+    }
+}
+
+/// Adds rows to a vector that has room for them.
+fn append_wide<B: Allocator>(rows: &[OrderRow], out: &mut Vec<OrderRow, B>)
+    requires room { vec_len out.old + length rows.now ≤ vec_capacity out.old }
+    ensures items { out.new.items ≡ out.old.items ++ rows.now }
+    ensures len { vec_len out.new ≡ vec_len out.old + length rows.now }
+    ensures capacity { vec_capacity out.new ≡ vec_capacity out.old }
+{
+    for row in rows {
+        out.push_reserved(*row);
+    }
+}
