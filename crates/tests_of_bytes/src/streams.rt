@@ -8,14 +8,18 @@ use std::test::Fail;
 use streaming::{BatchReader, Cut, CutReadFault};
 use tests_support::{Day, Interrupted, NAMED, Trickle, UNNAMED, file_of};
 
-/// The bytes of each morsel, with where it starts.
-fn morsels<'a>(alloc: Global, cut: &'a Cut) -> Result<Vec<(u64, &'a [u8])>, Fail> {
-    let mut morsels = Vec::new(alloc);
-    for number in 0..cut.count() {
-        let morsel = cut.morsel(number);
-        morsels.push((morsel.start(), morsel.bytes()))?;
+/// Whether both cuts have the same morsels.
+fn are_alike(one: &Cut, other: &Cut) -> bool {
+    if one.count() != other.count() {
+        return false;
     }
-    Ok(morsels)
+    for number in 0..one.count() {
+        let (mine, its) = (one.morsel(number), other.morsel(number));
+        if mine.start() != its.start() || mine.bytes() != its.bytes() {
+            return false;
+        }
+    }
+    true
 }
 
 /// The cut of all that a source gives, in one batch.
@@ -55,30 +59,17 @@ fn read_by(
     (read, (failed, reader.calls, reader.rest.len()))
 }
 
-/// Whether these morsels are read by so many bytes a call.
-fn are_read_by(
-    alloc: Global,
-    bytes: &[u8],
-    step: usize,
-    target: u64,
-    want: &[(u64, &[u8])],
-) -> Result<bool, Fail> {
-    let (read, _) = read_by(alloc, bytes, step, LONGEST_FILE, target);
-    let cut = read?;
-    Ok(morsels(alloc, &cut)?.as_slice() == want)
-}
-
 #[test]
 fn what_is_read_by_few_bytes_a_call_is_cut_alike(rt: HostRuntime) -> Result<(), Fail> {
     let alloc = rt.alloc();
     let bytes = Day::of(alloc, &NAMED)?.bytes;
     let file = file_of(Vec::from_slice(alloc, &bytes)?)?;
     for target in 1..114u64 {
-        let whole = cut(alloc, &file, target)?;
-        let want = morsels(alloc, &whole)?;
+        let want = cut(alloc, &file, target)?;
         for step in [1, 2, 3, 7, 65_536] {
-            let are_alike = are_read_by(alloc, &bytes, step, target, want.as_slice())?;
-            assert!(rt; are_alike, "{target} by {step}");
+            let (read, _) = read_by(alloc, &bytes, step, LONGEST_FILE, target);
+            let cut = read?;
+            assert!(rt; are_alike(&cut, &want), "{target} by {step}");
         }
     }
     Ok(())
