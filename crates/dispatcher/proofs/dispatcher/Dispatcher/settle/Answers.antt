@@ -50,6 +50,3 @@ returns-clause-marks g c = λ t. let items = c.args.seats.items in let gathered 
 pub returns-clause-seen : goal.returns-clause-seen
 returns-clause-seen g c = λ t saw. let gathered = c.gather-all.ensures.all.looks t in let word = (settled g c).marks t in
     flag g c t ∙ set_where_seen _ _ _ word (let has = of_some seen_tasks c.args.seats.items t saw in omega arith)
-
-pub returns-in_default-clause-seats_back : goal.returns-in_default-clause-seats_back
-returns-in_default-clause-seats_back g c = search rules
