@@ -1,7 +1,7 @@
 -- The runs that bytes begin with: where the frames at their head end.
 use Rattle.std.proofs.Common.{◌≡◌, ℕ, ◌+◌, ◌<◌, ◌≤◌, List, Option, None, Some, MatchOption, [], ◌∷◌, ◌++◌, length, take, drop, refl, sym, ap, ◌∙◌}
 use Rattle.std.proofs.Common.{subst, append_assoc, append-nil, arith}
-use Rattle.std.proofs.Math.Seq.{take-append_seam, take-length, drop-append_seam}
+use Rattle.std.proofs.Math.Seq.{take-append_seam, take-length}
 use Rattle.std.proofs.lemmas.List.{length-append, length-take-le, take-append-drop, take-take}
 use Rattle.lists.proofs.Lists.{All-parts}
 use Rattle.day_file.specs.Frames.{FramesLeft, PlacedBody, frame_of, spelling, StandAt, IsShort, StandsFor, IsTruncatedAt, IsWhole}

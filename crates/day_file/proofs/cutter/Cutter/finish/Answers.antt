@@ -2,7 +2,6 @@ use Rattle.std.proofs.Common.{◌≡◌, ℕ, ◌+◌, ◌-◌, ◌<◌, ◌≤�
 use Rattle.std.proofs.lemmas.List.{take_rest}
 use Rattle.std.proofs.lemmas.Result.{err_from_is_err_and}
 use Rattle.lists.specs.declared.limits.TheConstants.{MOST_MORSELS}
-use Rattle.day_file.specs.CutFaults.{IsCutFault}
 use Rattle.day_file.specs.Cuts.{IsCutBy}
 use Rattle.day_file.specs.Feeding.{CutterView, HasFed}
 use Rattle.day_file.specs.Follow.{Follow}
