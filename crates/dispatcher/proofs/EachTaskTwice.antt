@@ -5,7 +5,7 @@ use Rattle.std.specs.List.{range_with_len, flat_map}
 use Rattle.std.specs.Prelude.{IsPermutation}
 use Rattle.std.proofs.Math.Nat.{mod-eq_of_lt, add-mod_left}
 use Rattle.std.proofs.lemmas.Bool.Decides.{nat_tests}
-use Rattle.std.proofs.lemmas.List.Sums.{sum_by-append, sum_by-cons}
+use Rattle.std.proofs.lemmas.List.Sums.{sum_by-cons}
 use Rattle.std.proofs.lemmas.List.Sorted.{IsPermutation-refl, IsPermutation-trans, IsPermutation-cons, IsPermutation-sym, IsPermutation-middle}
 use Rattle.std.proofs.lemmas.List.Sorted.{IsPermutation-to_front}
 use mathlib.Core.Logic.{dite}

@@ -1,5 +1,5 @@
 -- The views of seats that are gathered one by one, and what is then known of all seats.
-use Rattle.std.proofs.Common.{◌≡◌, ℕ, suc, ◌+◌, ◌<◌, ◌==◌, Bool, true, false, cond, List, [], ◌∷◌, get_or, length, Any, Contains, sum_by, sym, refl, ap, ◌∙◌}
+use Rattle.std.proofs.Common.{◌≡◌, ℕ, suc, ◌+◌, ◌<◌, ◌==◌, Bool, true, false, List, [], ◌∷◌, get_or, length, Any, Contains, sum_by, sym, refl, ap, ◌∙◌}
 use Rattle.std.proofs.Common.{⊎_elim, slice_index, arith, eqb-true, eq-eqb}
 use Rattle.std.proofs.lemmas.List.Sums.{sum_by-cons, get_or-le-sum_by}
 use Rattle.std.proofs.Math.ListN.{get_or-eq_default}

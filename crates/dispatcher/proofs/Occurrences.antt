@@ -1,6 +1,6 @@
 -- Sums over the views of all seats, and how often a number is in a list.
-use Rattle.std.proofs.Common.{◌≡◌, ℕ, zero, suc, ◌+◌, ◌*◌, ◌<◌, ◌≤◌, ◌==◌, nat_le, cond, List, [], ◌∷◌, ◌++◌, set, get_or, take, drop, length, replicate}
-use Rattle.std.proofs.Common.{slice_index, All, Contains, sum_by, sym, refl, ap, subst, ◌∙◌, arith, le_refl, length-append}
+use Rattle.std.proofs.Common.{◌≡◌, ℕ, zero, suc, ◌+◌, ◌*◌, ◌<◌, ◌≤◌, ◌==◌, nat_le, cond, List, [], ◌∷◌, ◌++◌, set, get_or, take, drop, length}
+use Rattle.std.proofs.Common.{All, Contains, sum_by, sym, refl, ap, subst, arith, le_refl}
 use mathlib.Core.Option.{some, some-injective, some-ne-none}
 use lib.ListN.{get_elem?}
 use Rattle.std.specs.List.{range_with_len}

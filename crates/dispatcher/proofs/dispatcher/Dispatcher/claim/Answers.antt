@@ -1,4 +1,4 @@
-use Rattle.std.proofs.Common.{◌≡◌, ap, arith, rules}
+use Rattle.std.proofs.Common.{◌≡◌, ap, arith}
 use Rattle.dispatcher.specs.declared.rule.Size.{Size}
 use Rattle.dispatcher.proofs.dispatcher.Dispatcher.claim.Goals as goal
 use Rattle.dispatcher.proofs.StepsKeepRule.{claims}

@@ -15,7 +15,8 @@ loop-index-preserved g c = let list : List Seat = c.loop-index.list.items in let
       rest_own = known.rest_own;
       rest = known.rest;
       count = omega arith;
-      numbers = ap (map number) pushed ∙ map_push number list seat ∙ (λ i. inv.numbers i ++ known.number i ∷ []) ∙ sym (ap (range_with_len 0) (add-one c.loop-index.index) ∙ range_more 0 c.loop-index.index _ (omega arith));
+      numbers = ap (map number) pushed ∙ map_push number list seat ∙ (λ i. inv.numbers i ++ known.number i ∷ [])
+          ∙ sym (ap (range_with_len 0) (add-one c.loop-index.index) ∙ range_more 0 c.loop-index.index _ (omega arith));
       own = subst (All (IsSeatOf c.args.self.now)) (sym pushed) (All-push (IsSeatOf c.args.self.now) list seat inv.own known.own);
       unused = subst (All IsUnused) (sym pushed) (All-push IsUnused list seat inv.unused known.unused);
     }

@@ -1,4 +1,4 @@
-use Rattle.std.proofs.Common.{◌≡◌, ◌==◌, ◌+◌, ℕ, false, slice_index, slice_index_or, ap, subst, sym, ◌∙◌, arith, rules}
+use Rattle.std.proofs.Common.{◌≡◌, ◌==◌, ◌+◌, ℕ, false, slice_index, slice_index_or, ap, subst, sym, ◌∙◌, arith}
 use Rattle.std.specs.Mem.Slots.{slots_items}
 use Rattle.dispatcher.specs.declared.rule.Size.{Size}
 use Rattle.dispatcher.specs.Rule.{occurrences, once_below}
