@@ -9,7 +9,7 @@ use Rattle.std.specs.Str.{bytes_eq}
 use Rattle.std.proofs.lemmas.Fmt.{digits_decimal, digits_value-decimal, length-decimal-le, decimal_nonempty}
 use Rattle.std.proofs.lemmas.Str.Parse.{IsNumeralModel, numerals_by_fold}
 use Rattle.std.proofs.lemmas.Slice.Eq.{bytes_eq-Decides}
-use Rattle.std.proofs.lemmas.Bool.{lt-ltb, le-leb, ltb-true, leb-true, ne_eqb, eq-eqb}
+use Rattle.std.proofs.lemmas.Bool.{and_from, and_parts, not-true, lt-ltb, le-leb, ltb-true, leb-true, ne_eqb, eq-eqb}
 use Rattle.std.proofs.lemmas.List.Folds.{list_all-append}
 use Rattle.query.specs.Words.{parts, words_of_parts, words_from, words_of}
 use Rattle.meaning.specs.Symbols.{is_symbol_byte, is_symbol}
@@ -31,26 +31,11 @@ use Rattle.probe.specs.declared.selection.Span.{Span}
 abbrev lacks : ℕ → List ℕ → Bool
 lacks separator bytes = list_all (λ byte. not (byte == separator)) bytes
 
-and_first : (a b : Bool) → (a && b) ≡ true → a ≡ true
-and_first true b h = refl
-and_first false b h = absurd (cc)
-
-and_second : (a b : Bool) → (a && b) ≡ true → b ≡ true
-and_second true b h = h
-and_second false b h = absurd (cc)
-
-both : (a b : Bool) → a ≡ true → b ≡ true → (a && b) ≡ true
-both a b g h = rw (g, h) refl
-
-not_true : (b : Bool) → not b ≡ true → b ≡ false
-not_true true h = absurd (cc)
-not_true false h = refl
-
 one_part : (separator : ℕ) (bytes : List ℕ) → lacks separator bytes ≡ true → parts separator bytes ≡ bytes ∷ []
 one_part separator [] h = refl
 one_part separator (byte ∷ bytes) h =
-    let other : (byte == separator) ≡ false = not_true _ (and_first (not (byte == separator)) _ h) in
-    let rest : parts separator bytes ≡ bytes ∷ [] = one_part separator bytes (and_second (not (byte == separator)) _ h) in
+    let other : (byte == separator) ≡ false = not-true _ (and_parts (not (byte == separator)) _ h).0 in
+    let rest : parts separator bytes ≡ bytes ∷ [] = one_part separator bytes (and_parts (not (byte == separator)) _ h).1 in
     rw (other, rest) refl
 
 first_part : (separator : ℕ) (bytes more : List ℕ) → lacks separator bytes ≡ true → parts separator (bytes ++ (separator ∷ more)) ≡ bytes ∷ parts separator more
@@ -58,17 +43,17 @@ first_part separator [] more h =
     let same : (separator == separator) ≡ true = eq-eqb separator separator refl in
     rw same refl
 first_part separator (byte ∷ bytes) more h =
-    let other : (byte == separator) ≡ false = not_true _ (and_first (not (byte == separator)) _ h) in
+    let other : (byte == separator) ≡ false = not-true _ (and_parts (not (byte == separator)) _ h).0 in
     let rest : parts separator (bytes ++ (separator ∷ more)) ≡ bytes ∷ parts separator more = first_part separator bytes more
-    (and_second (not (byte == separator)) _ h) in
+    (and_parts (not (byte == separator)) _ h).1 in
     rw (other, rest) refl
 
 parts_joined : (separator : ℕ) (xs : List (List ℕ)) (x : List ℕ) → list_all (lacks separator) (x ∷ xs) ≡ true
     → parts separator (join_with_byte separator (x ∷ xs)) ≡ x ∷ xs
-parts_joined separator [] x h = one_part separator x (and_first (lacks separator x) _ h)
+parts_joined separator [] x h = one_part separator x (and_parts (lacks separator x) _ h).0
 parts_joined separator (y ∷ ys) x h =
-    first_part separator x (join_with_byte separator (y ∷ ys)) (and_first (lacks separator x) _ h)
-    ∙ ap (λ zs. x ∷ zs) (parts_joined separator ys y (and_second (lacks separator x) _ h))
+    first_part separator x (join_with_byte separator (y ∷ ys)) (and_parts (lacks separator x) _ h).0
+    ∙ ap (λ zs. x ∷ zs) (parts_joined separator ys y (and_parts (lacks separator x) _ h).1)
 
 -- ---- the words of joined words
 
@@ -79,14 +64,14 @@ is_plain bytes = nat_lt 0 (length bytes) && lacks 32 bytes
 plain_lack : (ws : List (List ℕ)) → list_all is_plain ws ≡ true → list_all (lacks 32) ws ≡ true
 plain_lack [] h = refl
 plain_lack (w ∷ ws) h =
-    both _ _ (and_second (nat_lt 0 (length w)) _ (and_first (is_plain w) _ h)) (plain_lack ws (and_second (is_plain w) _ h))
+    and_from _ _ ((and_parts (nat_lt 0 (length w)) _ (and_parts (is_plain w) _ h).0).1) (plain_lack ws (and_parts (is_plain w) _ h).1)
 
 plain_stay : (ws : List (List ℕ)) (at : ℕ) → list_all is_plain ws ≡ true → filter (λ w. nat_lt 0 (length w.bytes)) (words_of_parts at ws) ≡ words_of_parts at ws
 plain_stay [] at h = refl
 plain_stay (w ∷ ws) at h =
-    let long : nat_lt 0 (length w) ≡ true = and_first (nat_lt 0 (length w)) _ (and_first (is_plain w) _ h) in
+    let long : nat_lt 0 (length w) ≡ true = (and_parts (nat_lt 0 (length w)) _ (and_parts (is_plain w) _ h).0).0 in
     let rest : filter (λ w. nat_lt 0 (length w.bytes)) (words_of_parts (at + (length w + 1)) ws) ≡ words_of_parts (at + (length w + 1)) ws =
-    plain_stay ws (at + (length w + 1)) (and_second (is_plain w) _ h) in
+    plain_stay ws (at + (length w + 1)) (and_parts (is_plain w) _ h).1 in
     rw (long, rest) refl
 
 words_joined : (w : List ℕ) (ws : List (List ℕ)) → list_all is_plain (w ∷ ws) ≡ true → words_of (join_with_byte 32 (w ∷ ws)) ≡ words_of_parts 0 (w ∷ ws)
@@ -115,14 +100,14 @@ symbol_lacks : (bytes : List ℕ) (separator : ℕ) → ((byte : ℕ) → is_sym
     → list_all is_symbol_byte bytes ≡ true → lacks separator bytes ≡ true
 symbol_lacks [] separator each h = refl
 symbol_lacks (byte ∷ bytes) separator each h =
-    both _ _ (each byte (and_first (is_symbol_byte byte) _ h)) (symbol_lacks bytes separator each (and_second (is_symbol_byte byte) _ h))
+    and_from _ _ (each byte (and_parts (is_symbol_byte byte) _ h).0) (symbol_lacks bytes separator each (and_parts (is_symbol_byte byte) _ h).1)
 
 no_comma : (byte : ℕ) → is_symbol_byte byte ≡ true → not (byte == 44) ≡ true
-no_comma byte h = and_second (nat_le 33 byte && nat_le byte 126) _ h
+no_comma byte h = (and_parts (nat_le 33 byte && nat_le byte 126) _ h).1
 
 no_space : (byte : ℕ) → is_symbol_byte byte ≡ true → not (byte == 32) ≡ true
 no_space byte h =
-    let visible : 33 ≤ byte = leb-true _ _ (and_first (nat_le 33 byte) _ (and_first (nat_le 33 byte && nat_le byte 126) _ h)) in
+    let visible : 33 ≤ byte = leb-true _ _ (and_parts (nat_le 33 byte) _ (and_parts (nat_le 33 byte && nat_le byte 126) _ h).0).0 in
     let other : (byte == 32) ≡ false = ne_eqb byte 32 (omega arith) in
     rw other refl
 
@@ -130,50 +115,46 @@ symbols_lack : (names : List (List ℕ)) → list_all is_symbol names ≡ true �
 unfolding is_symbol
 symbols_lack [] h = refl
 symbols_lack (name ∷ names) h =
-    both _ _ (symbol_lacks name 44 no_comma (and_second (nat_lt 0 (length name) && nat_le (length name) 8) _ (and_first (is_symbol name) _ h)))
-    (symbols_lack names (and_second (is_symbol name) _ h))
+    and_from _ _ (symbol_lacks name 44 no_comma ((and_parts (nat_lt 0 (length name) && nat_le (length name) 8) _ (and_parts (is_symbol name) _ h).0).1))
+    (symbols_lack names (and_parts (is_symbol name) _ h).1)
 
 symbols_spelled : (names : List (List ℕ)) → are_symbols names ≡ true → symbols_of (join_with_byte 44 names) ≡ Some names
 unfolding symbols_of
 symbols_spelled [] h = absurd (cc)
 symbols_spelled (name ∷ names) h =
-    let sound : list_all is_symbol (name ∷ names) ≡ true = and_second (nat_lt 0 (length (name ∷ names))) _ h in
+    let sound : list_all is_symbol (name ∷ names) ≡ true = (and_parts (nat_lt 0 (length (name ∷ names))) _ h).1 in
     let back : parts 44 (join_with_byte 44 (name ∷ names)) ≡ name ∷ names = parts_joined 44 names name (symbols_lack (name ∷ names) sound) in
     rw back (rw sound refl)
 
 -- ---- the text of symbols is a word
 
-lacks_append : (separator : ℕ) (xs ys : List ℕ) → lacks separator xs ≡ true → lacks separator ys ≡ true → lacks separator (xs ++ ys) ≡ true
-lacks_append separator [] ys g h = h
-lacks_append separator (x ∷ xs) ys g h =
-    both _ _ (and_first (not (x == separator)) _ g) (lacks_append separator xs ys (and_second (not (x == separator)) _ g) h)
-
 joined_lacks : (names : List (List ℕ)) → list_all is_symbol names ≡ true → lacks 32 (join_with_byte 44 names) ≡ true
 unfolding is_symbol
 joined_lacks [] h = refl
 joined_lacks (name ∷ []) h =
-    symbol_lacks name 32 no_space (and_second (nat_lt 0 (length name) && nat_le (length name) 8) _ (and_first (is_symbol name) _ h))
+    symbol_lacks name 32 no_space ((and_parts (nat_lt 0 (length name) && nat_le (length name) 8) _ (and_parts (is_symbol name) _ h).0).1)
 joined_lacks (name ∷ next ∷ names) h =
-    lacks_append 32 name (44 ∷ join_with_byte 44 (next ∷ names))
-    (symbol_lacks name 32 no_space (and_second (nat_lt 0 (length name) && nat_le (length name) 8) _ (and_first (is_symbol name) _ h)))
-    (joined_lacks (next ∷ names) (and_second (is_symbol name) _ h))
+    list_all-append (λ byte. not (byte == 32)) name (44 ∷ join_with_byte 44 (next ∷ names))
+    ∙ and_from _ _
+    (symbol_lacks name 32 no_space ((and_parts (nat_lt 0 (length name) && nat_le (length name) 8) _ (and_parts (is_symbol name) _ h).0).1))
+    (joined_lacks (next ∷ names) (and_parts (is_symbol name) _ h).1)
 
 joined_some : (names : List (List ℕ)) → are_symbols names ≡ true → nat_lt 0 (length (join_with_byte 44 names)) ≡ true
 unfolding is_symbol
 joined_some [] h = absurd (cc)
 joined_some (name ∷ []) h =
-    let sound : is_symbol name ≡ true = and_first (is_symbol name) _ (and_second (nat_lt 0 (length (name ∷ []))) _ h) in
-    and_first (nat_lt 0 (length name)) _ (and_first (nat_lt 0 (length name) && nat_le (length name) 8) _ sound)
+    let sound : is_symbol name ≡ true = (and_parts (is_symbol name) _ (and_parts (nat_lt 0 (length (name ∷ []))) _ h).1).0 in
+    (and_parts (nat_lt 0 (length name)) _ (and_parts (nat_lt 0 (length name) && nat_le (length name) 8) _ sound).0).0
 joined_some (name ∷ next ∷ names) h =
     lt-ltb _ _ (omega (arith, length-append name (44 ∷ join_with_byte 44 (next ∷ names))))
 
 symbols_plain : (names : List (List ℕ)) → are_symbols names ≡ true → is_plain (join_with_byte 44 names) ≡ true
-symbols_plain names h = both _ _ (joined_some names h) (joined_lacks names (and_second (nat_lt 0 (length names)) _ h))
+symbols_plain names h = and_from _ _ (joined_some names h) (joined_lacks names (and_parts (nat_lt 0 (length names)) _ h).1)
 
 -- ---- times
 
 digit_shown : (d : ℕ) → d < 10 → is_ascii_digit (48 + d) ≡ true
-digit_shown d small = both _ _ (le-leb 48 (48 + d) (omega arith)) (le-leb (48 + d) 57 (omega arith))
+digit_shown d small = and_from _ _ (le-leb 48 (48 + d) (omega arith)) (le-leb (48 + d) 57 (omega arith))
 
 pair_value : (n : ℕ) → n < 100
     → cond (is_ascii_digit (48 + n / 10) && is_ascii_digit (48 + n % 10)) (Some (10 * ((48 + n / 10) - 48) + ((48 + n % 10) - 48))) None
@@ -234,54 +215,24 @@ clock_plain t =
 digits_lack : (digits : List ℕ) → list_all is_ascii_digit digits ≡ true → lacks 32 digits ≡ true
 digits_lack [] h = refl
 digits_lack (digit ∷ digits) h =
-    let shown : 48 ≤ digit = leb-true _ _ (and_first (nat_le 48 digit) _ (and_first (is_ascii_digit digit) _ h)) in
+    let shown : 48 ≤ digit = leb-true _ _ (and_parts (nat_le 48 digit) _ (and_parts (is_ascii_digit digit) _ h).0).0 in
     let other : (digit == 32) ≡ false = ne_eqb digit 32 (omega arith) in
     let this : not (digit == 32) ≡ true = rw other refl in
-    both _ _ this (digits_lack digits (and_second (is_ascii_digit digit) _ h))
+    and_from _ _ this (digits_lack digits (and_parts (is_ascii_digit digit) _ h).1)
 
 decimal_plain : (n : ℕ) → n < 2 ^ 64 → is_plain (decimal n) ≡ true
-decimal_plain n small = both _ _ (lt-ltb _ _ (decimal_nonempty n small)) (digits_lack (decimal n) (digits_decimal own n small))
+decimal_plain n small = and_from _ _ (lt-ltb _ _ (decimal_nonempty n small)) (digits_lack (decimal n) (digits_decimal own n small))
 
 -- ---- kinds
 
-kinds_spelled : (e c p q : Bool) → has_some (record { e = e; c = c; p = p; q = q }) ≡ true
-    → kinds_of (join_with_byte 44 (kind_letters (record { e = e; c = c; p = p; q = q }))) ≡ Some (record { e = e; c = c; p = p; q = q })
-unfolding kinds_of
-kinds_spelled true true true true h = refl
-kinds_spelled true true true false h = refl
-kinds_spelled true true false true h = refl
-kinds_spelled true true false false h = refl
-kinds_spelled true false true true h = refl
-kinds_spelled true false true false h = refl
-kinds_spelled true false false true h = refl
-kinds_spelled true false false false h = refl
-kinds_spelled false true true true h = refl
-kinds_spelled false true true false h = refl
-kinds_spelled false true false true h = refl
-kinds_spelled false true false false h = refl
-kinds_spelled false false true true h = refl
-kinds_spelled false false true false h = refl
-kinds_spelled false false false true h = refl
-kinds_spelled false false false false h = absurd (cc)
+-- the letters of kinds spell them, and are a word
+record AreSpelled (kinds : Kinds) : Type 0 where
+  pub means : kinds_of (join_with_byte 44 (kind_letters kinds)) ≡ Some kinds
+  pub plain : is_plain (join_with_byte 44 (kind_letters kinds)) ≡ true
 
-kinds_plain : (e c p q : Bool) → has_some (record { e = e; c = c; p = p; q = q }) ≡ true
-    → is_plain (join_with_byte 44 (kind_letters (record { e = e; c = c; p = p; q = q }))) ≡ true
-kinds_plain true true true true h = refl
-kinds_plain true true true false h = refl
-kinds_plain true true false true h = refl
-kinds_plain true true false false h = refl
-kinds_plain true false true true h = refl
-kinds_plain true false true false h = refl
-kinds_plain true false false true h = refl
-kinds_plain true false false false h = refl
-kinds_plain false true true true h = refl
-kinds_plain false true true false h = refl
-kinds_plain false true false true h = refl
-kinds_plain false true false false h = refl
-kinds_plain false false true true h = refl
-kinds_plain false false true false h = refl
-kinds_plain false false false true h = refl
-kinds_plain false false false false h = absurd (cc)
+kinds_spelled : (e c p q : Bool) → has_some (record { e = e; c = c; p = p; q = q }) ≡ true → AreSpelled (record { e = e; c = c; p = p; q = q })
+unfolding kinds_of
+kinds_spelled e c p q h = record { means = grind arith; plain = grind arith }
 
 -- ---- conditions
 
@@ -305,21 +256,7 @@ kinds_say : (what : What) (moment : Option ℕ) (symbols : Option (List (List �
     → Says (record { what = what; as_of = moment; symbols = symbols; span = span; kinds = None }) (kind_condition (record { e = e; c = c; p = p; q = q }))
     (record { what = what; as_of = moment; symbols = symbols; span = span; kinds = record { e = e; c = c; p = p; q = q } })
 kinds_say what moment symbols span true true true true h = refl
-kinds_say what moment symbols span true true true false h = λ at. kind refl (kinds_spelled true true true false h) done
-kinds_say what moment symbols span true true false true h = λ at. kind refl (kinds_spelled true true false true h) done
-kinds_say what moment symbols span true true false false h = λ at. kind refl (kinds_spelled true true false false h) done
-kinds_say what moment symbols span true false true true h = λ at. kind refl (kinds_spelled true false true true h) done
-kinds_say what moment symbols span true false true false h = λ at. kind refl (kinds_spelled true false true false h) done
-kinds_say what moment symbols span true false false true h = λ at. kind refl (kinds_spelled true false false true h) done
-kinds_say what moment symbols span true false false false h = λ at. kind refl (kinds_spelled true false false false h) done
-kinds_say what moment symbols span false true true true h = λ at. kind refl (kinds_spelled false true true true h) done
-kinds_say what moment symbols span false true true false h = λ at. kind refl (kinds_spelled false true true false h) done
-kinds_say what moment symbols span false true false true h = λ at. kind refl (kinds_spelled false true false true h) done
-kinds_say what moment symbols span false true false false h = λ at. kind refl (kinds_spelled false true false false h) done
-kinds_say what moment symbols span false false true true h = λ at. kind refl (kinds_spelled false false true true h) done
-kinds_say what moment symbols span false false true false h = λ at. kind refl (kinds_spelled false false true false h) done
-kinds_say what moment symbols span false false false true h = λ at. kind refl (kinds_spelled false false false true h) done
-kinds_say what moment symbols span false false false false h = absurd (cc)
+kinds_say what moment symbols span e c p q h = λ at. kind refl (kinds_spelled e c p q h).means done
 
 span_says : (what : What) (moment : Option ℕ) (symbols : Option (List (List ℕ))) (span : Option Span) (kinds : Kinds)
     → ((some : Span) → span ≡ Some some → is_span some ≡ true) → has_some kinds ≡ true
@@ -327,8 +264,8 @@ span_says : (what : What) (moment : Option ℕ) (symbols : Option (List (List �
     (record { what = what; as_of = moment; symbols = symbols; span = span; kinds = kinds })
 span_says what moment symbols None kinds bound some = kinds_say what moment symbols None kinds.e kinds.c kinds.p kinds.q some
 span_says what moment symbols (Some span) kinds bound some = λ at.
-    let rises : nat_lt span.since span.until ≡ true = and_first (nat_lt span.since span.until) _ (bound span refl) in
-    let within : span.until ≤ 86400 = leb-true _ _ (and_second (nat_lt span.since span.until) _ (bound span refl)) in
+    let rises : nat_lt span.since span.until ≡ true = (and_parts (nat_lt span.since span.until) _ (bound span refl)).0 in
+    let within : span.until ≤ 86400 = leb-true _ _ (and_parts (nat_lt span.since span.until) _ (bound span refl)).1 in
     let before : span.since < span.until = ltb-true _ _ rises in
     time refl (time_value span.since (omega arith)) (time_value span.until within) rises
     (more_says (record { what = what; as_of = moment; symbols = symbols; span = Some span; kinds = None }) (kind_condition kinds)
@@ -357,11 +294,11 @@ linked_plain : (link : List ℕ) (conditions : List (List (List ℕ))) → is_pl
 linked_plain link [] g h = refl
 linked_plain link (condition ∷ conditions) g h =
     let rest : list_all is_plain (linked (codes "and") conditions) ≡ true =
-    linked_plain (codes "and") conditions refl (and_second (list_all is_plain condition) _ h) in
-    let this : list_all is_plain condition ≡ true = and_first (list_all is_plain condition) _ h in
+    linked_plain (codes "and") conditions refl (and_parts (list_all is_plain condition) _ h).1 in
+    let this : list_all is_plain condition ≡ true = (and_parts (list_all is_plain condition) _ h).0 in
     let whole : list_all is_plain (condition ++ linked (codes "and") conditions) ≡ true =
-    list_all-append is_plain condition (linked (codes "and") conditions) ∙ both _ _ this rest in
-    both _ _ g whole
+    list_all-append is_plain condition (linked (codes "and") conditions) ∙ and_from _ _ this rest in
+    and_from _ _ g whole
 
 conditions_plain : (what : What) (moment : Option ℕ) (symbols : Option (List (List ℕ))) (span : Option Span) (kinds : Kinds)
     → IsSound what moment symbols span → has_some kinds ≡ true
@@ -371,7 +308,7 @@ conditions_plain what moment symbols span kinds sound some =
     let two : list_all (list_all is_plain) (time_condition span) ≡ true = of_span span in
     let three : list_all (list_all is_plain) (kind_condition kinds) ≡ true = of_kinds ((kinds.e && kinds.c) && (kinds.p && kinds.q)) kinds some in
     list_all-append (list_all is_plain) (symbol_condition symbols) (time_condition span ++ kind_condition kinds)
-    ∙ both _ _ one (list_all-append (list_all is_plain) (time_condition span) (kind_condition kinds) ∙ both _ _ two three)
+    ∙ and_from _ _ one (list_all-append (list_all is_plain) (time_condition span) (kind_condition kinds) ∙ and_from _ _ two three)
   where
     of_symbols : (symbols : Option (List (List ℕ))) → ((some : List (List ℕ)) → symbols ≡ Some some → are_symbols some ≡ true)
         → list_all (list_all is_plain) (symbol_condition symbols) ≡ true
@@ -385,7 +322,7 @@ conditions_plain what moment symbols span kinds sound some =
     of_kinds : (b : Bool) (kinds : Kinds) → has_some kinds ≡ true
         → list_all (list_all is_plain) (cond b [] ((codes "kind" ∷ codes "in" ∷ join_with_byte 44 (kind_letters kinds) ∷ []) ∷ [])) ≡ true
     of_kinds true kinds some = refl
-    of_kinds false kinds some = rw (kinds_plain kinds.e kinds.c kinds.p kinds.q some) refl
+    of_kinds false kinds some = rw ((kinds_spelled kinds.e kinds.c kinds.p kinds.q some).plain) refl
 
 -- what is said of the moment, before the conditions
 moment_says : (what : What) (moment : Option ℕ) (conditions : List (List (List ℕ))) (query : Meaning) (at : ℕ)
@@ -397,7 +334,7 @@ moment_says what (Some last) conditions query at bound h =
 
 moment_plain : (moment : Option ℕ) (rest : List (List ℕ)) → list_all is_plain rest ≡ true → list_all is_plain (moment_words moment ++ rest) ≡ true
 moment_plain None rest h = h
-moment_plain (Some last) rest h = both _ _ (clock_plain last) h
+moment_plain (Some last) rest h = and_from _ _ (clock_plain last) h
 
 -- the words after what is listed
 abbrev later_words : Meaning → List (List ℕ)
@@ -428,7 +365,7 @@ canonical_means query spelled =
     of_what (Bars width) query is spelled plain says =
         let rest : List (List ℕ) = later_words query in
         let fits : is_width width ≡ true = spelled.sound.width width is in
-        let within : width ≤ 86400 = leb-true _ _ (and_second (nat_le 1 width) _ fits) in
+        let within : width ≤ 86400 = leb-true _ _ (and_parts (nat_le 1 width) _ fits).1 in
         let same : width ≡ width * 1 = omega arith in
         let at : ℕ = 0 + (length (codes "bars") + 1) + (length (decimal width) + 1) + (length (codes "s") + 1) in
         let said : Moment (only (Bars (width * 1))) (words_of_parts at rest) query =
@@ -438,6 +375,6 @@ canonical_means query spelled =
         let fits_once : is_width (width * 1) ≡ true = subst (λ n. is_width n ≡ true) same fits in
         let words : words_of (join_with_byte 32 (codes "bars" ∷ decimal width ∷ codes "s" ∷ rest))
         ≡ words_of_parts 0 (codes "bars" ∷ decimal width ∷ codes "s" ∷ rest) =
-        words_joined (codes "bars") (decimal width ∷ codes "s" ∷ rest) (both _ _ (decimal_plain width (omega arith)) plain) in
+        words_joined (codes "bars") (decimal width ∷ codes "s" ∷ rest) (and_from _ _ (decimal_plain width (omega arith)) plain) in
         subst (λ w. Means (words_of (join_with_byte 32 (what_words w ++ rest))) query) (sym is)
         (subst (λ ws. Means ws query) (sym words) (bars number refl fits_once said))

@@ -1,6 +1,6 @@
 -- A text that is written word by word is the canonical one.
 use Rattle.std.proofs.Common.{◌≡◌, ℕ, zero, suc, ◌+◌, ◌<◌, ◌≤◌, nat_lt, Bool, true, false, ◌&&◌, List, [], ◌∷◌, ◌++◌, length, take, get_or, Option, Some}
-use Rattle.std.proofs.Common.{refl, sym, ap, ◌∙◌, subst, arith, append_assoc}
+use Rattle.std.proofs.Common.{refl, sym, ap, ◌∙◌, subst, arith, append_assoc, append-nil}
 use Rattle.std.specs.Prelude.{not, codes}
 use Rattle.std.specs.Fmt.{decimal}
 use Rattle.std.specs.List.{join_with_byte}
@@ -8,21 +8,17 @@ use Rattle.std.proofs.lemmas.Grind.{flat_map-append}
 use Rattle.std.proofs.lemmas.List.{take_more}
 use Rattle.canonical_query.specs.Canonical.{clock_text, what_words, kind_letters, linked, symbol_condition, time_condition}
 use Rattle.canonical_query.specs.CanonicalPieces.{spaced, next_link, letter_text}
-use Rattle.std.proofs.lemmas.Bool.{ltb-true, leb-true}
+use Rattle.std.proofs.lemmas.Bool.{and_parts, ltb-true, leb-true}
 use Rattle.meaning.specs.Meaning.{IsSound, is_span}
 use Rattle.probe.specs.declared.selection.Span.{Span}
 use Rattle.meaning.specs.declared.query.What.{What}
 use Rattle.meaning.specs.declared.query.What.TheVariants.{Sales, Bars}
 
-pub append_none : (xs : List ℕ) → xs ++ [] ≡ xs
-append_none [] = refl
-append_none (x ∷ xs) = ap (λ ys. x ∷ ys) (append_none xs)
-
 -- ---- the words of a text
 
 -- the first word stands without a space
 joined_is : (first : List ℕ) (rest : List (List ℕ)) → join_with_byte 32 (first ∷ rest) ≡ first ++ spaced rest
-joined_is first [] = sym (append_none first)
+joined_is first [] = sym (append-nil first)
 joined_is first (second ∷ rest) = ap (λ ys. first ++ (32 ∷ ys)) (joined_is second rest)
 
 joined_more : (first : List ℕ) (rest more : List (List ℕ)) → join_with_byte 32 ((first ∷ rest) ++ more) ≡ join_with_byte 32 (first ∷ rest) ++ spaced more
@@ -34,15 +30,11 @@ and_stays : (conditions : List (List (List ℕ))) → next_link (codes "and") co
 and_stays [] = refl
 and_stays (c ∷ cs) = refl
 
-assoc_words : (xs ys zs : List (List ℕ)) → (xs ++ ys) ++ zs ≡ xs ++ (ys ++ zs)
-assoc_words [] ys zs = refl
-assoc_words (x ∷ xs) ys zs = ap (λ ws. x ∷ ws) (assoc_words xs ys zs)
-
 linked-append : (link : List ℕ) (a b : List (List (List ℕ))) → linked link (a ++ b) ≡ linked link a ++ linked (next_link link a) b
 linked-append link [] b = refl
 linked-append link (c ∷ cs) b =
     ap (λ ws. (link ∷ c) ++ ws) (linked-append (codes "and") cs b ∙ ap (λ l. linked (codes "and") cs ++ linked l b) (and_stays cs))
-    ∙ sym (assoc_words (link ∷ c) (linked (codes "and") cs) (linked (codes "and") b))
+    ∙ sym (append_assoc (link ∷ c) (linked (codes "and") cs) (linked (codes "and") b))
 
 what_more : (what : What) (more : List (List ℕ)) → join_with_byte 32 (what_words what ++ more) ≡ join_with_byte 32 (what_words what) ++ spaced more
 what_more Sales more = joined_more (codes "sales") [] more
@@ -78,7 +70,7 @@ pub symbols_text : (text link : List ℕ) (symbols : Option (List (List ℕ))) (
 symbols_text text link symbols names e =
     let list = join_with_byte 44 names in
     let flat = in_order text (32 ∷ link) (32 ∷ codes "symbol") (32 ∷ codes "in") (32 ∷ []) list in
-    let ended = ap (λ ys. text ++ ((32 ∷ link) ++ ((32 ∷ codes "symbol") ++ ((32 ∷ codes "in") ++ (32 ∷ ys))))) (sym (append_none list)) in
+    let ended = ap (λ ys. text ++ ((32 ∷ link) ++ ((32 ∷ codes "symbol") ++ ((32 ∷ codes "in") ++ (32 ∷ ys))))) (sym (append-nil list)) in
     subst (λ o. ((((text ++ (32 ∷ link)) ++ (32 ∷ codes "symbol")) ++ (32 ∷ codes "in")) ++ (32 ∷ [])) ++ list
     ≡ text ++ spaced (linked link (symbol_condition o))) (sym e) (flat ∙ ended)
 
@@ -95,7 +87,7 @@ span_text text link span times e =
     let flat = in_order_seven text (32 ∷ link) (32 ∷ codes "time") (32 ∷ codes "from") since (32 ∷ codes "until") (32 ∷ until) in
     let ended =
     ap (λ ys. text ++ ((32 ∷ link) ++ ((32 ∷ codes "time") ++ ((32 ∷ codes "from") ++ (since ++ ((32 ∷ codes "until") ++ (32 ∷ ys)))))))
-    (sym (append_none until)) in
+    (sym (append-nil until)) in
     subst (λ o. (((((text ++ (32 ∷ link)) ++ (32 ∷ codes "time")) ++ (32 ∷ codes "from")) ++ since) ++ (32 ∷ codes "until")) ++ (32 ∷ until)
     ≡ text ++ spaced (linked link (time_condition o))) (sym e) (flat ∙ ended)
 
@@ -117,7 +109,7 @@ joined_first text [] i name within is none = absurd (omega arith)
 joined_first text (x ∷ xs) i name within is none =
     let same : name ≡ x = subst (λ k. name ≡ get_or (x ∷ xs) k name) none is in
     subst (λ k. (text ++ join_with_byte 44 (take k (x ∷ xs))) ++ name ≡ text ++ join_with_byte 44 (take (k + 1) (x ∷ xs))) (sym none)
-    (ap (λ ys. ys ++ name) (append_none text) ∙ ap (λ ys. text ++ ys) same)
+    (ap (λ ys. ys ++ name) (append-nil text) ∙ ap (λ ys. text ++ ys) same)
 
 -- each other one stands after a comma
 pub joined_next : (text : List ℕ) (names : List (List ℕ)) (i : ℕ) (name : List ℕ) → i < length names → name ≡ get_or names i name → 0 < i
@@ -134,30 +126,7 @@ pub letters_joined : (e c p q : Bool)
     → ((letter_text true e 69 ++ letter_text (true && not e) c 67) ++ letter_text ((true && not e) && not c) p 80)
     ++ letter_text (((true && not e) && not c) && not p) q 81
     ≡ join_with_byte 44 (kind_letters (record { e = e; c = c; p = p; q = q }))
-letters_joined true true true true = refl
-letters_joined true true true false = refl
-letters_joined true true false true = refl
-letters_joined true true false false = refl
-letters_joined true false true true = refl
-letters_joined true false true false = refl
-letters_joined true false false true = refl
-letters_joined true false false false = refl
-letters_joined false true true true = refl
-letters_joined false true true false = refl
-letters_joined false true false true = refl
-letters_joined false true false false = refl
-letters_joined false false true true = refl
-letters_joined false false true false = refl
-letters_joined false false false true = refl
-letters_joined false false false false = refl
-
-first_of_two : (a b : Bool) → (a && b) ≡ true → a ≡ true
-first_of_two true b h = refl
-first_of_two false b h = absurd (cc)
-
-second_of_two : (a b : Bool) → (a && b) ≡ true → b ≡ true
-second_of_two true b h = h
-second_of_two false b h = absurd (cc)
+letters_joined e c p q = grind arith
 
 -- times that a query has are no later than the day's end
 pub span_fits : {listed : What} {moment : Option ℕ} {names : Option (List (List ℕ))} {times : Option Span} → IsSound listed moment names times
@@ -165,8 +134,8 @@ pub span_fits : {listed : What} {moment : Option ℕ} {names : Option (List (Lis
     → (some.since ≤ 86400) × (some.until ≤ 86400)
 span_fits sound some e =
     let bound : is_span some ≡ true = sound.span some e in
-    let rises : some.since < some.until = ltb-true _ _ (first_of_two (nat_lt some.since some.until) _ bound) in
-    let within : some.until ≤ 86400 = leb-true _ _ (second_of_two (nat_lt some.since some.until) _ bound) in
+    let rises : some.since < some.until = ltb-true _ _ (and_parts (nat_lt some.since some.until) _ bound).0 in
+    let within : some.until ≤ 86400 = leb-true _ _ (and_parts (nat_lt some.since some.until) _ bound).1 in
     (omega arith, within)
 
 -- a moment that a query has is no later than the day's end

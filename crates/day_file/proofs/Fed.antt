@@ -1,56 +1,33 @@
 -- What was fed to a cutter, as it goes on.
-use Rattle.std.proofs.Common.{◌≡◌, ℕ, zero, suc, ◌+◌, ◌<◌, ◌≤◌, List, [], ◌∷◌, ◌++◌, length, take, drop, All, refl, sym, ap, ◌∙◌, subst, append_assoc}
-use Rattle.std.proofs.Common.{append-nil}
-use Rattle.std.proofs.Common.{◌⊎◌, ⊎_elim, Bool, true, false, if◌then◌else◌, Result, Ok, Err, OnOk, is_ok, ◌==◌, arith}
-use Rattle.std.proofs.Math.Seq.{take-append_seam, take-length, drop-append_seam, drop-length}
+use Rattle.std.proofs.Common.{◌≡◌, ℕ, ◌+◌, ◌<◌, ◌≤◌, List, [], ◌∷◌, ◌++◌, length, take, drop, All, refl, sym, ap, ◌∙◌, subst, append_assoc, append-nil, ◌⊎◌}
+use Rattle.std.proofs.Common.{⊎_elim, Bool, true, false, if◌then◌else◌, Result, Ok, Err, OnOk, is_ok, ◌==◌, arith}
+use Rattle.std.proofs.Math.Seq.{take-append_seam, drop-append_seam}
 use Rattle.std.specs.List.{concat}
-use Rattle.std.proofs.lemmas.Bool.{eqb-true}
-use Rattle.std.proofs.lemmas.List.{length-append, length-drop, length-take-le, take-append-drop, take-append-le, drop-drop}
+use Rattle.std.proofs.lemmas.Bool.{eqb-true, eqb-false}
+use Rattle.std.proofs.lemmas.List.{length-append, length-drop, length-take-le, nil_from_length, take-append-drop, take-append-le}
 use Rattle.std.proofs.lemmas.List.Folds.{concat-append}
-use Rattle.std.proofs.lemmas.List.Elements.{All-append, All-cons, All-nil, All-tail}
+use Rattle.std.proofs.lemmas.List.Elements.{All-push, All-tail, All-weaker}
+use Rattle.lists.specs.declared.limits.TheConstants.{LONGEST_FILE, MOST_MORSELS}
+use Rattle.lists.proofs.Lists.{All-parts, concat_push, length-concat_push}
 use Rattle.day_file.specs.Frames.{IsTruncatedAt, IsWhole}
-use Rattle.day_file.specs.Cuts.{IsCutBy, IsRun, HasNoShorter}
+use Rattle.day_file.specs.Cuts.{IsCutBy, IsRun}
 use Rattle.day_file.specs.Cutting.{IsCutting}
 use Rattle.day_file.specs.Feeding.{CutterView, HasFed, IsFullRun, fed_length}
 use Rattle.day_file.specs.Follow.{Follow, IsFirstRun, rest_run}
 use Rattle.day_file.proofs.CutsAt.{rest_one}
-use Rattle.day_file.proofs.Following.{IsCutBy-from_follow}
+use Rattle.day_file.proofs.Following.{IsCutBy-from_follow, follow_run}
 use Rattle.day_file.proofs.Joined.{IsWhole-append, IsWhole-nil, truncated_later}
 use Rattle.day_file.proofs.Laws.{not_both}
 use Rattle.day_file.proofs.OneCut.{follow_once}
-
--- a first run with as many bytes as the target is a full one
-pub full_run : (target end : ℕ) (bytes : List ℕ) → IsFirstRun target end bytes → target ≤ end → IsFullRun target (take end bytes)
-full_run target end bytes f h = record {
-  run = f.run;
-  shortest = f.shortest;
-  full = omega (arith, h, length-take-le end bytes f.within);
-}
 
 -- full runs, and then the runs of what is behind them
 pub full_follow : (target : ℕ) (full runs : List (List ℕ)) (rest : List ℕ) → All (IsFullRun target) full → Follow target runs rest
     → Follow target (full ++ runs) (concat full ++ rest)
 full_follow target [] runs rest h f = f
 full_follow target (run ∷ full) runs rest h f =
-    let bytes = concat full ++ rest in
     let first : IsFullRun target run = h 0 run (omega arith) in
-    let split : concat (run ∷ full) ++ rest ≡ run ++ bytes = append_assoc run (concat full) rest in
-    let front : take (length run) (run ++ bytes) ≡ run = take-append_seam run bytes in
-    let back : drop (length run) (run ++ bytes) ≡ bytes = drop-append_seam run bytes in
-    subst (Follow target (run ∷ full ++ runs)) (sym split) (
-      record {
-        within = omega (arith, length-append run bytes);
-        run = subst IsRun (sym front) first.run;
-        shortest = subst (HasNoShorter target) (sym front) first.shortest;
-        full = λ _. first.full;
-      },
-      sym front,
-      subst (Follow target (full ++ runs)) (sym back) (full_follow target full runs rest (All-tail (IsFullRun target) run full h) f),
-    )
-
--- nothing was fed
-pub HasFed-none : (target : ℕ) → HasFed (record { target = target; cut = []; past = 0; rest = [] }) []
-HasFed-none target = record { beyond = []; full = All-nil _; past = refl; most = λ h. absurd (omega (arith, h)); joined = refl }
+    follow_run target run (concat full ++ rest) _ (full ++ runs) (append_assoc run (concat full) rest) first.run first.shortest (λ _. first.full)
+    (full_follow target full runs rest (All-tail (IsFullRun target) run full h) f)
 
 no_bytes : (target : ℕ) (runs : List (List ℕ)) → All (IsFullRun target) runs → length (concat runs) ≡ 0 → runs ≡ []
 no_bytes target [] h e = refl
@@ -58,79 +35,22 @@ no_bytes target (run ∷ runs) h e =
     let first : IsFullRun target run = h 0 run (omega arith) in
     absurd (omega (arith, first.run.some, e, length-append run (concat runs)))
 
-pub All-behind : {X : Type 0} (P : X → Type 0) (xs ys : List X) → All P (xs ++ ys) → All P ys
-All-behind P [] ys h = h
-All-behind P (x ∷ xs) ys h = All-behind P xs ys (All-tail P x (xs ++ ys) h)
+some_beyond : (runs : List (List ℕ)) → 0 < length (concat runs) → 0 < length runs
+some_beyond [] h = absurd (omega (arith, h))
+some_beyond (run ∷ runs) h = omega arith
 
 -- all full runs are kept, while there is room
 pub none_beyond : (cutter : CutterView) (fed : List ℕ) → (h : HasFed cutter fed) → cutter.past ≡ 0 → h.beyond ≡ []
 none_beyond cutter fed h e =
-    no_bytes cutter.target h.beyond (All-behind (IsFullRun cutter.target) cutter.cut h.beyond h.full) (h.past ∙ e)
+    no_bytes cutter.target h.beyond (All-parts (IsFullRun cutter.target) cutter.cut h.beyond h.full).1 (h.past ∙ e)
 
-concat-one : (runs : List (List ℕ)) (run : List ℕ) → concat (runs ++ run ∷ []) ≡ concat runs ++ run
-concat-one runs run = concat-append runs (run ∷ []) ∙ ap (λ l. concat runs ++ l) (append-nil run)
+all_kept : (cutter : CutterView) (fed : List ℕ) → (h : HasFed cutter fed) → cutter.past ≡ 0 → cutter.cut ++ h.beyond ≡ cutter.cut
+all_kept cutter fed h e = ap (λ l. cutter.cut ++ l) (none_beyond cutter fed h e) ∙ append-nil cutter.cut
 
 -- the rest bytes, of which the first run is taken
 taken_off : (front : List (List ℕ)) (end : ℕ) (rest fed : List ℕ) → fed ≡ concat front ++ rest
     → fed ≡ concat (front ++ take end rest ∷ []) ++ drop end rest
-taken_off front end rest fed e =
-    e ∙ ap (λ l. concat front ++ l) (sym (take-append-drop end rest))
-    ∙ sym (append_assoc (concat front) (take end rest) (drop end rest))
-    ∙ ap (λ l. l ++ drop end rest) (sym (concat-one front (take end rest)))
-
--- one more run is kept
-pub HasFed-kept : (target past end : ℕ) (cut : List (List ℕ)) (rest fed : List ℕ)
-    → HasFed (record { target = target; cut = cut; past = past; rest = rest }) fed → length cut < 65536 → IsFullRun target (take end rest)
-    → HasFed (record { target = target; cut = cut ++ take end rest ∷ []; past = past; rest = drop end rest }) fed
-HasFed-kept target past end cut rest fed h few r =
-    let run = take end rest in
-    let most : 0 < past → 65536 ≤ length cut = h.most in
-    let zero_past : past ≡ 0 = none_past past (length cut) most few in
-    let none = none_beyond (record { target = target; cut = cut; past = past; rest = rest }) fed h zero_past in
-    let all : cut ++ h.beyond ≡ cut = ap (λ l. cut ++ l) none ∙ append-nil cut in
-    record {
-      beyond = [];
-      full = subst (All (IsFullRun target)) (sym (append-nil (cut ++ run ∷ [])))
-          (All-append (IsFullRun target) cut (run ∷ []) (subst (All (IsFullRun target)) all h.full) (All-cons (IsFullRun target) run [] r (All-nil _)));
-      past = sym zero_past;
-      most = λ p. absurd (omega (arith, p, zero_past));
-      joined = taken_off cut end rest fed (h.joined ∙ ap (λ l. concat l ++ rest) all)
-          ∙ ap (λ l. concat l ++ drop end rest) (sym (append-nil (cut ++ run ∷ [])));
-    }
-  where
-    none_past : (past n : ℕ) → (0 < past → 65536 ≤ n) → n < 65536 → past ≡ 0
-    none_past zero n most few = refl
-    none_past (suc past) n most few = absurd (omega (arith, most (omega arith), few))
-
--- one more run is too many, and isn't kept
-pub HasFed-past : (target past end : ℕ) (cut : List (List ℕ)) (rest fed : List ℕ)
-    → HasFed (record { target = target; cut = cut; past = past; rest = rest }) fed → 65536 ≤ length cut → IsFullRun target (take end rest)
-    → length (take end rest) ≡ end → HasFed (record { target = target; cut = cut; past = past + end; rest = drop end rest }) fed
-HasFed-past target past end cut rest fed h most r n =
-    let run = take end rest in
-    let all : (cut ++ h.beyond) ++ run ∷ [] ≡ cut ++ (h.beyond ++ run ∷ []) = append_assoc cut h.beyond (run ∷ []) in
-    record {
-      beyond = h.beyond ++ run ∷ [];
-      full = subst (All (IsFullRun target)) all
-          (All-append (IsFullRun target) (cut ++ h.beyond) (run ∷ []) h.full (All-cons (IsFullRun target) run [] r (All-nil _)));
-      past = omega (arith, ap length (concat-one h.beyond run), length-append (concat h.beyond) run, h.past, n);
-      most = λ _. most;
-      joined = taken_off (cut ++ h.beyond) end rest fed h.joined ∙ ap (λ l. concat l ++ drop end rest) all;
-    }
-
--- more bytes are fed
-pub HasFed-more : (target past : ℕ) (cut : List (List ℕ)) (rest fed piece : List ℕ)
-    → HasFed (record { target = target; cut = cut; past = past; rest = rest }) fed
-    → HasFed (record { target = target; cut = cut; past = past; rest = rest ++ piece }) (fed ++ piece)
-HasFed-more target past cut rest fed piece h = record {
-  beyond = h.beyond;
-  full = h.full;
-  past = h.past;
-  most = h.most;
-  joined = ap (λ l. l ++ piece) h.joined ∙ append_assoc (concat (cut ++ h.beyond)) rest piece;
-}
-
--- ---- one step of the loop
+taken_off front end rest fed e = rw (concat_push, append_assoc, take-append-drop) e
 
 -- a run of so many bytes was taken off the head of the rest
 pub record Taken (end : ℕ) (old new : CutterView) : Type 0 where
@@ -139,47 +59,59 @@ pub record Taken (end : ℕ) (old new : CutterView) : Type 0 where
   pub target : new.target ≡ old.target
   pub rest : new.rest ≡ drop end old.rest
 
-pub Taken-kept : (target past end start : ℕ) (cut grown : List (List ℕ)) (items run : List ℕ) → IsFirstRun target end (drop start items) → target ≤ end
-    → length cut < 65536 → run ≡ take end (drop start items) → grown ≡ cut ++ run ∷ []
-    → Taken end (record { target = target; cut = cut; past = past; rest = drop start items })
-    (record { target = target; cut = grown; past = past; rest = drop (start + end) items })
-Taken-kept target past end start cut grown items run f h few is pushed =
-    let rest = drop start items in
-    let same : grown ≡ cut ++ take end rest ∷ [] = pushed ∙ ap (λ l. cut ++ l ∷ []) is in
-    let left : drop end rest ≡ drop (start + end) items = drop-drop end start items in
-    record {
-      fed = λ fed has. subst (λ l. HasFed (record { target = target; cut = grown; past = past; rest = l }) fed) left
-          (subst (λ l. HasFed (record { target = target; cut = l; past = past; rest = drop end rest }) fed) (sym same)
-          (HasFed-kept target past end cut rest fed has few (full_run target end rest f h)));
-      bytes = omega (
-        arith,
-        ap (λ l. length (concat l)) same,
-        ap length (concat-one cut (take end rest)),
-        length-append (concat cut) (take end rest),
-        length-take-le end rest f.within,
-      );
-      target = refl;
-      rest = sym left;
-    }
+module _ (v : CutterView) (end : ℕ) (f : IsFirstRun v.target end v.rest) (h : v.target ≤ end) where
+  long : length (take end v.rest) ≡ end
+  long = length-take-le end v.rest f.within
 
-pub Taken-past : (target past end start : ℕ) (cut : List (List ℕ)) (items : List ℕ) → IsFirstRun target end (drop start items) → target ≤ end
-    → 65536 ≤ length cut → Taken end (record { target = target; cut = cut; past = past; rest = drop start items })
-    (record { target = target; cut = cut; past = past + end; rest = drop (start + end) items })
-Taken-past target past end start cut items f h most =
-    let rest = drop start items in
-    let left : drop end rest ≡ drop (start + end) items = drop-drop end start items in
-    record {
-      fed = λ fed has. subst (λ l. HasFed (record { target = target; cut = cut; past = past + end; rest = l }) fed) left
-          (HasFed-past target past end cut rest fed has most (full_run target end rest f h) (length-take-le end rest f.within));
-      bytes = omega arith;
-      target = refl;
-      rest = sym left;
-    }
+  full_run : IsFullRun v.target (take end v.rest)
+  full_run = record { run = f.run; shortest = f.shortest; full = omega (arith, h, long) }
+
+  -- one more run is kept
+  HasFed-kept : (fed : List ℕ) → HasFed v fed → length v.cut < MOST_MORSELS
+      → HasFed (record v { cut = v.cut ++ take end v.rest ∷ []; rest = drop end v.rest }) fed
+  HasFed-kept fed has few =
+      let some : ¬ (0 < v.past) = λ p. omega (arith, has.most p, few) in
+      let all = all_kept v fed has (omega (arith, some)) in
+      record {
+        beyond = [];
+        full = rw append-nil (All-push (IsFullRun v.target) v.cut (take end v.rest) (subst (All (IsFullRun v.target)) all has.full) full_run);
+        past = omega (arith, some);
+        most = λ p. absurd (some p);
+        joined = rw append-nil (taken_off v.cut end v.rest fed (subst (λ l. fed ≡ concat l ++ v.rest) all has.joined));
+      }
+
+  -- one more run is too many, and isn't kept
+  HasFed-past : (fed : List ℕ) → HasFed v fed → MOST_MORSELS ≤ length v.cut → HasFed (record v { past = v.past + end; rest = drop end v.rest }) fed
+  HasFed-past fed has most =
+      let run = take end v.rest in
+      let all : (v.cut ++ has.beyond) ++ run ∷ [] ≡ v.cut ++ (has.beyond ++ run ∷ []) = append_assoc v.cut has.beyond (run ∷ []) in
+      record {
+        beyond = has.beyond ++ run ∷ [];
+        full = subst (All (IsFullRun v.target)) all (All-push (IsFullRun v.target) (v.cut ++ has.beyond) run has.full full_run);
+        past = omega (arith, length-concat_push has.beyond run, has.past, long);
+        most = λ _. most;
+        joined = subst (λ l. fed ≡ concat l ++ drop end v.rest) all (taken_off (v.cut ++ has.beyond) end v.rest fed has.joined);
+      }
+
+  pub Taken-kept : (grown : List (List ℕ)) (run left : List ℕ) → length v.cut < MOST_MORSELS → run ≡ take end v.rest → left ≡ drop end v.rest
+      → grown ≡ v.cut ++ run ∷ [] → Taken end v (record v { cut = grown; rest = left })
+  Taken-kept grown run left few is leaves pushed =
+      let same : grown ≡ v.cut ++ take end v.rest ∷ [] = pushed ∙ ap (λ l. v.cut ++ l ∷ []) is in
+      record {
+        fed = λ fed has. rw (same, leaves) (HasFed-kept fed has few);
+        bytes = omega (arith, ap (λ l. length (concat l)) same, length-concat_push v.cut (take end v.rest), long);
+        target = refl;
+        rest = leaves;
+      }
+
+  pub Taken-past : (left : List ℕ) → MOST_MORSELS ≤ length v.cut → left ≡ drop end v.rest → Taken end v (record v { past = v.past + end; rest = left })
+  Taken-past left most leaves =
+      record { fed = λ fed has. rw leaves (HasFed-past fed has most); bytes = omega arith; target = refl; rest = leaves }
 
 -- so the cutter goes on
 pub Taken-cutting : (whole end : ℕ) (old new : CutterView) → IsCutting old whole → Taken end old new → end ≤ length old.rest → IsCutting new 0
 Taken-cutting whole end old new c t h =
-    let target : 0 < new.target = subst (λ n. 0 < n) (sym t.target) c.target in
+    let target : 0 < new.target = omega (arith, t.target, c.target) in
     record {
       fed = c.fed;
       has = t.fed c.fed c.has;
@@ -196,120 +128,8 @@ rest_follow : (target : ℕ) (rest : List ℕ) → IsWhole rest → length rest 
 rest_follow target [] w below = refl
 rest_follow target (b ∷ rest) w below =
     let bytes = b ∷ rest in
-    let all : take (length bytes) bytes ≡ bytes = take-length bytes in (
-      record {
-        within = omega arith;
-        run = subst IsRun (sym all) (record { some = omega arith; whole = w });
-        shortest = λ m less _. omega (arith, less, ap length all, below);
-        full = λ h. absurd (omega (arith, h));
-      },
-      sym all,
-      drop-length bytes,
-    )
-
--- the full runs, and those of the rest, are the runs of what was fed
-pub fed_follows : (cutter : CutterView) (fed : List ℕ) (runs : List (List ℕ)) → (h : HasFed cutter fed) → Follow cutter.target runs cutter.rest
-    → Follow cutter.target ((cutter.cut ++ h.beyond) ++ runs) fed
-fed_follows cutter fed runs h f =
-    subst (Follow cutter.target ((cutter.cut ++ h.beyond) ++ runs)) (sym h.joined)
-    (full_follow cutter.target (cutter.cut ++ h.beyond) runs cutter.rest h.full f)
-
--- full runs are whole frames
-pub full_are_whole : (target : ℕ) (runs : List (List ℕ)) → All (IsFullRun target) runs → IsWhole (concat runs)
-full_are_whole target [] h = IsWhole-nil
-full_are_whole target (run ∷ runs) h =
-    let first : IsFullRun target run = h 0 run (omega arith) in
-    IsWhole-append run (concat runs) first.run.whole (full_are_whole target runs (All-tail (IsFullRun target) run runs h))
-
--- how many bytes stand before the rest
-pub fed_before : (cutter : CutterView) (fed : List ℕ) → (h : HasFed cutter fed)
-    → length (concat (cutter.cut ++ h.beyond)) ≡ length (concat cutter.cut) + cutter.past
-fed_before cutter fed h = omega (arith, ap length (concat-append cutter.cut h.beyond), length-append (concat cutter.cut) (concat h.beyond), h.past)
-
-pub fed_length_is : (cutter : CutterView) (fed : List ℕ) → HasFed cutter fed → fed_length cutter ≡ length fed
-fed_length_is cutter fed h =
-    omega (arith, fed_before cutter fed h, ap length h.joined, length-append (concat (cutter.cut ++ h.beyond)) cutter.rest)
-
--- where the rest is truncated, what was fed is
-pub fed_truncated : (cutter : CutterView) (fed : List ℕ) (place : ℕ) → HasFed cutter fed → IsTruncatedAt cutter.rest place
-    → IsTruncatedAt fed ((length (concat cutter.cut) + cutter.past) + place)
-fed_truncated cutter fed place h t =
-    let front = concat (cutter.cut ++ h.beyond) in
-    let n : length front ≡ length (concat cutter.cut) + cutter.past = fed_before cutter fed h in
-    let taken : take (length front) fed ≡ front = ap (take (length front)) h.joined ∙ take-append_seam front cutter.rest in
-    let left : drop (length front) fed ≡ cutter.rest = ap (drop (length front)) h.joined ∙ drop-append_seam front cutter.rest in
-    subst (λ k. IsTruncatedAt fed (k + place)) n
-    (truncated_later fed (length front) place (subst IsWhole (sym taken) (full_are_whole cutter.target (cutter.cut ++ h.beyond) h.full))
-    (subst (λ l. IsTruncatedAt l place) (sym left) t))
-
--- what was fed has this many runs
-pub record HasRuns (target count : ℕ) (fed : List ℕ) : Type 0 where
-  pub runs : List (List ℕ)
-  pub follow : Follow target runs fed
-  pub counted : length runs ≡ count
-
--- too many
-some_beyond : (runs : List (List ℕ)) → 0 < length (concat runs) → 0 < length runs
-some_beyond [] h = absurd (omega (arith, h))
-some_beyond (run ∷ runs) h = omega arith
-
-pub too_many_runs : (cutter : CutterView) (fed : List ℕ) (runs : List (List ℕ)) → HasFed cutter fed → Follow cutter.target runs cutter.rest
-    → (0 < cutter.past) ⊎ (65536 < length cutter.cut + length runs)
-    → (all : List (List ℕ)) × IsCutBy cutter.target all fed × (65536 < length all)
-too_many_runs cutter fed runs h f many =
-    let all = (cutter.cut ++ h.beyond) ++ runs in
-    let n : length all ≡ (length cutter.cut + length h.beyond) + length runs =
-    omega (arith, length-append (cutter.cut ++ h.beyond) runs, length-append cutter.cut h.beyond) in
-    let more : 65536 < length all =
-    ⊎_elim
-    (λ (p : 0 < cutter.past). omega (arith, n, h.most p, some_beyond h.beyond (omega (arith, p, h.past))))
-    (λ (p : 65536 < length cutter.cut + length runs). omega (arith, n, p)) many in
-    (all, IsCutBy-from_follow cutter.target all fed (fed_follows cutter fed runs h f), more)
-
--- what the cutter knows before it makes the last morsels: what was fed has few runs
-pub record IsFew (target : ℕ) (fed : List ℕ) : Type 0 where
-  pub runs : List (List ℕ)
-  pub follow : Follow target runs fed
-  pub few : length runs ≤ 65536
-
-pub few_runs : (cutter : CutterView) (fed : List ℕ) (runs : List (List ℕ)) → HasFed cutter fed → Follow cutter.target runs cutter.rest
-    → cutter.past ≤ 0 → length cutter.cut + length runs ≤ 65536 → IsFew cutter.target fed
-few_runs cutter fed runs h f none few =
-    let past : cutter.past ≡ 0 = omega (arith, none) in
-    let empty = none_beyond cutter fed h past in
-    let same : cutter.cut ++ h.beyond ≡ cutter.cut = ap (λ l. cutter.cut ++ l) empty ∙ append-nil cutter.cut in
-    record {
-      runs = (cutter.cut ++ h.beyond) ++ runs;
-      follow = fed_follows cutter fed runs h f;
-      few = omega (arith, length-append (cutter.cut ++ h.beyond) runs, ap length same, few);
-    }
-
--- the runs that are left in the end: those of the cut, and the rest as one more
-pub record IsLast (target : ℕ) (cut : List (List ℕ)) (rest fed : List ℕ) : Type 0 where
-  pub runs : IsCutBy target (cut ++ rest_run rest) fed
-  pub few : length cut + length (rest_run rest) ≤ 65536
-
-pub last_runs : (cutter : CutterView) (fed : List ℕ) → HasFed cutter fed → IsWhole cutter.rest → length cutter.rest < cutter.target
-    → IsFew cutter.target fed → IsLast cutter.target cutter.cut cutter.rest fed
-last_runs cutter fed h whole below few =
-    let target = cutter.target in
-    let last = rest_run cutter.rest in
-    let follow = fed_follows cutter fed last h (rest_follow target cutter.rest whole below) in
-    let one = follow_once target few.runs ((cutter.cut ++ h.beyond) ++ last) fed few.follow follow in
-    let n : (length cutter.cut + length h.beyond) + length last ≤ 65536 =
-    omega (arith, few.few, ap length one, length-append (cutter.cut ++ h.beyond) last, length-append cutter.cut h.beyond) in
-    let none : cutter.past ≡ 0 =
-    no_past cutter.past (length h.beyond) (length cutter.cut) h.most (λ p. some_beyond h.beyond (omega (arith, p, h.past))) (omega (arith, n)) in
-    let empty = none_beyond cutter fed h none in
-    let same : cutter.cut ++ h.beyond ≡ cutter.cut = ap (λ l. cutter.cut ++ l) empty ∙ append-nil cutter.cut in
-    record {
-      runs = IsCutBy-from_follow target (cutter.cut ++ last) fed (subst (λ l. Follow target (l ++ last) fed) same follow);
-      few = omega (arith, n);
-    }
-  where
-    no_past : (past beyond cut : ℕ) → (0 < past → 65536 ≤ cut) → (0 < past → 0 < beyond) → cut + beyond ≤ 65536 → past ≡ 0
-    no_past zero beyond cut most some few = refl
-    no_past (suc past) beyond cut most some few = absurd (omega (arith, most (omega arith), some (omega arith), few))
+    follow_run target bytes [] bytes [] (sym (append-nil bytes)) (record { some = omega arith; whole = w }) (λ m less _. omega (arith, less, below))
+    (λ h. absurd (omega (arith, h))) refl
 
 runs_are_whole : (runs : List (List ℕ)) → All IsRun runs → IsWhole (concat runs)
 runs_are_whole [] h = IsWhole-nil
@@ -317,72 +137,155 @@ runs_are_whole (run ∷ runs) h =
     let first : IsRun run = h 0 run (omega arith) in
     IsWhole-append run (concat runs) first.whole (runs_are_whole runs (All-tail IsRun run runs h))
 
+-- full runs are whole frames
+pub full_are_whole : (target : ℕ) (runs : List (List ℕ)) → All (IsFullRun target) runs → IsWhole (concat runs)
+full_are_whole target runs h = runs_are_whole runs (All-weaker (IsFullRun target) IsRun (λ run r. r.run) runs h)
+
+-- what was fed has few runs
+pub record IsFew (target : ℕ) (fed : List ℕ) : Type 0 where
+  pub runs : List (List ℕ)
+  pub follow : Follow target runs fed
+  pub few : length runs ≤ MOST_MORSELS
+
+-- the runs that are left in the end: those of the cut, and the rest as one more
+pub record IsLast (target : ℕ) (cut : List (List ℕ)) (rest fed : List ℕ) : Type 0 where
+  pub runs : IsCutBy target (cut ++ rest_run rest) fed
+  pub few : length cut + length (rest_run rest) ≤ MOST_MORSELS
+
+module _ (cutter : CutterView) (fed : List ℕ) (h : HasFed cutter fed) where
+  -- the full runs, and those of the rest, are the runs of what was fed
+  fed_follows : (runs : List (List ℕ)) → Follow cutter.target runs cutter.rest → Follow cutter.target ((cutter.cut ++ h.beyond) ++ runs) fed
+  fed_follows runs f =
+      subst (Follow cutter.target ((cutter.cut ++ h.beyond) ++ runs)) (sym h.joined)
+      (full_follow cutter.target (cutter.cut ++ h.beyond) runs cutter.rest h.full f)
+
+  counted : (runs : List (List ℕ)) → length ((cutter.cut ++ h.beyond) ++ runs) ≡ (length cutter.cut + length h.beyond) + length runs
+  counted runs = omega (arith, length-append (cutter.cut ++ h.beyond) runs, length-append cutter.cut h.beyond)
+
+  -- how many bytes stand before the rest
+  fed_before : length (concat (cutter.cut ++ h.beyond)) ≡ length (concat cutter.cut) + cutter.past
+  fed_before = omega (arith, ap length (concat-append cutter.cut h.beyond), length-append (concat cutter.cut) (concat h.beyond), h.past)
+
+  pub fed_length_is : fed_length cutter ≡ length fed
+  fed_length_is = omega (arith, fed_before, ap length h.joined, length-append (concat (cutter.cut ++ h.beyond)) cutter.rest)
+
+  -- where the rest is truncated, what was fed is
+  pub fed_truncated : (place : ℕ) → IsTruncatedAt cutter.rest place → IsTruncatedAt fed ((length (concat cutter.cut) + cutter.past) + place)
+  fed_truncated place t =
+      let front = concat (cutter.cut ++ h.beyond) in
+      let whole = full_are_whole cutter.target (cutter.cut ++ h.beyond) h.full in
+      let taken : take (length front) fed ≡ front = ap (take (length front)) h.joined ∙ take-append_seam front cutter.rest in
+      let left : drop (length front) fed ≡ cutter.rest = ap (drop (length front)) h.joined ∙ drop-append_seam front cutter.rest in
+      subst (λ k. IsTruncatedAt fed (k + place)) fed_before
+      (truncated_later fed (length front) place (subst IsWhole (sym taken) whole) (subst (λ l. IsTruncatedAt l place) (sym left) t))
+
+  -- too many
+  pub too_many_runs : (runs : List (List ℕ)) → Follow cutter.target runs cutter.rest → (0 < cutter.past) ⊎ (MOST_MORSELS < length cutter.cut + length runs)
+      → (all : List (List ℕ)) × IsCutBy cutter.target all fed × (MOST_MORSELS < length all)
+  too_many_runs runs f many = (
+    (cutter.cut ++ h.beyond) ++ runs,
+    IsCutBy-from_follow cutter.target _ fed (fed_follows runs f),
+    ⊎_elim
+        (λ (p : 0 < cutter.past). omega (arith, counted runs, h.most p, some_beyond h.beyond (omega (arith, p, h.past))))
+        (λ (p : MOST_MORSELS < length cutter.cut + length runs). omega (arith, counted runs, p)) many,
+  )
+
+  few_runs : (runs : List (List ℕ)) → Follow cutter.target runs cutter.rest → cutter.past ≤ 0 → length cutter.cut + length runs ≤ MOST_MORSELS
+      → IsFew cutter.target fed
+  few_runs runs f none few =
+      let same = all_kept cutter fed h (omega (arith, none)) in
+      record {
+        runs = (cutter.cut ++ h.beyond) ++ runs;
+        follow = fed_follows runs f;
+        few = omega (arith, counted runs, length-append cutter.cut h.beyond, ap length same, few);
+      }
+
+  last_runs : IsWhole cutter.rest → length cutter.rest < cutter.target → IsFew cutter.target fed → IsLast cutter.target cutter.cut cutter.rest fed
+  last_runs whole below few =
+      let last = rest_run cutter.rest in
+      let follow = fed_follows last (rest_follow cutter.target cutter.rest whole below) in
+      let one = follow_once cutter.target few.runs ((cutter.cut ++ h.beyond) ++ last) fed few.follow follow in
+      let n : (length cutter.cut + length h.beyond) + length last ≤ MOST_MORSELS = omega (arith, few.few, ap length one, counted last) in
+      let some : ¬ (0 < cutter.past) = λ p. omega (arith, h.most p, some_beyond h.beyond (omega (arith, p, h.past)), n) in
+      let same = all_kept cutter fed h (omega (arith, some)) in
+      record {
+        runs = IsCutBy-from_follow cutter.target (cutter.cut ++ last) fed (subst (λ l. Follow cutter.target (l ++ last) fed) same follow);
+        few = omega (arith, n);
+      }
+
 -- bytes that have runs are whole frames
-pub follow_whole : (target : ℕ) (runs : List (List ℕ)) (bytes : List ℕ) → Follow target runs bytes → IsWhole bytes
-follow_whole target runs bytes f =
-    let cut = (IsCutBy-from_follow target runs bytes f).cut in subst IsWhole (sym cut.joined) (runs_are_whole runs cut.each)
+follow_whole : (target : ℕ) (runs : List (List ℕ)) (bytes : List ℕ) → Follow target runs bytes → IsWhole bytes
+follow_whole target runs bytes f = let cut = (IsCutBy-from_follow target runs bytes f).cut in rw cut.joined (runs_are_whole runs cut.each)
+
+-- a cutter as its fields show it, from which the rest is read as `bytes`: what was fed has few runs
+pub few_fed : (v self : CutterView) (bytes : List ℕ) (n : ℕ) → v ≡ self → bytes ≡ v.rest
+    → (runs : List (List ℕ)) × Follow v.target runs bytes × (length runs ≡ n) → v.past ≤ 0 → length v.cut + n ≤ MOST_MORSELS
+    → (fed : List ℕ) → HasFed self fed → IsFew self.target fed
+few_fed v self bytes n is read runs none few = rw (← is) (λ fed has.
+    few_runs v fed has runs.0 (subst (Follow v.target runs.0) read runs.1) none (omega (arith, runs.2, few)))
 
 -- so where what was fed has few runs, no frame of it is cut short
 pub record IsEnd (cutter : CutterView) (fed : List ℕ) : Type 0 where
   pub whole : IsWhole cutter.rest
   pub last : IsLast cutter.target cutter.cut cutter.rest fed
 
-pub end_of : (cutter : CutterView) (fed : List ℕ) → HasFed cutter fed
+pub end_of : (cutter : CutterView) (target : ℕ) (fed : List ℕ) → HasFed cutter fed
     → (IsWhole cutter.rest × (length cutter.rest < cutter.target)) ⊎ ((place : ℕ) × IsTruncatedAt cutter.rest place)
-    → IsFew cutter.target fed → IsEnd cutter fed
-end_of cutter fed h rest few =
-    let w = follow_whole cutter.target few.runs fed few.follow in
+    → cutter.target ≡ target → IsFew target fed → IsEnd cutter fed
+end_of cutter target fed h rest same few =
+    let now = subst (λ n. IsFew n fed) (sym same) few in
+    let w = follow_whole cutter.target now.runs fed now.follow in
     ⊎_elim
     (λ (r : IsWhole cutter.rest × (length cutter.rest < cutter.target)). let end : IsEnd cutter fed =
-    record { whole = r.0; last = last_runs cutter fed h r.0 r.1 few } in end)
-    (λ (t : (place : ℕ) × IsTruncatedAt cutter.rest place). let end : IsEnd cutter fed =
-    absurd (not_both fed w.0 _ w.1 (fed_truncated cutter fed t.0 h t.1)) in end)
+    record { whole = r.0; last = last_runs cutter fed h r.0 r.1 now } in end)
+    (λ (t : (place : ℕ) × IsTruncatedAt cutter.rest place). absurd (not_both fed w.0 _ w.1 (fed_truncated cutter fed h t.0 t.1)))
     rest
 
--- the last run, if there is one
-pub last_run : (rest : List ℕ) → IsWhole rest → 0 < length rest → IsRun rest
-last_run rest w h = record { some = h; whole = w }
+-- the last run, read as `items`, if there is one
+module _ (cutter : CutterView) (fed : List ℕ) (end : IsEnd cutter fed) (items : List ℕ) (n : ℕ) (is_empty : Bool)
+    (left : items ≡ cutter.rest) (long : n ≡ length items) (tells : is_empty ≡ (n == 0)) where
+  some_left : is_empty ≡ false → 0 < length cutter.rest
+  some_left e = let some = eqb-false n 0 (sym tells ∙ e) in omega (arith, ap length left, long, some)
 
-pub last_room : (cutter : CutterView) (fed : List ℕ) → IsEnd cutter fed → 0 < length cutter.rest → length cutter.cut < 65536
-last_room cutter fed end h = omega (arith, end.last.few, ap length (rest_one cutter.rest h))
+  pub last_run : is_empty ≡ false → IsRun items
+  last_run e = rw left (record { some = some_left e; whole = end.whole })
 
-pub last_cut : (cutter : CutterView) (fed : List ℕ) → IsEnd cutter fed → 0 < length cutter.rest → IsCutBy cutter.target (cutter.cut ++ cutter.rest ∷ []) fed
-last_cut cutter fed end h = subst (λ l. IsCutBy cutter.target (cutter.cut ++ l) fed) (rest_one cutter.rest h) end.last.runs
+  pub last_room : is_empty ≡ false → length cutter.cut < MOST_MORSELS
+  last_room e = omega (arith, end.last.few, ap length (rest_one cutter.rest (some_left e)))
 
-no_rest : (rest : List ℕ) → length rest ≡ 0 → rest_run rest ≡ []
-no_rest [] h = refl
-no_rest (b ∷ rest) h = absurd (omega (arith, h))
+  pub last_cut : is_empty ≡ false → IsCutBy cutter.target (cutter.cut ++ items ∷ []) fed
+  last_cut e = rw left (subst (λ l. IsCutBy cutter.target (cutter.cut ++ l) fed) (rest_one cutter.rest (some_left e)) end.last.runs)
 
-pub whole_cut : (cutter : CutterView) (fed : List ℕ) → IsEnd cutter fed → length cutter.rest ≡ 0 → IsCutBy cutter.target cutter.cut fed
-whole_cut cutter fed end h =
-    subst (λ l. IsCutBy cutter.target l fed) (ap (λ l. cutter.cut ++ l) (no_rest cutter.rest h) ∙ append-nil cutter.cut) end.last.runs
+  pub whole_cut : is_empty ≡ true → IsCutBy cutter.target cutter.cut fed
+  whole_cut e =
+      let none : cutter.rest ≡ [] = nil_from_length cutter.rest (omega (arith, ap length left, long, eqb-true n 0 (sym tells ∙ e))) in
+      subst (λ l. IsCutBy cutter.target l fed) (ap (λ l. cutter.cut ++ rest_run l) none ∙ append-nil cutter.cut) end.last.runs
+
+-- ---- a piece is fed
+
+pub HasFed-more : (v : CutterView) (fed piece : List ℕ) → HasFed v fed → HasFed (record v { rest = v.rest ++ piece }) (fed ++ piece)
+HasFed-more v fed piece h = record {
+  beyond = h.beyond;
+  full = h.full;
+  past = h.past;
+  most = h.most;
+  joined = ap (λ l. l ++ piece) h.joined ∙ append_assoc (concat (v.cut ++ h.beyond)) v.rest piece;
+}
 
 -- a piece was appended, or refused
-pub Cutting-grown : (b : Bool) (whole target past : ℕ) (cut : List (List ℕ)) (rest piece grown : List ℕ)
-    → IsCutting (record { target = target; cut = cut; past = past; rest = rest }) whole → grown ≡ (if b then rest ++ piece else rest)
-    → ((length (concat cut) + past) + length rest) + length piece ≤ 68719476736
-    → IsCutting (record { target = target; cut = cut; past = past; rest = grown }) whole
-Cutting-grown false whole target past cut rest piece grown c e h =
-    subst (λ l. IsCutting (record { target = target; cut = cut; past = past; rest = l }) whole) (sym e) c
-Cutting-grown true whole target past cut rest piece grown c e h =
-    subst (λ l. IsCutting (record { target = target; cut = cut; past = past; rest = l }) whole) (sym e) (record {
-      fed = c.fed ++ piece;
-      has = HasFed-more target past cut rest c.fed piece c.has;
-      target = c.target;
-      below = c.below;
-      within = omega (arith, c.within, length-append rest piece);
-      front = subst IsWhole (sym (take-append-le whole rest piece c.within)) c.front;
-      bound = omega (arith, h, length-append rest piece);
-    })
+pub Cutting-grown : (b : Bool) (whole : ℕ) (v : CutterView) (piece grown : List ℕ) → IsCutting v whole → grown ≡ (if b then v.rest ++ piece else v.rest)
+    → fed_length v + length piece ≤ LONGEST_FILE → IsCutting (record v { rest = grown }) whole
+Cutting-grown false whole v piece grown c e h = rw e c
+Cutting-grown true whole v piece grown c e h = rw e (record {
+  fed = c.fed ++ piece;
+  has = HasFed-more v c.fed piece c.has;
+  target = c.target;
+  below = c.below;
+  within = omega (arith, c.within, length-append v.rest piece);
+  front = rw (take-append-le whole v.rest piece c.within) c.front;
+  bound = omega (arith, h, length-append v.rest piece);
+})
 
 pub on_ok : {A B : Type 0} (r : Result A B) (P : Type 0) → (is_ok r ≡ true → P) → OnOk r P
 on_ok (Ok x) P h = h refl
 on_ok (Err e) P h = tt
-
--- whether a vector of so many bytes is empty
-pub not_empty : (n : ℕ) (is_empty : Bool) → is_empty ≡ (n == 0) → is_empty ≡ false → 0 < n
-not_empty zero is_empty e none = absurd (cc)
-not_empty (suc n) is_empty e none = omega arith
-
-pub is_none : (n : ℕ) (is_empty : Bool) → is_empty ≡ (n == 0) → is_empty ≡ true → n ≡ 0
-is_none n is_empty e none = eqb-true n 0 (sym e ∙ none)

@@ -1,9 +1,9 @@
 -- The runs that bytes begin with: where the frames at their head end.
 use Rattle.std.proofs.Common.{◌≡◌, ℕ, ◌+◌, ◌<◌, ◌≤◌, List, Option, None, Some, MatchOption, [], ◌∷◌, ◌++◌, length, take, drop, refl, sym, ap, ◌∙◌}
 use Rattle.std.proofs.Common.{subst, append_assoc, append-nil, arith}
-use Rattle.std.proofs.Math.Seq.{take-append_seam, take-length, drop-append_seam}
+use Rattle.std.proofs.Math.Seq.{take-append_seam, take-length}
 use Rattle.std.proofs.lemmas.List.{length-append, length-take-le, take-append-drop, take-take}
-use Rattle.std.proofs.lemmas.List.Elements.{All-take, All-drop}
+use Rattle.lists.proofs.Lists.{All-parts}
 use Rattle.day_file.specs.Frames.{FramesLeft, PlacedBody, frame_of, spelling, StandAt, IsShort, StandsFor, IsTruncatedAt, IsWhole}
 use Rattle.day_file.specs.Cuts.{IsRun}
 use Rattle.day_file.specs.Follow.{IsFirstRun}
@@ -99,20 +99,13 @@ module _ (bytes : List ℕ) (all front later : List PlacedBody) (place : ℕ) wh
       ∙ ap (λ l. l ++ drop place bytes) (ends.stands.whole ∙ ap spelling (sym split) ∙ spelling-append front later)
       ∙ append_assoc (spelling front) (spelling later) (drop place bytes)
 
-  pub front_short : EndsAt bytes all place → front ++ later ≡ all → AreShort front
-  front_short ends split =
-      subst AreShort (ap (take (length front)) (sym split) ∙ take-append_seam front later)
-      (All-take (λ frame. IsShort frame.body) (length front) all ends.stands.short)
-
-  pub later_short : EndsAt bytes all place → front ++ later ≡ all → AreShort later
-  later_short ends split =
-      subst AreShort (ap (drop (length front)) (sym split) ∙ drop-append_seam front later)
-      (All-drop (λ frame. IsShort frame.body) (length front) all ends.stands.short)
+  pub both_short : EndsAt bytes all place → front ++ later ≡ all → AreShort front × AreShort later
+  both_short ends split = All-parts (λ frame. IsShort frame.body) front later (subst AreShort (sym split) ends.stands.short)
 
   pub front_stands : EndsAt bytes all place → front ++ later ≡ all → StandsFor front (take (length (spelling front)) bytes)
   front_stands ends split = record {
     places = (StandAt-split 0 front later (subst (StandAt 0) (sym split) ends.stands.places)).0;
-    short = front_short ends split;
+    short = (both_short ends split).0;
     whole = ap (take (length (spelling front))) (front_split ends split) ∙ take-append_seam (spelling front) (spelling later ++ drop place bytes);
   }
 
@@ -169,7 +162,7 @@ run_here target end next place bytes all left later x ends p step n h =
     let within : next ≤ length bytes = omega (arith, n, ends_within target end place bytes all left later x ends p step) in
     let taken : length (take next bytes) ≡ next = length-take-le next bytes within in
     let whole : IsWhole (take next bytes) = subst (λ k. IsWhole (take k bytes)) (sym long) (front, front_stands bytes all front later place ends split) in
-    let last : AreShort (x ∷ later) = subst AreShort step (later_short bytes all p.passed left place ends p.split) in
+    let shorts = both_short bytes all p.passed left place ends p.split in
     let apart = front_split bytes all p.passed left place ends p.split
     ∙ ap (λ l. spelling p.passed ++ l) (ap (λ l. spelling l ++ drop place bytes) step ∙ append_assoc (frame_of x.body) (spelling later) (drop place bytes)) in
     record {
@@ -180,8 +173,8 @@ run_here target end next place bytes all left later x ends p step n h =
           let stands = subst (StandsFor w.0) same w.1 in
           let size : length (spelling w.0) ≡ m = ap length (sym stands.whole) ∙ length-take-le m bytes (omega (arith, less, taken, within)) in
           let before =
-          front_before p.passed w.0 x.body (drop m bytes) (spelling later ++ drop place bytes) (front_short bytes all p.passed left place ends p.split)
-          stands.short (head_short x later last)
+          front_before p.passed w.0 x.body (drop m bytes) (spelling later ++ drop place bytes) shorts.0
+          stands.short (head_short x later (subst AreShort step shorts.1))
           (ap (λ l. l ++ drop m bytes) (sym stands.whole) ∙ take-append-drop m bytes ∙ apart)
           (omega (arith, size, less, taken, n, p.ends, length-frame_of x.body)) in
           omega (arith, before, size, p.ends, p.below);

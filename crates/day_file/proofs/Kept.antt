@@ -1,13 +1,13 @@
 -- What a `Cut` keeps of its morsels, as it grows.
 use Rattle.std.proofs.Common.{◌≡◌, ℕ, zero, suc, ◌+◌, ◌<◌, ◌≤◌, List, [], ◌∷◌, ◌++◌, length, take, map, All, get_or, slice_get, Some, refl, sym, ap}
-use Rattle.std.proofs.Common.{◌∙◌, subst, append-nil, arith, Fits, w8}
+use Rattle.std.proofs.Common.{◌∙◌, subst, arith, Fits, w8}
 use Rattle.std.proofs.lemmas.List.{get_or_default}
 use Rattle.std.specs.List.{concat}
 use Rattle.std.proofs.lemmas.List.{length-append, length-map, map-append}
-use Rattle.std.proofs.lemmas.List.Folds.{concat-append}
+use Rattle.lists.proofs.Lists.{length-concat_push}
 use Rattle.std.proofs.lemmas.Option.{slice_get_read}
 use Rattle.std.proofs.Math.ListN.{get_or-map}
-use Rattle.std.proofs.lemmas.List.Elements.{All-append, All-cons, All-nil}
+use Rattle.std.proofs.lemmas.List.Elements.{All-nil, All-push}
 use Rattle.lists.specs.declared.limits.TheConstants.{LONGEST_FILE, MOST_MORSELS}
 use Rattle.day_file.specs.Cuts.{AreBytes, IsRun, MorselView, start_of}
 use Rattle.day_file.specs.Kept.{runs_of, numbered, AreMorsels}
@@ -47,11 +47,10 @@ AreMorsels-more morsels total run m r are few h =
     record {
       numbers = ap (λ l. l ++ last ∷ []) m.numbers
           ∙ sym (ap (numbered 0 0) grown ∙ numbered-last 0 0 runs run ∙ (λ i. numbered 0 0 runs ++ record { number = a i; start = b i; bytes = run } ∷ []));
-      runs = subst (All IsRun) (sym grown) (All-append IsRun runs (run ∷ []) m.runs (All-cons IsRun run [] r (All-nil _)));
-      bytes = subst (All AreBytes) (sym grown) (All-append AreBytes runs (run ∷ []) m.bytes (All-cons AreBytes run [] are (All-nil _)));
+      runs = subst (All IsRun) (sym grown) (All-push IsRun runs run m.runs r);
+      bytes = subst (All AreBytes) (sym grown) (All-push AreBytes runs run m.bytes are);
       few = omega (arith, few, length-append morsels (last ∷ []));
-      length_is = let joined : concat (runs ++ run ∷ []) ≡ concat runs ++ run = concat-append runs (run ∷ []) ∙ ap (λ l. concat runs ++ l) (append-nil run) in
-          omega (arith, m.length_is, ap (λ l. length (concat l)) grown, ap length joined, length-append (concat runs) run);
+      length_is = omega (arith, m.length_is, ap (λ l. length (concat l)) grown, length-concat_push runs run);
       within = h;
     }
 
@@ -66,11 +65,7 @@ pub numbered_at : (runs : List (List ℕ)) (k first start : ℕ) (m : MorselView
 numbered_at [] k first start m e = absurd (cc)
 numbered_at (run ∷ runs) zero first start m e =
     let same : record { number = first; start = start; bytes = run } ≡ m = cc in
-    record {
-      number_is = sym (ap (λ (v : MorselView). v.number) same) ∙ omega arith;
-      start_is = sym (ap (λ (v : MorselView). v.start) same) ∙ omega arith;
-      bytes_is = ap (λ (v : MorselView). Some v.bytes) same;
-    }
+    rw (← same) (record { number_is = omega arith; start_is = omega arith; bytes_is = refl })
 numbered_at (run ∷ runs) (suc k) first start m e =
     let later = numbered_at runs k (first + 1) (start + length run) m e in
     record {

@@ -45,9 +45,6 @@ head_short x xs h = h 0 x (omega arith)
 pub tail_short : (x : PlacedBody) (xs : List PlacedBody) → AreShort (x ∷ xs) → AreShort xs
 tail_short x xs h = All-tail (λ frame. IsShort frame.body) x xs h
 
-same_frame : (x y : PlacedBody) → x.place ≡ y.place → x.body ≡ y.body → x ≡ y
-same_frame x y p b = λ i. record { place = p i; body = b i }
-
 -- the first frame of a spelling, set apart
 spelling_first : (x : PlacedBody) (xs : List PlacedBody) (r : List ℕ) → spelling (x ∷ xs) ++ r ≡ frame_of x.body ++ (spelling xs ++ r)
 spelling_first x xs r = append_assoc (frame_of x.body) (spelling xs) r
@@ -68,7 +65,7 @@ same_split place (x ∷ xs) (y ∷ ys) r s px py hx hy jr js e =
     (sym (spelling_first x xs r) ∙ e ∙ spelling_first y ys s) in
     let later = same_split (place + length (frame_of x.body)) xs ys r s px.1 (subst (λ b. StandAt (place + length (frame_of b)) ys) (sym first.0) py.1)
     (tail_short x xs hx) (tail_short y ys hy) jr js first.1 in
-    (ap₂ ◌∷◌ (same_frame x y (px.0 ∙ sym py.0) first.0) later.0, later.1)
+    (ap₂ ◌∷◌ (λ i. record { place = (px.0 ∙ sym py.0) i; body = first.0 i }) later.0, later.1)
 
 -- bytes have one reading
 pub same_reading : (place : ℕ) (bytes : List ℕ) (xs ys : List PlacedBody) (r s : List ℕ) → IsReading place bytes xs r → IsReading place bytes ys s

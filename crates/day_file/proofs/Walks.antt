@@ -1,9 +1,10 @@
 -- The cursor's walk: one step of it, and that it reads the bytes.
-use Rattle.std.proofs.Common.{◌≡◌, ℕ, zero, suc, ◌+◌, ◌*◌, ◌/◌, ◌%◌, ◌<◌, ◌≤◌, ◌^◌, ◌==◌, ◌&&◌, Bool, true, false, List, ◌⊎◌, [], ◌∷◌, ◌++◌, length, take}
+use Rattle.std.proofs.Common.{◌≡◌, ℕ, zero, suc, ◌+◌, ◌*◌, ◌/◌, ◌%◌, ◌<◌, ◌≤◌, ◌^◌, ◌==◌, true, false, List, ◌⊎◌, [], ◌∷◌, ◌++◌, length, take}
 use Rattle.std.proofs.Common.{drop, slice_index, Option, Some, None, MatchOption, ⊎_elim, refl, sym, ap, ap₂, ◌∙◌, subst, append_assoc, arith, length-drop}
-use Rattle.std.proofs.Common.{nat_le, if◌then◌else◌}
+use Rattle.std.proofs.Common.{nat_le}
 use Rattle.std.specs.Option.{option_map_or}
-use Rattle.std.proofs.lemmas.Bool.{eqb-true, leb-true, le-leb}
+use Rattle.std.proofs.lemmas.Bool.{and_from, and_parts, cond-true, eqb-true, leb-true, le-leb}
+use Rattle.std.proofs.lemmas.Option.{cond_some}
 use Rattle.std.proofs.lemmas.List.{length-append, take-append-drop, length-take-le, get_or-drop, drop-drop}
 use Rattle.std.proofs.Math.Seq.{drop-length, drop-append_seam, take-append_seam}
 use Rattle.std.proofs.lemmas.List.Elements.{All-cons, All-nil}
@@ -16,11 +17,6 @@ use Rattle.day_file.proofs.Readings.{IsStuck-nil, length-spelling, length_told}
 
 -- ---- the first frame
 
-picked : (p q : Bool) (n size : ℕ) → (if p && q then Some n else None) ≡ Some size → (p ≡ true) × (q ≡ true) × (n ≡ size)
-picked true true n size e = (refl, refl, cc)
-picked true false n size e = absurd (cc)
-picked false q n size e = absurd (cc)
-
 -- where a whole frame stands, its length is in the first two bytes, and its body follows
 pub record HasFirst (bytes : List ℕ) (size : ℕ) : Type 0 where
   pub told : big_number 2 (take 2 bytes) ≡ size
@@ -29,25 +25,13 @@ pub record HasFirst (bytes : List ℕ) (size : ℕ) : Type 0 where
 
 pub first_length-some : (bytes : List ℕ) (size : ℕ) → first_length bytes ≡ Some size → HasFirst bytes size
 first_length-some bytes size e =
-    let n = big_number 2 (take 2 bytes) in
-    let p = picked (nat_le 2 (length bytes)) (nat_le n (length (drop 2 bytes))) n size e in
-    record {
-      told = p.2;
-      prefix = leb-true _ _ p.0;
-      body = subst (λ k. k ≤ length (drop 2 bytes)) p.2 (leb-true _ _ p.1);
-    }
-
-picks : (p q : Bool) (n size : ℕ) → p ≡ true → q ≡ true → n ≡ size → (if p && q then Some n else None) ≡ Some size
-picks true true n size a b e = ap Some e
-picks true false n size a b e = absurd (cc)
-picks false q n size a b e = absurd (cc)
+    let p = cond_some _ (big_number 2 (take 2 bytes)) size e in
+    let q = and_parts (nat_le 2 (length bytes)) _ p.0 in
+    record { told = p.1; prefix = leb-true _ _ q.0; body = omega (arith, leb-true _ _ q.1, p.1) }
 
 pub first_length-is : (bytes : List ℕ) (size : ℕ) → HasFirst bytes size → first_length bytes ≡ Some size
 first_length-is bytes size h =
-    let n = big_number 2 (take 2 bytes) in
-    let after = drop 2 bytes in
-    picks (nat_le 2 (length bytes)) (nat_le n (length after)) n size (le-leb _ _ h.prefix) (le-leb _ _ (subst (λ k. k ≤ length after) (sym h.told) h.body))
-    h.told
+    cond-true _ (Some (big_number 2 (take 2 bytes))) None (and_from _ _ (le-leb _ _ h.prefix) (le-leb _ _ (omega (arith, h.told, h.body)))) ∙ ap Some h.told
 
 same_map_or : (f g : ℕ → List PlacedBody) (o : Option ℕ) → ((x : ℕ) → o ≡ Some x → f x ≡ g x) → option_map_or f o [] ≡ option_map_or g o []
 same_map_or f g None h = refl
@@ -67,25 +51,18 @@ walk-enough (suc m) (suc n) place bytes p q =
     let shorter : length (drop size after) + 2 ≤ length bytes = omega (arith, length-drop size after, length-drop 2 bytes, h.prefix) in
     ap (λ later. record { place = place; body = take size after } ∷ later) (walk-enough m n (place + (2 + size)) (drop size after) (omega arith) (omega arith)))
 
-at_some : (f : ℕ → List PlacedBody) (o : Option ℕ) (x : ℕ) → o ≡ Some x → option_map_or f o [] ≡ f x
-at_some f o x e = ap (λ p. option_map_or f p []) e
-
-walk_step : (most place : ℕ) (bytes : List ℕ) (size : ℕ) → length bytes ≤ most → HasFirst bytes size →
-    walk most place bytes ≡ record { place = place; body = take size (drop 2 bytes) } ∷ walk (length (drop size (drop 2 bytes))) (place + (2 + size))
-    (drop size (drop 2 bytes))
-walk_step zero place bytes size p h = absurd (omega (arith, h.prefix))
-walk_step (suc most) place bytes size p h =
-    let after = drop 2 bytes in
-    at_some _ (first_length bytes) size (first_length-is bytes size h)
-    ∙ ap (λ later. record { place = place; body = take size after } ∷ later)
-    (walk-enough most (length (drop size after)) (place + (2 + size)) (drop size after)
-    (omega (arith, length-drop size after, length-drop 2 bytes, h.prefix)) (omega arith))
-
 -- the walk over bytes with a whole frame at their head
 pub walk_more : (place : ℕ) (bytes : List ℕ) (size : ℕ) → HasFirst bytes size →
     walk (length bytes) place bytes ≡ record { place = place; body = take size (drop 2 bytes) } ∷ walk (length (drop size (drop 2 bytes)))
     (place + (2 + size)) (drop size (drop 2 bytes))
-walk_more place bytes size h = walk_step (length bytes) place bytes size (omega arith) h
+walk_more place [] size h = absurd (omega (arith, h.prefix))
+walk_more place (x ∷ xs) size h =
+    let after = drop 2 (x ∷ xs) in
+    ap (λ o. option_map_or (λ n. record { place = place; body = take n after } ∷ walk (length xs) (place + (2 + n)) (drop n after)) o [])
+    (first_length-is (x ∷ xs) size h)
+    ∙ ap (λ later. record { place = place; body = take size after } ∷ later)
+    (walk-enough (length xs) (length (drop size after)) (place + (2 + size)) (drop size after)
+    (omega (arith, length-drop size after, length-drop 2 (x ∷ xs), h.prefix)) (omega arith))
 
 -- ---- what the walk reads
 

@@ -5,7 +5,7 @@ use Rattle.std.specs.List.{range_with_len, flat_map}
 use Rattle.std.specs.Prelude.{IsPermutation}
 use Rattle.std.proofs.Math.Nat.{mod-eq_of_lt, add-mod_left}
 use Rattle.std.proofs.lemmas.Bool.Decides.{nat_tests}
-use Rattle.std.proofs.lemmas.List.Sums.{sum_by-append, sum_by-cons}
+use Rattle.std.proofs.lemmas.List.Sums.{sum_by-cons}
 use Rattle.std.proofs.lemmas.List.Sorted.{IsPermutation-refl, IsPermutation-trans, IsPermutation-cons, IsPermutation-sym, IsPermutation-middle}
 use Rattle.std.proofs.lemmas.List.Sorted.{IsPermutation-to_front}
 use mathlib.Core.Logic.{dite}
@@ -15,20 +15,21 @@ use Rattle.atomic_table.specs.Table.{State}
 use Rattle.dispatcher.specs.declared.rule.View.{View}
 use Rattle.dispatcher.specs.declared.rule.Size.{Size}
 use Rattle.dispatcher.specs.Rule.{IsConsistent, occurrences, once_below}
-use Rattle.dispatcher.proofs.Occurrences.{none_below, range_suc}
+use Rattle.dispatcher.proofs.Occurrences.{none_below, occurs-append, occurs-cons}
+use Rattle.lists.proofs.Lists.{range_more}
 use Rattle.dispatcher.proofs.StepsKeepRule.{one_there, none_there}
 
 module _ {A : Type 0} where
   pub occurrences_flat : (f : A → List ℕ) (l : List A) (c : ℕ) → occurrences c (flat_map f l) ≡ sum_by (λ a. occurrences c (f a)) l
   occurrences_flat f [] c = refl
-  occurrences_flat f (a ∷ l) c = let p = sum_by-append (λ z. cond (z == c) 1 0) (f a) (flat_map f l) in let q = sum_by-cons (λ b. occurrences c (f b)) a l in
+  occurrences_flat f (a ∷ l) c = let p = occurs-append c (f a) (flat_map f l) in let q = sum_by-cons (λ b. occurrences c (f b)) a l in
       let r = occurrences_flat f l c in omega arith
 
 -- the list up to a number and from there on
 cut_at : (xs : List ℕ) (c : ℕ) → 0 < occurrences c xs → (front : List ℕ) × (back : List ℕ) × (xs ≡ front ++ c ∷ back)
 cut_at [] c h = absurd (omega arith)
 cut_at (x ∷ xs) c h = dite (ℕ_discrete x c) (λ is. ([], xs, ap (λ (y : ℕ). y ∷ xs) is))
-    (λ no. let p = sum_by-cons (λ z. cond (z == c) 1 0) x xs in let zero_here = none_there c x (λ e. no (sym e)) in
+    (λ no. let p = occurs-cons c x xs in let zero_here = none_there c x (λ e. no (sym e)) in
     let r = cut_at xs c (omega (arith, zero_here)) in (x ∷ r.0, r.1, ap (λ (ys : List ℕ). x ∷ ys) r.2))
 
 next_below : (n c : ℕ) → once_below (suc n) c ≡ once_below n c + cond (n == c) 1 0
@@ -36,15 +37,15 @@ next_below n c = grind (arith, nat_tests)
 
 pub once_each_in_order : (n : ℕ) (xs : List ℕ) → ((c : ℕ) → occurrences c xs ≡ once_below n c) → IsPermutation xs (range_with_len 0 n)
 once_each_in_order zero [] h = IsPermutation-refl []
-once_each_in_order zero (x ∷ xs) h = let p = sum_by-cons (λ z. cond (z == x) 1 0) x xs in let here = one_there x x refl in let none_at = none_below x in
+once_each_in_order zero (x ∷ xs) h = let p = occurs-cons x x xs in let here = one_there x x refl in let none_at = none_below x in
     let e = h x in absurd (omega (arith, here, none_at))
 once_each_in_order (suc n) xs h = let last_once = next_below n n in let here = one_there n n refl in let e = h n in
     let r = cut_at xs n (omega (arith, last_once, here)) in let front : List ℕ = r.0 in let back : List ℕ = r.1 in
     let rest = once_each_in_order n (front ++ back) (λ c. let w : occurrences c xs ≡ occurrences c (front ++ n ∷ back) = ap (occurrences c) r.2 in
-    let p = sum_by-append (λ z. cond (z == c) 1 0) front (n ∷ back) in let q = sum_by-cons (λ z. cond (z == c) 1 0) n back in
-    let s = sum_by-append (λ z. cond (z == c) 1 0) front back in let more = next_below n c in let k = h c in omega (arith, more)) in
+    let p = occurs-append c front (n ∷ back) in let q = occurs-cons c n back in
+    let s = occurs-append c front back in let more = next_below n c in let k = h c in omega (arith, more)) in
     subst (λ (ys : List ℕ). IsPermutation ys (range_with_len 0 (suc n))) (sym r.2)
-    (subst (IsPermutation (front ++ n ∷ back)) (sym (range_suc n))
+    (subst (IsPermutation (front ++ n ∷ back)) (sym (range_more 0 n n (omega arith)))
     (IsPermutation-trans _ _ _ (IsPermutation-middle front n back)
     (IsPermutation-trans _ _ _ (IsPermutation-cons n _ _ rest) (IsPermutation-sym _ _ (IsPermutation-to_front (range_with_len 0 n) n)))))
 

@@ -1,5 +1,5 @@
 -- The views of seats that are gathered one by one, and what is then known of all seats.
-use Rattle.std.proofs.Common.{◌≡◌, ℕ, suc, ◌+◌, ◌<◌, ◌==◌, Bool, true, false, cond, List, [], ◌∷◌, get_or, length, Any, Contains, sum_by, sym, refl, ap, ◌∙◌}
+use Rattle.std.proofs.Common.{◌≡◌, ℕ, suc, ◌+◌, ◌<◌, ◌==◌, Bool, true, false, List, [], ◌∷◌, get_or, length, Any, Contains, sum_by, sym, refl, ap, ◌∙◌}
 use Rattle.std.proofs.Common.{⊎_elim, slice_index, arith, eqb-true, eq-eqb}
 use Rattle.std.proofs.lemmas.List.Sums.{sum_by-cons, get_or-le-sum_by}
 use Rattle.std.proofs.Math.ListN.{get_or-eq_default}
@@ -7,13 +7,13 @@ use mathlib.Core.Logic.{dite}
 use native.Mathlib.Decide.{dec_lt, ℕ_discrete}
 use Rattle.dispatcher.specs.declared.seat.Seat.{Seat}
 use Rattle.dispatcher.specs.Rule.{occurrences, IsMarkWord}
-use Rattle.dispatcher.proofs.Occurrences.{occurs_contained}
+use Rattle.dispatcher.proofs.Occurrences.{occurs-cons, occurs_contained}
 use Rattle.dispatcher.proofs.StepsKeepRule.{none_there}
 
 contained : (xs : List ℕ) (t : ℕ) → 0 < occurrences t xs → Contains xs t
 contained [] t h = absurd (omega arith)
 contained (x ∷ xs) t h = dite (ℕ_discrete x t) (λ is. (0, omega arith, is))
-    (λ no. let p = sum_by-cons (λ z. cond (z == t) 1 0) x xs in let zero_here = none_there t x (λ e. no (sym e)) in let r =
+    (λ no. let p = occurs-cons t x xs in let zero_here = none_there t x (λ e. no (sym e)) in let r =
     contained xs t (omega (arith, zero_here)) in (suc r.0, omega arith, r.2))
 
 -- some seat has the number in its list

@@ -1,10 +1,10 @@
 -- Sums over the views of all seats, and how often a number is in a list.
-use Rattle.std.proofs.Common.{◌≡◌, ℕ, zero, suc, ◌+◌, ◌*◌, ◌<◌, ◌≤◌, ◌==◌, nat_le, cond, List, [], ◌∷◌, ◌++◌, set, get_or, take, drop, length, replicate}
-use Rattle.std.proofs.Common.{slice_index, All, Contains, sum_by, sym, refl, ap, subst, ◌∙◌, arith, le_refl, length-append}
+use Rattle.std.proofs.Common.{◌≡◌, ℕ, zero, suc, ◌+◌, ◌*◌, ◌<◌, ◌≤◌, ◌==◌, nat_le, cond, List, [], ◌∷◌, ◌++◌, set, get_or, take, drop, length}
+use Rattle.std.proofs.Common.{All, Contains, sum_by, sym, refl, ap, subst, arith, le_refl}
 use mathlib.Core.Option.{some, some-injective, some-ne-none}
 use lib.ListN.{get_elem?}
 use Rattle.std.specs.List.{range_with_len}
-use Rattle.std.proofs.lemmas.List.Sums.{sum_by-set, sum_by-cons, sum_by_push, sum_by-take-drop, get_or-le-sum_by}
+use Rattle.std.proofs.lemmas.List.Sums.{sum_by-append, sum_by-set, sum_by-cons, sum_by_push, sum_by-take-drop, get_or-le-sum_by}
 use Rattle.std.proofs.lemmas.Bool.Decides.{nat_tests}
 use Rattle.dispatcher.specs.Rule.{occurrences, once_below, late_count}
 
@@ -30,6 +30,12 @@ module _ {A : Type 0} where
 pub occurs_snoc : (x : ℕ) (xs : List ℕ) (y : ℕ) → occurrences x (xs ++ y ∷ []) ≡ occurrences x xs + cond (y == x) 1 0
 occurs_snoc x xs y = sum_by_push (λ z. cond (z == x) 1 0) xs y
 
+pub occurs-append : (x : ℕ) (xs ys : List ℕ) → occurrences x (xs ++ ys) ≡ occurrences x xs + occurrences x ys
+occurs-append x xs ys = sum_by-append (λ z. cond (z == x) 1 0) xs ys
+
+pub occurs-cons : (x y : ℕ) (ys : List ℕ) → occurrences x (y ∷ ys) ≡ cond (y == x) 1 0 + occurrences x ys
+occurs-cons x y ys = sum_by-cons (λ z. cond (z == x) 1 0) y ys
+
 pub late_snoc : (tasks : ℕ) (xs : List ℕ) (y : ℕ) → late_count tasks (xs ++ y ∷ []) ≡ late_count tasks xs + cond (nat_le (2 * tasks) y) 1 0
 late_snoc tasks xs y = sum_by_push (λ z. cond (nat_le (2 * tasks) z) 1 0) xs y
 
@@ -54,22 +60,12 @@ none_late tasks (x ∷ xs) h = let one : x < 2 * tasks = h 0 0 (omega arith) in 
     let p = sum_by-cons (λ z. cond (nat_le (2 * tasks) z) 1 0) x xs in let no : ◌≡◌ {A = ℕ} (cond (nat_le (2 * tasks) x) 1 0) 0 = grind (arith, nat_tests) in
     omega (arith, no)
 
-pub length_range : (a n : ℕ) → length (range_with_len a n) ≡ n
-length_range a zero = refl
-length_range a (suc n) = let r = length_range (a + 1) n in omega arith
-
 -- a range has each of its numbers once
 pub occurs_range : (x a n : ℕ) → occurrences x (range_with_len a n) + once_below a x ≡ once_below (a + n) x
-occurs_range x a zero = let e : once_below a x ≡ once_below (a + 0) x = ap (λ (m : ℕ). once_below m x) (plus_none a) in omega (arith, e)
-  where
-    plus_none : (a : ℕ) → a ≡ a + 0
-    plus_none a = omega arith
-occurs_range x a (suc n) = let rest = occurs_range x (a + 1) n in let first = sum_by-cons (λ z. cond (z == x) 1 0) a (range_with_len (a + 1) n) in let next =
-    one_more_below a x in
-    subst (λ (m : ℕ). occurrences x (range_with_len a (suc n)) + once_below a x ≡ once_below m x) (shift a n) (omega arith)
-  where
-    shift : (a n : ℕ) → a + 1 + n ≡ a + suc n
-    shift a n = omega arith
+occurs_range x a zero = let e : a + 0 ≡ a = omega arith in rw e (omega arith)
+occurs_range x a (suc n) =
+    let e : a + suc n ≡ a + 1 + n = omega arith in
+    rw e (omega (arith, occurs_range x (a + 1) n, sum_by-cons (λ z. cond (z == x) 1 0) a (range_with_len (a + 1) n), one_more_below a x))
 
 pub none_below : (x : ℕ) → ◌≡◌ {A = ℕ} (once_below 0 x) 0
 none_below x = grind (arith, nat_tests)
@@ -102,43 +98,5 @@ module _ {A : Type 0} where
   alone x zero u e = some-injective x u e
   alone x (suc i) u e = absurd (some-ne-none u (sym e))
 
-pub zero_word : (n i : ℕ) → slice_index (replicate n 0) i ≡ 0
-zero_word zero i = refl
-zero_word (suc n) zero = refl
-zero_word (suc n) (suc i) = zero_word n i
-
-range_snoc : (a n : ℕ) → range_with_len a (suc n) ≡ range_with_len a n ++ (a + n) ∷ []
-range_snoc a zero = ap (λ (k : ℕ). k ∷ []) (plus_none a)
-  where
-    plus_none : (a : ℕ) → a ≡ a + 0
-    plus_none a = omega arith
-range_snoc a (suc n) = ap (λ (l : List ℕ). a ∷ l) (range_snoc (a + 1) n ∙ ap (λ (k : ℕ). range_with_len (a + 1) n ++ k ∷ []) (shift a n))
-  where
-    shift : (a n : ℕ) → a + 1 + n ≡ a + suc n
-    shift a n = omega arith
-
--- the numbers below n, and n
-pub range_suc : (n : ℕ) → range_with_len 0 (suc n) ≡ range_with_len 0 n ++ n ∷ []
-range_suc n = range_snoc 0 n ∙ ap (λ (k : ℕ). range_with_len 0 n ++ k ∷ []) (plain n)
-  where
-    plain : (n : ℕ) → 0 + n ≡ n
-    plain n = omega arith
-
-pub range_push : (n : ℕ) → range_with_len 0 (n + 1) ≡ range_with_len 0 n ++ n ∷ []
-range_push n = ap (range_with_len 0) (next n) ∙ range_suc n
-  where
-    next : (n : ℕ) → n + 1 ≡ suc n
-    next n = omega arith
-
 pub drop_range : (a n m : ℕ) → n ≡ suc m → drop 1 (range_with_len a n) ≡ range_with_len (a + 1) m
 drop_range a n m e = ap (λ (k : ℕ). drop 1 (range_with_len a k)) e
-
-module _ {A : Type 0} where
-  at_end : (l : List A) (x d : A) → get_or (l ++ x ∷ []) (length l) d ≡ x
-  at_end [] x d = refl
-  at_end (y ∷ l) x d = at_end l x d
-
-  -- what holds of each element holds of the last
-  pub holds_of_last : (P : A → Type 0) (l : List A) (x : A) (m : List A) → m ≡ l ++ x ∷ [] → All P m → P x
-  holds_of_last P l x m e all = let n : length m ≡ length (l ++ x ∷ []) = ap length e in let k = length-append l (x ∷ []) in
-      subst P (ap (λ (z : List A). get_or z (length l) x) e ∙ at_end l x x) (all (length l) x (omega arith))

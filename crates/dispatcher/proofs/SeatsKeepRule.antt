@@ -5,6 +5,8 @@ use mathlib.Core.Option.{some}
 use lib.ListN.{get_elem?}
 use Rattle.std.specs.List.{range_with_len}
 use Rattle.std.proofs.lemmas.List.{length-replicate}
+use Rattle.std.proofs.lemmas.List.FromFn.{length-range_with_len}
+use Rattle.lists.proofs.Lists.{get_or-replicate_itself}
 use Rattle.std.proofs.lemmas.List.Sums.{sum_by_push, sum_by-append}
 use Rattle.atomic_table.specs.Table.{State, opening, Splits, Joins}
 use Rattle.atomic_table.proofs.Lists.{at_set, at_snoc, set_else}
@@ -12,7 +14,7 @@ use Rattle.lists.specs.declared.limits.TheConstants.{MOST_TASKS, MOST_SEATS}
 use Rattle.dispatcher.specs.declared.rule.View.{View}
 use Rattle.dispatcher.specs.declared.rule.Size.{Size}
 use Rattle.dispatcher.specs.Rule.{IsConsistent, IsFair, IsMarkWord, occurrences, once_below, late_count, unused_view, everyone, others, first_seat, joined_view}
-use Rattle.dispatcher.proofs.Occurrences.{sum_set, length_range, occurs_range, none_below, sum_cut, length_cut, only_one, alone, zero_word}
+use Rattle.dispatcher.proofs.Occurrences.{sum_set, occurs_range, none_below, occurs-append, sum_cut, length_cut, only_one, alone}
 use Rattle.dispatcher.proofs.StepsKeepRule.{same_mark, at_most}
 
 abbrev St : Type 0
@@ -29,9 +31,9 @@ opens size words tasks seats zeros = record {
   claims_once = λ x. subst (λ (n : ℕ). 0 ≡ once_below n x) (sym first_word) (sym (none_below x));
   numbers_once = λ k. let r = occurs_range k 0 size.seats in let zero_below = none_below k in
       subst (λ (n : ℕ). 0 + occurrences k (range_with_len 0 size.seats) ≡ once_below n k) (plus size.seats) (omega (arith, zero_below));
-  all_seats = let r = length_range 0 size.seats in omega arith;
+  all_seats = omega (arith, length-range_with_len 0 size.seats);
   few = let empty = first_word in omega arith;
-  marks = λ t. inl (ap (λ (l : List ℕ). slice_index l (t + 1)) zeros ∙ zero_word (size.tasks + 1) (t + 1), refl, refl);
+  marks = λ t. inl (ap (λ (l : List ℕ). slice_index l (t + 1)) zeros ∙ get_or-replicate_itself (size.tasks + 1) (t + 1) 0, refl, refl);
   each = λ id v e. subst (IsFair size) (alone (everyone size) id v e) (unused_is_fair size (range_with_len 0 size.seats));
 }
   where
@@ -39,7 +41,7 @@ opens size words tasks seats zeros = record {
     plus n = omega arith
 
     first_word : slice_index words 0 ≡ 0
-    first_word = ap (λ (l : List ℕ). slice_index l 0) zeros ∙ zero_word (size.tasks + 1) 0
+    first_word = ap (λ (l : List ℕ). slice_index l 0) zeros ∙ get_or-replicate_itself (size.tasks + 1) 0 0
 
 -- other views, with the same sums
 regrouped : (size : Size) (s : St) → IsConsistent size s → (views : List View)
@@ -95,14 +97,13 @@ pub joins : (size : Size) (id : ℕ) (v : View) (other : ℕ) (w : View) → Joi
 joins size id v other w s r at apart there = let u : View = joined_view v w in let there' : get_elem? s.views other ≡ some w =
     sym (set_else s.views id other u apart) ∙ there in
     regrouped size s r (set (set s.views id u) other (unused_view []))
-    (λ x. sums (λ u. occurrences x u.claims) (sum_by-append (λ z. Rattle.std.proofs.Common.cond (Rattle.std.proofs.Common.eqb z x) 1 0) v.claims w.claims) refl)
-    (λ x. sums (λ u. occurrences x u.numbers) (sum_by-append (λ z. Rattle.std.proofs.Common.cond (Rattle.std.proofs.Common.eqb z x) 1 0) v.numbers w.numbers)
-    refl)
+    (λ x. sums (λ u. occurrences x u.claims) (occurs-append x v.claims w.claims) refl)
+    (λ x. sums (λ u. occurrences x u.numbers) (occurs-append x v.numbers w.numbers) refl)
     (sums (λ u. length u.numbers) (length-append v.numbers w.numbers) refl)
     (sums (λ u. late_count size.tasks u.claims)
     (sum_by-append (λ z. Rattle.std.proofs.Common.cond (Rattle.std.proofs.Common.leb (2 * size.tasks) z) 1 0) v.claims w.claims) refl)
-    (λ x. sums (λ u. occurrences x u.marked) (sum_by-append (λ z. Rattle.std.proofs.Common.cond (Rattle.std.proofs.Common.eqb z x) 1 0) v.marked w.marked) refl)
-    (λ x. sums (λ u. occurrences x u.seen) (sum_by-append (λ z. Rattle.std.proofs.Common.cond (Rattle.std.proofs.Common.eqb z x) 1 0) v.seen w.seen) refl)
+    (λ x. sums (λ u. occurrences x u.marked) (occurs-append x v.marked w.marked) refl)
+    (λ x. sums (λ u. occurrences x u.seen) (occurs-append x v.seen w.seen) refl)
     (λ j z e. ⊎_elim (λ spent. subst (IsFair size) spent.1 (unused_is_fair size []))
     (λ was. ⊎_elim (λ hit. subst (IsFair size) hit.1 (unused_pair size v w (r.each id v at) (r.each other w there'))) (λ miss. r.each j z miss.1)
     (at_set s.views id j u z was.1))

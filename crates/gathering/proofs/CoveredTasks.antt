@@ -4,38 +4,16 @@ use Rattle.std.proofs.Common.{get_or, set, nat_lt, replicate, is_some, refl, sym
 use Rattle.std.proofs.lemmas.Grind.{get_or-set_at}
 use Rattle.std.proofs.lemmas.List.{get_or-set_other}
 use Rattle.std.proofs.Math.ListN.{get_or-eq_default, length-set}
-use Rattle.std.proofs.lemmas.Bool.{cases_lt}
-use Rattle.std.proofs.lemmas.Option.{get_or_from_slice_get, slice_get_read}
+use Rattle.std.proofs.lemmas.Bool.{cases_lt, le-ltb, lt-ltb, or_from, or_left, or_right}
 use Rattle.std.proofs.lemmas.Bool.Decides.{nat_tests, eqb_tells}
 use Rattle.std.specs.Ordering.{nat_cmp}
 use Rattle.std.specs.FinSet.{FinSet, contains, contains-empty, insert, empty, union, contains-union, same_set, members, nat_cmp-IsAntisymmetric}
 use Rattle.std.specs.Cmp.{nat_cmp_total}
+use Rattle.lists.proofs.Lists.{get_or-replicate_itself}
 use Rattle.gathering.specs.Kept.{passing_below, covered_tasks}
 
--- an element that is read, whatever stands past the end
-pub get_or_read : {X : Type 0} (xs : List X) (i : ℕ) (x d : X) → i < length xs → x ≡ get_or xs i x → get_or xs i d ≡ x
-get_or_read xs i x d h e = get_or_from_slice_get xs i x d (slice_get_read xs (length xs) i x refl h e)
-
-pub neither : (a b : Bool) → a ≡ false → b ≡ false → (a || b) ≡ false
-neither true b p q = cc
-neither false b p q = q
-
-pub either_way : (a b : Bool) → b ≡ true → (a || b) ≡ true
-either_way true b h = refl
-either_way false b h = h
-
-pub lt_past : (k n : ℕ) → n ≤ k → nat_lt k n ≡ false
-lt_past k n h = grind (arith, nat_tests)
-
-pub lt_within : (k n : ℕ) → k < n → nat_lt k n ≡ true
-lt_within k n h = grind (arith, nat_tests)
-
-pub lt_other : (k p : ℕ) → k ≢ p → nat_lt k (p + 1) ≡ nat_lt k p
+lt_other : (k p : ℕ) → k ≢ p → nat_lt k (p + 1) ≡ nat_lt k p
 lt_other k p h = grind (arith, nat_tests)
-
-pub or_left : (a b : Bool) → a ≡ true → (a || b) ≡ true
-or_left true b h = refl
-or_left false b h = cc
 
 step : (s : FinSet nat_cmp) (b : Bool) (n k : ℕ) → contains (cond b (insert s n) s) k ≡ ((b && (k == n)) || contains s k)
 step s true n k = grind (members, rules)
@@ -74,7 +52,7 @@ module _ {X : Type 0} where
     | inl within ↦ contains_within (λ j. nat_lt j p || is_some (get_or places j None)) (length places) k within
     | inr past ↦
         contains_past (λ j. nat_lt j p || is_some (get_or places j None)) (length places) k past
-        ∙ sym (neither _ _ (lt_past k p (omega arith)) (ap is_some (get_or-eq_default places None past)))
+        ∙ sym (or_from _ _ (le-ltb k p (omega arith)) (ap is_some (get_or-eq_default places None past)))
   ]
 
   -- places that cover what the set has
@@ -86,7 +64,7 @@ module _ {X : Type 0} where
   pub covered-set : (p : ℕ) (places : List (Option X)) (t : ℕ) (x : X) → p ≤ length places → t < length places
       → covered_tasks p (set places t (Some x)) ≡ insert (covered_tasks p places) t
   covered-set p places t x fits h = covered_as p (set places t (Some x)) (omega (arith, length-set places t (Some x))) _ (λ k. elim (eqb_tells k t) [
-    | inl same ↦ either_way _ _ (ap is_some (get_or-set_at places t k (Some x) None same.1 h)) ∙ sym (insert_at (covered_tasks p places) t k same.1)
+    | inl same ↦ or_right _ _ (ap is_some (get_or-set_at places t k (Some x) None same.1 h)) ∙ sym (insert_at (covered_tasks p places) t k same.1)
     | inr other ↦
         (λ i. nat_lt k p || is_some (get_or-set_other places t k (Some x) None other.1 i))
         ∙ sym (contains-covered p places fits k) ∙ sym (step_other (covered_tasks p places) true t k other.1)
@@ -109,23 +87,18 @@ module _ {X : Type 0} where
       let fits : (p + 1) ≤ length (set places p None) = omega (arith, length-set {A = Option X} places p None) in
       covered_as (p + 1) (set places p None) fits _ (λ k. elim (eqb_tells k p) [
         | inl same ↦
-            or_left _ _ (lt_within k (p + 1) (omega (arith, same.1)))
+            or_left _ _ (lt-ltb k (p + 1) (omega (arith, same.1)))
             ∙ sym (contains-covered p places (omega arith) k
-            ∙ either_way _ _ (subst (λ m. is_some (get_or places m None) ≡ true) (sym same.1) (ap is_some here)))
+            ∙ or_right _ _ (subst (λ m. is_some (get_or places m None) ≡ true) (sym same.1) (ap is_some here)))
         | inr other ↦
             (λ i. lt_other k p other.1 i || is_some (get_or-set_other {A = Option X} places p k None None other.1 i))
             ∙ sym (contains-covered p places (omega arith) k)
       ])
 
-none_within : (X : Type 0) (n k : ℕ) → get_or (replicate {A = Option X} n None) k None ≡ None
-none_within X zero k = refl
-none_within X (suc n) zero = refl
-none_within X (suc n) (suc k) = none_within X n k
-
 pub covered-replicate : (X : Type 0) (n : ℕ) → covered_tasks 0 (replicate {A = Option X} n None) ≡ empty
 covered-replicate X n =
     covered_as 0 _ (omega arith) empty (λ k.
-    neither _ _ (lt_past k 0 (omega arith)) (ap is_some (none_within X n k)) ∙ sym (contains-empty nat_cmp k))
+    or_from _ _ (le-ltb k 0 (omega arith)) (ap is_some (get_or-replicate_itself n k None)) ∙ sym (contains-empty nat_cmp k))
 
 -- a member is put in again
 pub insert_member : (s : FinSet nat_cmp) (t : ℕ) → contains s t ≡ true → insert s t ≡ s

@@ -1,17 +1,10 @@
 -- Lists of equal inputs have equal inputs at each index and the same values, and a list is equal to itself. For who implements a work or stands on a gathering.
 use Rattle.std.specs.Prelude.{◌≡◌, ℕ, zero, suc, Bool, true, false, ◌&&◌, List, [], ◌∷◌, Some, map, slice_get, take, refl}
+use Rattle.std.proofs.lemmas.Bool.{and_parts}
 use Rattle.std.specs.Cmp.{IsEquivalence}
 use Rattle.std.specs.Cmp.Lexicographic.{lists_equiv}
 use Rattle.gathering.specs.Adding.{same_inputs}
 use Rattle.gathering.specs.Views.{belongs}
-
-and_left : (a b : Bool) → (a && b) ≡ true → a ≡ true
-and_left true b h = refl
-and_left false b h = h
-
-and_right : (a b : Bool) → (a && b) ≡ true → b ≡ true
-and_right true b h = h
-and_right false b h = cc
 
 module _ {A : Type 0} (eq : A → A → Bool) where
   -- lists of equal inputs are equal at one index
@@ -19,22 +12,19 @@ module _ {A : Type 0} (eq : A → A → Bool) where
       → slice_get xs i ≡ Some x → slice_get ys i ≡ Some y → eq x y ≡ true
   same_at [] ys i x y h p q = cc
   same_at (a ∷ xs) [] i x y h p q = cc
-  same_at (a ∷ xs) (b ∷ ys) zero x y h p q = let k : eq a b ≡ true = and_left (eq a b) _ h in cc
-  same_at (a ∷ xs) (b ∷ ys) (suc i) x y h p q = same_at xs ys i x y (and_right (eq a b) _ h) p q
+  same_at (a ∷ xs) (b ∷ ys) zero x y h p q = let k : eq a b ≡ true = (and_parts (eq a b) _ h).0 in cc
+  same_at (a ∷ xs) (b ∷ ys) (suc i) x y h p q = same_at xs ys i x y (and_parts (eq a b) _ h).1 p q
 
   -- the first n of lists of equal inputs are equal
   pub same-take : (n : ℕ) (xs ys : List A) → same_inputs eq xs ys ≡ true → same_inputs eq (take n xs) (take n ys) ≡ true
-  same-take n [] [] h = take_none n
-    where
-      take_none : (n : ℕ) → same_inputs eq (take n []) (take n []) ≡ true
-      take_none zero = refl
-      take_none (suc n) = refl
+  same-take zero [] [] h = refl
+  same-take (suc n) [] [] h = refl
   same-take n [] (y ∷ ys) h = cc
   same-take n (x ∷ xs) [] h = cc
   same-take zero (x ∷ xs) (y ∷ ys) h = refl
   same-take (suc n) (x ∷ xs) (y ∷ ys) h =
-      let first : eq x y ≡ true = and_left (eq x y) _ h in
-      let rest = same-take n xs ys (and_right (eq x y) _ h) in
+      let first : eq x y ≡ true = (and_parts (eq x y) _ h).0 in
+      let rest = same-take n xs ys (and_parts (eq x y) _ h).1 in
       rw first rest
 
   -- what is made of each input alone is the same for equal inputs
@@ -44,8 +34,8 @@ module _ {A : Type 0} (eq : A → A → Bool) where
   map_alike f alike [] (y ∷ ys) h = cc
   map_alike f alike (x ∷ xs) [] h = cc
   map_alike f alike (x ∷ xs) (y ∷ ys) h =
-      let first = alike x y (and_left (eq x y) _ h) in
-      let rest = map_alike f alike xs ys (and_right (eq x y) _ h) in
+      let first = alike x y ((and_parts (eq x y) _ h).0) in
+      let rest = map_alike f alike xs ys (and_parts (eq x y) _ h).1 in
       cc
 
   -- a list of inputs is the same as itself

@@ -1,9 +1,9 @@
 -- The steps of a gathering that keeps a total of its first inputs.
 use Rattle.std.proofs.Common.{◌≡◌, ℕ, ◌+◌, ◌<◌, ◌≤◌, Bool, true, false, ◌||◌, nat_lt, List, Option, Some, None, length, take, get_or, set, is_some, sym}
-use Rattle.std.proofs.Common.{◌∙◌, ap, arith, inl, inr, ⊎_elim, subst}
+use Rattle.std.proofs.Common.{◌∙◌, ap, arith, inl, inr, ⊎_elim, subst, subst₂}
 use Rattle.std.proofs.lemmas.Grind.{get_or-set_at}
 use Rattle.std.proofs.lemmas.List.{get_or-set_other, take_all}
-use Rattle.std.proofs.lemmas.Bool.{cases_lt}
+use Rattle.std.proofs.lemmas.Bool.{cases_lt, le-ltb, lt-ltb, or_left, or_right}
 use Rattle.std.proofs.lemmas.Bool.Decides.{eqb_tells}
 use Rattle.std.specs.Cmp.{IsEquivalence}
 use Rattle.std.specs.Cmp.Lexicographic.{as_long}
@@ -11,13 +11,10 @@ use Rattle.std.specs.FinSet.{union}
 use Rattle.gathering.specs.Adding.{same_inputs}
 use Rattle.gathering.specs.Kept.{IsFolded, covered_tasks, either, unless}
 use Rattle.gathering.specs.Views.{PieceView, IsComplete, belongs}
-use Rattle.gathering.proofs.CoveredTasks.{covered-union, either_way, or_left, lt_past, lt_within}
+use Rattle.gathering.proofs.CoveredTasks.{covered-union}
 use Rattle.gathering.proofs.EqualInputs.{same-take}
 use Rattle.gathering.proofs.FirstMissing.{view, complete_from}
 use Rattle.gathering.proofs.KeptPieces.{IsKept-file, IsKept-drop, IsKept-merge, is_some-either}
-
-subst2 : {X Y : Type 0} (P : X → Y → Type 0) {a b : X} {c d : Y} → a ≡ b → c ≡ d → P a c → P b d
-subst2 P {a} {b} {c} {d} e h p = subst (λ y. P b y) h (subst (λ x. P x c) e p)
 
 -- the greater of two numbers p and q is r, and c is what goes with it
 pub record IsLonger {C : Type 0} (p q r : ℕ) (a b c : C) : Type 0 where
@@ -53,10 +50,6 @@ module _ {A C : Type 0} (eq : A → A → Bool) (IsTotalOf : List A → C → Ty
     dropped = λ k below. get_or-set_other places piece.number k (Some piece) None (λ e. omega arith) ∙ folded.dropped k below;
   }
 
-  no_some : {X : Type 0} (o : Option X) → is_some o ≡ true → o ≡ None → ⊥
-  no_some None some gap = cc
-  no_some (Some x) some gap = cc
-
   -- where no task is missing and the place p is empty, the total is whole
   pub whole : (p : ℕ) (total : C) (places : List (Option (PieceView A))) (folded : IsFolded eq IsTotalOf inputs p total places)
       → IsComplete (view inputs p places folded.kept.one_each folded.within) → get_or places p None ≡ None → IsTotalOf inputs total
@@ -64,7 +57,7 @@ module _ {A C : Type 0} (eq : A → A → Bool) (IsTotalOf : List A → C → Ty
       ⊎_elim
       (λ below.
       let some = complete_from inputs p places folded.kept.one_each folded.within all p (omega arith) below in
-      absurd (no_some _ some gap))
+      absurd (cc))
       (λ past. subst (λ xs. IsTotalOf xs total) (take_all p inputs past) folded.total_is)
       (cases_lt p (length inputs))
 
@@ -93,31 +86,29 @@ module _
           (cases_lt p q);
       total_is = ⊎_elim
           (λ less.
-          subst2 (λ n t. IsTotalOf (take n inputs) t) (sym (chosen.longer less).0) (sym (chosen.longer less).1)
+          subst₂ (λ n t. IsTotalOf (take n inputs) t) (sym (chosen.longer less).0) (sym (chosen.longer less).1)
           (equal_totals (take q inputs) (take q others) (same-take eq q inputs others same) b theirs.total_is))
-          (λ more. subst2 (λ n t. IsTotalOf (take n inputs) t) (sym (chosen.own more).0) (sym (chosen.own more).1) folded.total_is)
+          (λ more. subst₂ (λ n t. IsTotalOf (take n inputs) t) (sym (chosen.own more).0) (sym (chosen.own more).1) folded.total_is)
           (cases_lt p q);
-      dropped = λ k below. united k ∙ ap (λ t. unless t (either (get_or own k None) (get_or their k None))) (lt_within k r below);
+      dropped = λ k below. united k ∙ ap (λ t. unless t (either (get_or own k None) (get_or their k None))) (lt-ltb k r below);
     }
 
     by_place : (x y z : Bool) (o s t : Option (PieceView A)) → x ≡ false → y ≡ false → z ≡ false → o ≡ unless x (either s t)
         → (x || is_some o) ≡ ((y || is_some s) || (z || is_some t))
     by_place false false false o s t a b c h = ap is_some h ∙ is_some-either s t
-    by_place true y z o s t a b c h = cc
-    by_place false true z o s t a b c h = cc
-    by_place false false true o s t a b c h = cc
+    by_place x y z o s t a b c h = absurd (cc)
 
     either_covers : (k : ℕ) → (nat_lt k r || is_some (get_or both k None))
         ≡ ((nat_lt k p || is_some (get_or own k None)) || (nat_lt k q || is_some (get_or their k None)))
     either_covers k =
         ⊎_elim
-        (λ below. or_left _ _ (lt_within k r below) ∙ sym (⊎_elim
-        (λ less. either_way _ _ (or_left _ _ (lt_within k q (let e = (chosen.longer less).0 in omega arith))))
-        (λ more. or_left _ _ (or_left _ _ (lt_within k p (let e = (chosen.own more).0 in omega arith))))
+        (λ below. or_left _ _ (lt-ltb k r below) ∙ sym (⊎_elim
+        (λ less. or_right _ _ (or_left _ _ (lt-ltb k q (let e = (chosen.longer less).0 in omega arith))))
+        (λ more. or_left _ _ (or_left _ _ (lt-ltb k p (let e = (chosen.own more).0 in omega arith))))
         (cases_lt p q)))
         (λ past.
         let l = least in
-        by_place _ _ _ _ _ _ (lt_past k r past) (lt_past k p (omega arith)) (lt_past k q (omega arith)) (united k))
+        by_place _ _ _ _ _ _ (le-ltb k r past) (le-ltb k p (omega arith)) (le-ltb k q (omega arith)) (united k))
         (cases_lt k r)
 
     pub covered-merge : covered_tasks r both ≡ union (covered_tasks p own) (covered_tasks q their)

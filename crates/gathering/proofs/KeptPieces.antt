@@ -4,7 +4,7 @@ use Rattle.std.proofs.Common.{inr, ⊎_elim, subst, is_some, ◌||◌, nat_lt}
 use Rattle.std.proofs.lemmas.Grind.{get_or-set_at}
 use Rattle.std.proofs.lemmas.List.{get_or-set_other}
 use Rattle.std.proofs.lemmas.Bool.Decides.{eqb_tells}
-use Rattle.std.proofs.lemmas.Option.{slice_get_cases, slice_get_within}
+use Rattle.std.proofs.lemmas.Option.{same_Some, slice_get_cases, slice_get_within}
 use Rattle.std.proofs.Math.ListN.{length-set}
 use Rattle.std.specs.Cmp.{IsEquivalence}
 use Rattle.std.specs.Cmp.Lexicographic.{as_long, lists_equiv}
@@ -24,9 +24,6 @@ unless_is false o x h = h
 pub is_some-either : {X : Type 0} (a b : Option X) → is_some (either a b) ≡ (is_some a || is_some b)
 is_some-either None b = refl
 is_some-either (Some a) b = refl
-
-Some-inj : {X : Type 0} {a b : X} → Some a ≡ Some b → a ≡ b
-Some-inj h = cc
 
 slice_get_none : {X : Type 0} (xs : List X) (i : ℕ) → slice_get xs i ≡ None → length xs ≤ i
 slice_get_none xs i h = ⊎_elim (λ found. cc (found.2, h)) (λ past. past.0) (slice_get_cases xs i).1
@@ -62,7 +59,7 @@ module _ {A : Type 0} (eq : A → A → Bool) where
         ];
         own = λ k q h. elim (eqb_tells k p.number) [
           | inl same ↦ let e = get_or-set_at places p.number k (Some p) None same.1 within in let e2 : Some p ≡ Some q = sym e
-              ∙ h in subst (λ r. belongs eq inputs r ≡ true) (Some-inj e2) own
+              ∙ h in subst (λ r. belongs eq inputs r ≡ true) (same_Some _ _ e2) own
           | inr other ↦ kept.own k q (sym (get_or-set_other places p.number k (Some p) None other.1) ∙ h)
         ];
       }

@@ -1,20 +1,11 @@
 -- One more input is added to a total.
-use Rattle.std.proofs.Common.{◌≡◌, ℕ, zero, suc, ◌+◌, Bool, true, List, [], ◌∷◌, ◌++◌, Option, Some, None, take, drop, slice_get, get_or, sym, ◌∙◌, ap, subst}
-use Rattle.std.proofs.Common.{add-one}
+use Rattle.std.proofs.Common.{◌≡◌, ℕ, ◌+◌, Bool, true, List, [], ◌∷◌, ◌++◌, Option, Some, None, take, drop, slice_get, get_or, take-append-drop, ◌∙◌, ap, subst}
+use Rattle.std.proofs.lemmas.List.{take_more}
+use Rattle.std.proofs.lemmas.Option.{get_or_from_slice_get, slice_get_within}
 use Rattle.gathering.specs.Adding.{CanAdd, AddsOutput, StartsAdmissible}
 use Rattle.gathering.specs.Kept.{IsKept}
 use Rattle.gathering.specs.Views.{PieceView}
 use Rattle.gathering.proofs.KeptPieces.{own_input}
-
-take_next : {X : Type 0} (xs : List X) (k : ℕ) (x : X) → slice_get xs k ≡ Some x → take (suc k) xs ≡ take k xs ++ x ∷ []
-take_next [] k x h = cc
-take_next (y ∷ xs) zero x h = let e : y ≡ x = cc in ap (λ z. z ∷ []) e
-take_next (y ∷ xs) (suc k) x h = ap (λ z. y ∷ z) (take_next xs k x h)
-
-around : {X : Type 0} (xs : List X) (k : ℕ) (x : X) → slice_get xs k ≡ Some x → (take k xs ++ x ∷ []) ++ drop (suc k) xs ≡ xs
-around [] k x h = cc
-around (y ∷ xs) zero x h = let e : y ≡ x = cc in ap (λ z. z ∷ xs) (sym e)
-around (y ∷ xs) (suc k) x h = ap (λ z. y ∷ z) (around xs k x h)
 
 module _
     {A B C : Type 0} (Gives : A → B → Type 0) (IsTotalOf : List A → C → Type 0) (IsAdmissible : List A → Type 0) (eq : A → A → Bool)
@@ -28,8 +19,13 @@ module _
     next = let P : ℕ → Type 0 = λ n. (x : A) × (slice_get inputs n ≡ Some x) × (eq p.input x ≡ true) in subst P (kept.number k p here)
         (own_input eq inputs p (kept.own k p here))
 
+    one_more : take (k + 1) inputs ≡ take k inputs ++ next.0 ∷ []
+    one_more =
+        take_more inputs k next.0 (slice_get_within inputs k next.0 next.1)
+        ∙ ap (λ x. take k inputs ++ x ∷ []) (get_or_from_slice_get inputs k next.0 next.0 next.1)
+
     starts : StartsAdmissible IsAdmissible (take k inputs ++ next.0 ∷ [])
-    starts = (drop (suc k) inputs, subst IsAdmissible (sym (around inputs k next.0 next.1)) admissible)
+    starts = (drop (k + 1) inputs, rw (← one_more, take-append-drop) admissible)
 
     -- the output may be added to the total of the inputs before it
     pub can_add : CanAdd Gives IsTotalOf IsAdmissible total output
@@ -43,5 +39,4 @@ module _
 
     -- and then the total is that of the inputs up to it
     pub added : (new : C) → AddsOutput Gives IsTotalOf IsAdmissible total output new → IsTotalOf (take (k + 1) inputs) new
-    added new adds = subst (λ xs. IsTotalOf xs new) (sym (take_next inputs k next.0 next.1) ∙ ap (λ n. take n inputs) (sym (add-one k)))
-        (adds (take k inputs) next.0 total_is (equal_values p.input next.0 output next.2 output_is) starts)
+    added new adds = rw one_more (adds (take k inputs) next.0 total_is (equal_values p.input next.0 output next.2 output_is) starts)

@@ -1,22 +1,9 @@
 -- The union of sets is a join.
-use Rattle.std.proofs.Common.{◌≡◌, ℕ, Bool, true, false, ◌||◌, refl, sym, ◌∙◌}
+use Rattle.std.proofs.Common.{◌≡◌, ℕ, ◌||◌, sym, ◌∙◌}
+use Rattle.std.proofs.Math.Bool.{or_assoc, or_comm, or_self}
 use Rattle.std.specs.Ordering.{nat_cmp}
 use Rattle.std.specs.FinSet.{FinSet, contains, union, contains-union, same_set, nat_cmp-IsAntisymmetric}
 use Rattle.std.specs.Cmp.{nat_cmp_total}
-
-or_swapped : (a b : Bool) → (a || b) ≡ (b || a)
-or_swapped true true = refl
-or_swapped true false = refl
-or_swapped false true = refl
-or_swapped false false = refl
-
-or_grouped : (a b c : Bool) → ((a || b) || c) ≡ (a || (b || c))
-or_grouped true b c = refl
-or_grouped false b c = refl
-
-or_same : (a : Bool) → (a || a) ≡ a
-or_same true = refl
-or_same false = refl
 
 in_union : (s t : FinSet nat_cmp) (k : ℕ) → contains (union s t) k ≡ (contains s k || contains t k)
 in_union s t k = contains-union nat_cmp_total s t k
@@ -25,12 +12,12 @@ same : (s t : FinSet nat_cmp) → ((k : ℕ) → contains s k ≡ contains t k) 
 same s t is = same_set nat_cmp_total nat_cmp-IsAntisymmetric s t is
 
 pub union_swapped : (s t : FinSet nat_cmp) → union s t ≡ union t s
-union_swapped s t = same _ _ (λ k. in_union s t k ∙ or_swapped (contains s k) (contains t k) ∙ sym (in_union t s k))
+union_swapped s t = same _ _ (λ k. in_union s t k ∙ or_comm (contains s k) (contains t k) ∙ sym (in_union t s k))
 
 pub union_grouped : (s t u : FinSet nat_cmp) → union (union s t) u ≡ union s (union t u)
 union_grouped s t u = same _ _ (λ k.
-    in_union (union s t) u k ∙ (λ i. in_union s t k i || contains u k) ∙ or_grouped (contains s k) (contains t k) (contains u k)
+    in_union (union s t) u k ∙ (λ i. in_union s t k i || contains u k) ∙ or_assoc (contains s k) (contains t k) (contains u k)
     ∙ sym (in_union s (union t u) k ∙ (λ i. contains s k || in_union t u k i)))
 
 pub union_same : (s : FinSet nat_cmp) → union s s ≡ s
-union_same s = same _ _ (λ k. in_union s s k ∙ or_same (contains s k))
+union_same s = same _ _ (λ k. in_union s s k ∙ or_self (contains s k))

@@ -58,10 +58,7 @@ pub(crate) fn merge_places<T: Drop, A: Allocator>(
 {
     while let Some(other) = others.pop() {
         let at = others.len();
-        if at < from as usize {
-            own[at] = None;
-        } else if own[at].is_none() {
-            own[at] = other;
-        }
+        let kept = own[at].take().or(other);
+        own[at] = if at < from as usize { None } else { kept };
     }
 }

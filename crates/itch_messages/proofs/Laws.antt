@@ -1,5 +1,6 @@
 -- The law of bodies: a message reads back from its body, and a body that is read is the one that is written for it.
 use Rattle.std.proofs.Common.{◌≡◌, ℕ, ◌+◌, Bool, true, false, List, [], ◌∷◌, length, drop, Option, None, Some, refl, sym, ap, ◌∙◌, subst, arith}
+use Rattle.std.proofs.lemmas.Bool.{cond_both}
 use Rattle.itch_messages.specs.Body.{FitsMessage, body_of, has_wrong_length, is_skipped, is_whole, kind_of, message_of, message_of_kind}
 use Rattle.itch_messages.specs.Fields.{AreBytes}
 use Rattle.itch_messages.specs.Layout.{length_of}
@@ -86,11 +87,9 @@ FitsMessage-message_of_kind kind body are known =
 
 -- what a body stands for has room in its fields
 pub FitsMessage-message_of : (body : List ℕ) → AreBytes body → FitsMessage (message_of body)
-FitsMessage-message_of body are = go (is_whole body) refl
-  where
-    go : (b : Bool) → is_whole body ≡ b → FitsMessage (message_of body)
-    go true is = rw is (FitsMessage-message_of_kind (kind_of body) body are (whole_of_test body is))
-    go false is = rw is tt
+FitsMessage-message_of body are =
+    cond_both (is_whole body) (message_of_kind (kind_of body) body) Skipped FitsMessage
+    (λ is. FitsMessage-message_of_kind (kind_of body) body are (whole_of_test body is)) (λ _. tt)
 
 -- a body of a type and its length is the one that is written for its message
 abbrev WritesBackAs : ℕ → ℕ → Type 0

@@ -1,6 +1,6 @@
 -- The nine types, and what a body is by its type.
-use Rattle.std.proofs.Common.{◌≡◌, ℕ, Bool, true, false, cond, eqb, List, [], ◌∷◌, length, Option, None, Some, refl, sym, ap, ◌∙◌, subst, arith}
-use Rattle.std.proofs.lemmas.Bool.{eqb-true, eq-eqb}
+use Rattle.std.proofs.Common.{◌≡◌, ℕ, Bool, true, false, cond, eqb, List, length, Option, None, Some, refl, sym, ap, ◌∙◌, subst, ⊎_elim}
+use Rattle.std.proofs.lemmas.Bool.{cases_Bool, eqb-true, eq-eqb}
 use Rattle.itch_messages.specs.Body.{has_wrong_length, is_skipped, is_whole, kind_of, message_of, message_of_kind}
 use Rattle.itch_messages.specs.Layout.{length_of}
 use Rattle.itch_messages.specs.declared.message.Message.TheVariants.{Skipped}
@@ -31,20 +31,6 @@ by_kind P a f e c u p q b r kind wanted found =
     (one_kind P 82 39 None kind wanted r (λ none. absurd (cc)) (eqb kind 82) refl) (eqb kind 66) refl) (eqb kind 81) refl)
     (eqb kind 80) refl) (eqb kind 85) refl) (eqb kind 67) refl) (eqb kind 69) refl) (eqb kind 70) refl) (eqb kind 65) refl found
 
--- an empty body has no type
-pub length_of-empty : (body : List ℕ) → length body ≡ 0 → length_of (kind_of body) ≡ None
-unfolding length_of
-length_of-empty [] none = refl
-length_of-empty (x ∷ xs) none = absurd (omega arith)
-
--- a body of no type that is read has no wrong length
-pub right_of_no_type : (body : List ℕ) → length_of (kind_of body) ≡ None → has_wrong_length body ≡ false
-right_of_no_type body none = rw none refl
-
--- it is skipped
-pub skipped_of_no_type : (body : List ℕ) → length_of (kind_of body) ≡ None → message_of body ≡ Skipped
-skipped_of_no_type body none = rw none refl
-
 -- a body with its type's length has no wrong length
 pub right_of_whole : (body : List ℕ) → length_of (kind_of body) ≡ Some (length body) → has_wrong_length body ≡ false
 right_of_whole body whole = rw (whole, eq-eqb (length body) (length body) refl) refl
@@ -66,8 +52,7 @@ whole_of_test body passes = go (length_of (kind_of body)) refl
 
 -- a body that stands for a message has its type's length
 pub whole_of_message : (body : List ℕ) → is_skipped (message_of body) ≡ false → length_of (kind_of body) ≡ Some (length body)
-whole_of_message body read = go (is_whole body) refl
+whole_of_message body read = ⊎_elim (whole_of_test body) (λ fails. absurd (skipped fails)) (cases_Bool (is_whole body))
   where
-    go : (b : Bool) → is_whole body ≡ b → length_of (kind_of body) ≡ Some (length body)
-    go true passes = whole_of_test body passes
-    go false fails = let none : message_of body ≡ Skipped = rw fails refl in absurd (cc (ap is_skipped none))
+    skipped : is_whole body ≡ false → ⊥
+    skipped fails = let none : message_of body ≡ Skipped = rw fails refl in absurd (cc (ap is_skipped none))

@@ -1,5 +1,7 @@
 -- What a body that stands for a message has of bytes, and what a body of a wrong length stands for.
-use Rattle.std.proofs.Common.{◌≡◌, ℕ, Bool, true, false, eqb, List, length, Option, None, Some, refl, ap, ◌∙◌}
+use Rattle.std.proofs.Common.{◌≡◌, ℕ, true, false, eqb, not, List, length, Option, None, Some, refl, ap, ◌∙◌}
+use Rattle.std.specs.Option.{option_map_or}
+use Rattle.std.proofs.lemmas.Bool.{not-true}
 use Rattle.itch_messages.specs.Body.{has_wrong_length, is_skipped, kind_of, message_of, message_of_kind}
 use Rattle.itch_messages.specs.Layout.{length_of}
 use Rattle.itch_messages.specs.declared.message.Message.{Message}
@@ -39,15 +41,10 @@ size_of-message_of body one =
     let whole = whole_of_message body one in
     ap size_of (message_of_whole body whole) ∙ sized (kind_of body) (length body) whole body
 
+not_whole : (n : ℕ) (o : Option ℕ) → option_map_or (λ wanted. not (eqb n wanted)) o false ≡ true → option_map_or (λ wanted. eqb n wanted) o false ≡ false
+not_whole n None wrong = refl
+not_whole n (Some wanted) wrong = not-true _ wrong
+
 -- a body of a wrong length stands for no message
 pub skipped_of_wrong_length : (body : List ℕ) → has_wrong_length body ≡ true → message_of body ≡ Skipped
-skipped_of_wrong_length body wrong = go (length_of (kind_of body)) refl
-  where
-    go : (found : Option ℕ) → length_of (kind_of body) ≡ found → message_of body ≡ Skipped
-    go None is = rw is refl
-    go (Some wanted) is = by_length (eqb (length body) wanted) refl
-      where
-        by_length : (b : Bool) → eqb (length body) wanted ≡ b → message_of body ≡ Skipped
-        by_length false other = rw (is, other) refl
-        by_length true same =
-            let right : has_wrong_length body ≡ false = rw (is, same) refl in absurd (cc)
+skipped_of_wrong_length body wrong = rw (not_whole (length body) (length_of (kind_of body)) wrong) refl

@@ -1,9 +1,12 @@
 -- Lists that std has no lemmas on: filters under filters, and permutations of what lists are joined from.
-use Rattle.std.proofs.Common.{◌≡◌, ℕ, zero, suc, ◌<◌, ◌≤◌, Bool, true, false, ◌||◌, cond, List, [], ◌∷◌, ◌++◌, length, get_or, set, swap, Option, Some, None}
-use Rattle.std.proofs.Common.{filter, filter_map, flat_map, map, option_map, option_to_list, IsPermutation, refl, ap, ap₂, ◌∙◌, subst, arith, append_assoc}
-use Rattle.std.specs.List.{list_any, cons_option}
+use Rattle.std.proofs.Common.{◌≡◌, ℕ, zero, suc, ◌+◌, ◌<◌, ◌≤◌, Bool, true, false, ◌||◌, cond, List, [], ◌∷◌, ◌++◌, length, get_or, set, swap, Option, Some}
+use Rattle.std.proofs.Common.{None, filter, filter_map, flat_map, map, option_map, option_to_list, replicate, All, IsPermutation, refl, ap, ap₂, ◌∙◌, arith}
+use Rattle.std.proofs.Common.{append_assoc, append-nil}
+use Rattle.std.specs.List.{list_any, concat, cons_option, range_with_len}
 use Rattle.std.proofs.lemmas.Bool.{both_ways}
-use Rattle.std.proofs.lemmas.List.Elements.{filter-append, filter_map-append}
+use Rattle.std.proofs.lemmas.List.{drop_at, length-append, take_at}
+use Rattle.std.proofs.lemmas.List.Elements.{All-drop, All-take, filter-append, filter_map-append}
+use Rattle.std.proofs.lemmas.List.Folds.{concat-append}
 use Rattle.std.proofs.lemmas.List.Sorted.{IsPermutation-refl, IsPermutation-keeps, IsPermutation-trans, IsPermutation-append_left, IsPermutation-append_right}
 use Rattle.std.proofs.lemmas.List.Sorted.{IsPermutation-append_comm}
 
@@ -102,10 +105,29 @@ pub filter_map-flat_map : {A B C : Type 0} (h : B → Option C) (f : A → List 
 filter_map-flat_map h f [] = refl
 filter_map-flat_map h f (x ∷ xs) = filter_map-append h (f x) (flat_map f xs) ∙ ap (λ l. filter_map h (f x) ++ l) (filter_map-flat_map h f xs)
 
--- ---- one list has the items of another
+pub concat_push : (xs : List (List ℕ)) (x : List ℕ) → concat (xs ++ x ∷ []) ≡ concat xs ++ x
+concat_push xs x = concat-append xs (x ∷ []) ∙ ap (λ l. concat xs ++ l) (append-nil x)
 
-pub IsPermutation-same : {X : Type 0} (xs ys : List X) → xs ≡ ys → IsPermutation xs ys
-IsPermutation-same xs ys e = subst (IsPermutation xs) e (IsPermutation-refl xs)
+pub length-concat_push : (xs : List (List ℕ)) (x : List ℕ) → length (concat (xs ++ x ∷ [])) ≡ length (concat xs) + length x
+length-concat_push xs x = ap length (concat_push xs x) ∙ length-append (concat xs) x
+
+pub All-parts : {X : Type 0} (P : X → Type 0) (xs ys : List X) → All P (xs ++ ys) → All P xs × All P ys
+All-parts P xs ys h = (
+  rw (take_at xs ys (length xs) refl) at (All-take P (length xs) (xs ++ ys) h),
+  rw (drop_at xs ys (length xs) refl) at (All-drop P (length xs) (xs ++ ys) h),
+)
+
+-- past the end, too, what is read is what all items are
+pub get_or-replicate_itself : {X : Type 0} (n i : ℕ) (x : X) → get_or (replicate n x) i x ≡ x
+get_or-replicate_itself zero i x = refl
+get_or-replicate_itself (suc n) zero x = refl
+get_or-replicate_itself (suc n) (suc i) x = get_or-replicate_itself n i x
+
+pub range_more : (a n k : ℕ) → a + n ≡ k → range_with_len a (suc n) ≡ range_with_len a n ++ k ∷ []
+range_more a zero k e = ap (λ m. m ∷ []) (omega (arith, e))
+range_more a (suc n) k e = ap (λ l. a ∷ l) (range_more (a + 1) n k (omega (arith, e)))
+
+-- ---- one list has the items of another
 
 -- two blocks before a list, in the other order
 turned : {X : Type 0} (xs ys rest : List X) → IsPermutation (xs ++ (ys ++ rest)) (ys ++ (xs ++ rest))

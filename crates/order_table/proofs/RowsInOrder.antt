@@ -3,11 +3,11 @@ use Rattle.std.proofs.Common.{◌≡◌, ℕ, zero, suc, ◌<◌, ◌≤◌, Boo
 use Rattle.std.proofs.Common.{Ordering, nat_cmp, IsPermutation, ◌-◌, refl, sym, ap, ◌∙◌, subst, arith, map, take, drop, ◌++◌, ◌≢◌, ◌⊎◌, inl, inr, ⊎_elim}
 use Rattle.std.specs.Cmp.{IsTotalOrder}
 use Rattle.std.specs.List.{All, AllPairs, AllAdjacentBelow, IsAllAdjacentAnswer, IsDistinct, ReversedBelow, find}
-use Rattle.std.proofs.Math.Seq.{take-append_seam}
 use Rattle.std.specs.List.Sorted.{IsNonDecreasingBy, IsPartitionPoint, IsSortedByKey}
 use Rattle.std.specs.Ordering.{is_lt, ordering_then}
 use Rattle.std.proofs.lemmas.Bool.{cases_order, both_ways, eq-eqb, eqb-true, eqb-false, ltb-true, ltb-false, lt-ltb, le-ltb}
-use Rattle.std.proofs.lemmas.Cmp.{ranked, by_ranked, nat_cmp_total, on_total, then_total}
+use Rattle.std.proofs.lemmas.Bool.Decides.{nat_tests}
+use Rattle.std.proofs.lemmas.Cmp.{nat_cmp_total, on_total, then_total}
 use Rattle.std.proofs.lemmas.List.Elements.{All-filter, filter_passes}
 use Rattle.std.proofs.lemmas.List.Sorted.{sorted_far, ranks_by}
 use Rattle.lists.specs.Least.{least_of, least_by}
@@ -29,23 +29,8 @@ pairs_head R x xs h k d l = h 0 (suc k) d (omega arith) (omega (arith, l))
 
 -- ---- what a sort gives
 
--- what is written over all of a list is what it holds then
-pub take_written : {X : Type 0} (new old : List X) (n : ℕ) → length new ≡ n → take n (new ++ drop (length new) old) ≡ new
-take_written new old n e = subst (λ k. take k (new ++ drop (length new) old) ≡ new) e (take-append_seam new (drop (length new) old))
-
 lexicographic : (a b p q : ℕ) → is_lt (ordering_then (nat_cmp b a) (nat_cmp q p)) ≡ false → (a < b) ⊎ ((a ≡ b) × (p ≤ q))
-lexicographic a b p q h =
-    by_ranked (b < a) (b ≡ a) (a < b) (nat_cmp b a) (ranked b a (nat_cmp b a) refl)
-    (λ e less. absurd (both_ways true (subst (λ o. is_lt (ordering_then o (nat_cmp q p)) ≡ false) e h) refl))
-    (λ e same. inr (
-      sym same,
-      by_ranked (q < p) (q ≡ p) (p < q) (nat_cmp q p) (ranked q p (nat_cmp q p) refl)
-          (λ f less. absurd (both_ways true
-          (subst (λ o. is_lt o ≡ false) f (subst (λ o. is_lt (ordering_then o (nat_cmp q p)) ≡ false) e h)) refl))
-          (λ f tied. omega (arith, tied))
-          (λ f more. omega (arith, more)),
-    ))
-    (λ e more. inl more)
+lexicographic a b p q h = grind (arith, nat_tests)
 
 abbrev pub key_of : OrderRow → ℕ × ℕ
 key_of row = (row.order_no, row.place)
@@ -93,12 +78,15 @@ module _ {X : Type 0} (f : X → ℕ) (rows : List X) where
   falling_from_answer falls h e i j d p q =
       ltb-true _ _ (pairs_from_answer (λ x y. ltb (f y) (f x)) (λ x y z a b. below_on f z y x b a) rows falls h e i j d p q)
 
-  pub rising_does_not_fall : AllPairs (λ x y. f x < f y) rows → IsNonDecreasingBy f rows
-  rising_does_not_fall up i j d p q =
+  pairs_do_not_fall : (R : X → X → Type 0) → ((x y : X) → R x y → f x ≤ f y) → AllPairs R rows → IsNonDecreasingBy f rows
+  pairs_do_not_fall R below up i j d p q =
       ⊎_elim
       (λ e. subst (λ k. f (get_or rows i d) ≤ f (get_or rows k d)) e (omega arith))
-      (λ r. ⊎_elim (λ l. omega (arith, up i j d l q)) (λ l. absurd (omega (arith, l, p))) r)
+      (λ r. ⊎_elim (λ l. below _ _ (up i j d l q)) (λ l. absurd (omega (arith, l, p))) r)
       (cases_order i j)
+
+  pub rising_does_not_fall : AllPairs (λ x y. f x < f y) rows → IsNonDecreasingBy f rows
+  rising_does_not_fall = pairs_do_not_fall (λ x y. f x < f y) (λ x y h. omega (arith, h))
 
 pub in_order_from_rising : (rows : List OrderRow) → AllPairs (λ x y. x.order_no < y.order_no) rows → IsInOrder rows
 in_order_from_rising rows up i j d p q = inl (up i j d p q)
@@ -114,11 +102,8 @@ in_order_from_falling rows turned over len down i j d p q =
     inl (rw (over i d low) (rw (over j d high) less))
 
 pub references_do_not_fall : (rows : List OrderRow) → IsInOrder rows → IsNonDecreasingBy (λ row. row.order_no) rows
-references_do_not_fall rows up i j d p q =
-    ⊎_elim
-    (λ e. subst (λ k. (get_or rows i d).order_no ≤ (get_or rows k d).order_no) e (omega arith))
-    (λ r. ⊎_elim (λ l. ⊎_elim (λ less. omega (arith, less)) (λ tied. omega (arith, tied.0)) (up i j d l q)) (λ l. absurd (omega (arith, l, p))) r)
-    (cases_order i j)
+references_do_not_fall rows =
+    pairs_do_not_fall number_of rows MayFollow (λ x y h. ⊎_elim (λ less. omega (arith, less)) (λ tied. omega (arith, tied.0)) h)
 
 -- ---- the first row of a reference
 

@@ -4,32 +4,22 @@ use Rattle.std.proofs.Common.{ap, ◌∙◌, subst, arith, ltb, nat_lt}
 use Rattle.std.specs.Prelude.{position, ◌==◌, not, MatchOption}
 use Rattle.std.specs.List.{position_or_len, slice_split, onto_first}
 use Rattle.std.proofs.lemmas.List.Splits.{slice_split_first}
-use Rattle.std.proofs.Math.Seq.{take-length}
-use Rattle.std.proofs.lemmas.List.{length-drop}
+use Rattle.std.proofs.lemmas.List.{take_rest}
+use Rattle.std.proofs.lemmas.Option.{cond_some}
 use Rattle.std.proofs.lemmas.Bool.{eqb-true}
 use borrow.Author.Tests.{ltb-true, ltb-false, lt-ltb}
 use Rattle.std.specs.Borrow.{Bor}
 use Rattle.query.specs.Words.{word, parts, words_from}
 use Rattle.query.specs.TextLeft.{after_part, words_left, IsInText}
 
-take_rest : (text : List ℕ) (n : ℕ) → take (length text - n) (drop n text) ≡ drop n text
-take_rest text n =
-    let e : length text - n ≡ length (drop n text) = sym (length-drop n text) in
-    rw e (take-length (drop n text))
-
 pub parts_at : (separator : ℕ) (text : List ℕ) (end : ℕ) → position (λ byte. byte == separator) text ≡ Some end
     → parts separator text ≡ take end text ∷ parts separator (take (length text - (end + 1)) (drop (end + 1) text))
 parts_at separator text end e =
-    let p : ℕ → Bool = λ byte. byte == separator in
-    let place : ℕ = position_or_len p text in
-    let go : (b : Bool) → ltb place (length text) ≡ b → cond b (Some place) None ≡ Some end
-    → parts separator text ≡ take end text ∷ parts separator (drop (end + 1) text) =
-    elim [
-      | true ↦ λ t f. let same : place ≡ end = cc in
-          subst (λ n. parts separator text ≡ take n text ∷ parts separator (drop (n + 1) text)) same (slice_split_first p text 0 (ltb-true _ _ t))
-      | false ↦ λ t f. absurd (cc)
-    ] in
-    rw (take_rest text (end + 1)) (go (ltb place (length text)) refl e)
+    let h = cond_some _ (position_or_len (λ byte. byte == separator) text) end e in
+    let cut : parts separator text ≡ take end text ∷ parts separator (drop (end + 1) text) =
+    subst (λ n. parts separator text ≡ take n text ∷ parts separator (drop (n + 1) text)) h.1
+    (slice_split_first (λ byte. byte == separator) text 0 (ltb-true _ _ h.0)) in
+    rw take_rest cut
 
 unparted : (p : ℕ → Bool) (text : List ℕ) → length text ≤ position_or_len p text → slice_split p text ≡ text ∷ []
 unparted p [] h = refl

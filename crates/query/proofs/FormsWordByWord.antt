@@ -2,7 +2,7 @@
 use Rattle.std.proofs.Common.{◌≡◌, ℕ, Bool, true, false, cond, List, [], ◌∷◌, Option, Some, None, refl, sym, ap, ◌∙◌, nat_lt}
 use Rattle.std.specs.Prelude.{◌*◌, Result, Ok, Err, codes, is_some}
 use Rattle.query.specs.Words.{Word, reads_as}
-use Rattle.query.specs.Forms.{◌>>=◌, value_or, took, timed, one_list, in_list, span_of, spanned, condition_of, width_at, unit_after, width_of, what_of}
+use Rattle.query.specs.Forms.{◌>>=◌, value_or, took, timed, one_list, one_value, in_list, span_of, spanned, condition_of, width_at, unit_after, width_of, what_of}
 use Rattle.query.specs.Forms.{after_as, moment_of}
 use Rattle.query.specs.Values.{count_of, unit_of, time_of, symbols_of, kinds_of}
 use Rattle.meaning.specs.Meaning.{Meaning, is_width}
@@ -11,7 +11,7 @@ use Rattle.query.specs.Faults.{Next, Step, step, continued, read_from, expecting
 use Rattle.query.specs.Faults.{query, number, unit, moment, of_after_as, moment_time, filter, condition, symbol_in, symbols, time_from, first_time}
 use Rattle.query.specs.Faults.{time_until, second_time, kind_in, kinds, more}
 use Rattle.outcomes.specs.declared.query_fault.QueryFault.{QueryFault}
-use Rattle.outcomes.specs.declared.query_fault.QueryFault.TheVariants.{UnknownWord, BadNumber, BadTime, Repeated, EmptyRange}
+use Rattle.outcomes.specs.declared.query_fault.QueryFault.TheVariants.{UnknownWord, BadNumber, BadTime, Repeated, EmptyRange, Incomplete}
 use Rattle.meaning.specs.declared.query.What.{What}
 use Rattle.meaning.specs.declared.query.What.TheVariants.{Sales, Bars}
 use Rattle.probe.specs.declared.selection.Kinds.{Kinds}
@@ -21,49 +21,32 @@ use Rattle.probe.specs.declared.selection.Span.{Span}
 abbrev on : {A : Type 0} → Result A QueryFault → (A → Result Meaning QueryFault) → Result Meaning QueryFault
 on r f = r >>= f
 
+-- a test between going on and a fault
+cond_read : {A : Type 0} (b : Bool) (next : Next) (fault : QueryFault) (ws : List Word) (x : A) (f : A → Result Meaning QueryFault)
+    → read_from next ws ≡ f x → continued (cond b (Ok next) (Err fault)) (λ t. read_from t ws) ≡ on (cond b (Ok x) (Err fault)) f
+cond_read true next fault ws x f e = e
+cond_read false next fault ws x f e = refl
+
 -- a word that must be this one
-word_read : (text : List ℕ) (next : Next) (w : Word) (ws : List Word)
-    → continued (expecting text next w) (λ t. read_from t ws) ≡ on (took text (w ∷ ws)) (read_from next)
-word_read text next w ws =
-    let go : (b : Bool)
-    → continued (cond b (Ok next) (Err (UnknownWord w.at))) (λ t. read_from t ws)
-    ≡ on (cond b (Ok ws) (Err (UnknownWord w.at))) (read_from next) =
-    elim [ true ↦ refl | false ↦ refl ] in
-    go (reads_as text w)
+took_read : (text : List ℕ) (from next : Next) (ws : List Word) → ((w : Word) → step from w ≡ expecting text next w)
+    → read_from from [] ≡ Err Incomplete → read_from from ws ≡ on (took text ws) (read_from next)
+unfolding read_from
+took_read text from next [] steps ends = ends
+took_read text from next (w ∷ ws) steps ends =
+    ap (λ s. continued s (λ t. read_from t ws)) (steps w) ∙ cond_read (reads_as text w) next (UnknownWord w.at) ws ws (read_from next) refl
 
 -- a word that stands for a value
-value_read : {A : Type 0} (o : Option A) (fault : QueryFault) (next : A → Next) (ws : List Word)
-    → continued (valued o fault (λ x. Ok (next x))) (λ t. read_from t ws)
-    ≡ on (value_or o fault ws) (λ r. read_from (next r.0) r.1)
-value_read None fault next ws = refl
-value_read (Some x) fault next ws = refl
-
-in_symbols : (said : Said) (ws : List Word) → read_from (symbol_in said) ws ≡ on (took (codes "in") ws) (read_from (symbols said))
-unfolding read_from step
-in_symbols said [] = refl
-in_symbols said (w ∷ ws) = word_read (codes "in") (symbols said) w ws
-
-in_kinds : (said : Said) (ws : List Word) → read_from (kind_in said) ws ≡ on (took (codes "in") ws) (read_from (kinds said))
-unfolding read_from step
-in_kinds said [] = refl
-in_kinds said (w ∷ ws) = word_read (codes "in") (kinds said) w ws
-
-from_times : (said : Said) (ws : List Word) → read_from (time_from said) ws ≡ on (took (codes "from") ws) (read_from (first_time said))
-unfolding read_from step
-from_times said [] = refl
-from_times said (w ∷ ws) = word_read (codes "from") (first_time said) w ws
-
-until_times : (said : Said) (since : ℕ) (ws : List Word)
-    → read_from (time_until said since) ws ≡ on (took (codes "until") ws) (read_from (second_time said since))
-unfolding read_from step
-until_times said since [] = refl
-until_times said since (w ∷ ws) = word_read (codes "until") (second_time said since) w ws
-
-first_times : (said : Said) (ws : List Word)
-    → read_from (first_time said) ws ≡ on (timed ws) (λ time. read_from (time_until said time.0) time.1)
-unfolding read_from step
-first_times said [] = refl
-first_times said (w ∷ ws) = value_read (time_of w.bytes) (BadTime w.at) (time_until said) ws
+value_read : {A : Type 0} (values : List ℕ → Option A) (fault_at : ℕ → QueryFault) (from : Next) (next : A → Next) (ws : List Word)
+    → ((w : Word) → step from w ≡ valued (values w.bytes) (fault_at w.at) (λ x. Ok (next x))) → read_from from [] ≡ Err Incomplete
+    → read_from from ws ≡ on (one_value values fault_at ws) (λ r. read_from (next r.0) r.1)
+unfolding read_from
+value_read values fault_at from next [] steps ends = ends
+value_read {A} values fault_at from next (w ∷ ws) steps ends = ap (λ s. continued s (λ t. read_from t ws)) (steps w) ∙ of_value (values w.bytes)
+  where
+    of_value : (o : Option A) → continued (valued o (fault_at w.at) (λ x. Ok (next x))) (λ t. read_from t ws)
+        ≡ on (value_or o (fault_at w.at) ws) (λ r. read_from (next r.0) r.1)
+    of_value None = refl
+    of_value (Some x) = refl
 
 -- what is said once there is a span, symbols or kinds
 abbrev and_span : Said → Span → Said
@@ -82,20 +65,11 @@ after_condition r = read_from (more r.0) r.1
 abbrev after_span : Said → Span × List Word → Result Meaning QueryFault
 after_span said span = after_condition (and_span said span.0, span.1)
 
-abbrev after_symbols : Said → List (List ℕ) × List Word → Result Meaning QueryFault
-after_symbols said list = after_condition (and_symbols said list.0, list.1)
-
-abbrev after_kinds : Said → Kinds × List Word → Result Meaning QueryFault
-after_kinds said list = after_condition (and_kinds said list.0, list.1)
-
 rising_times : (said : Said) (since until : ℕ) (ws : List Word)
     → continued (bounded said since until) (λ t. read_from t ws) ≡ on (span_of since until ws) (after_span said)
 rising_times said since until ws =
-    let go : (b : Bool)
-    → continued (cond b (Ok (more (and_span said (record { since = since; until = until })))) (Err EmptyRange)) (λ t. read_from t ws)
-    ≡ on (cond b (Ok (record { since = since; until = until }, ws)) (Err EmptyRange)) (after_span said) =
-    elim [ true ↦ refl | false ↦ refl ] in
-    go (nat_lt since until)
+    cond_read (nat_lt since until) (more (and_span said (record { since = since; until = until }))) EmptyRange ws
+    (record { since = since; until = until }, ws) (after_span said) refl
 
 second_times : (said : Said) (since : ℕ) (ws : List Word)
     → read_from (second_time said since) ws ≡ on (timed ws) (λ time. on (span_of since time.0 time.1) (after_span said))
@@ -109,16 +83,6 @@ second_times said since (w ∷ ws) = of_value (time_of w.bytes)
     of_value None = refl
     of_value (Some until) = rising_times said since until ws
 
-listed_symbols : (said : Said) (ws : List Word) → read_from (symbols said) ws ≡ on (one_list symbols_of ws) (after_symbols said)
-unfolding read_from step
-listed_symbols said [] = refl
-listed_symbols said (w ∷ ws) = value_read (symbols_of w.bytes) (UnknownWord w.at) (λ names. more (and_symbols said names)) ws
-
-listed_kinds : (said : Said) (ws : List Word) → read_from (kinds said) ws ≡ on (one_list kinds_of ws) (after_kinds said)
-unfolding read_from step
-listed_kinds said [] = refl
-listed_kinds said (w ∷ ws) = value_read (kinds_of w.bytes) (UnknownWord w.at) (λ some. more (and_kinds said some)) ws
-
 -- one form after another
 on-on : {A B : Type 0} (r : Result A QueryFault) (f : A → Result B QueryFault) (g : B → Result Meaning QueryFault) → on (r >>= f) g ≡ on r (λ x. on (f x) g)
 on-on (Ok x) f g = refl
@@ -128,17 +92,16 @@ on-same : {A : Type 0} (r : Result A QueryFault) (f g : A → Result Meaning Que
 on-same (Ok x) f g e = e x
 on-same (Err fault) f g e = refl
 
-symbols_read : (said : Said) (ws : List Word) → read_from (symbol_in said) ws ≡ on (in_list symbols_of ws) (after_symbols said)
+-- `in`, and a list
+listed_read : {A : Type 0} (values : List ℕ → Option A) (from listed : Next) (next : A → Next) (ws : List Word)
+    → ((w : Word) → step from w ≡ expecting (codes "in") listed w) → read_from from [] ≡ Err Incomplete
+    → ((w : Word) → step listed w ≡ valued (values w.bytes) (UnknownWord w.at) (λ x. Ok (next x))) → read_from listed [] ≡ Err Incomplete
+    → read_from from ws ≡ on (in_list values ws) (λ r. read_from (next r.0) r.1)
 unfolding in_list
-symbols_read said ws =
-    in_symbols said ws ∙ on-same (took (codes "in") ws) _ _ (listed_symbols said)
-    ∙ sym (on-on (took (codes "in") ws) (one_list symbols_of) _)
-
-kinds_read : (said : Said) (ws : List Word) → read_from (kind_in said) ws ≡ on (in_list kinds_of ws) (after_kinds said)
-unfolding in_list
-kinds_read said ws =
-    in_kinds said ws ∙ on-same (took (codes "in") ws) _ _ (listed_kinds said)
-    ∙ sym (on-on (took (codes "in") ws) (one_list kinds_of) _)
+listed_read values from listed next ws ins end lists ended =
+    took_read (codes "in") from listed ws ins end
+    ∙ on-same (took (codes "in") ws) _ _ (λ rest. value_read values UnknownWord listed next rest lists ended)
+    ∙ sym (on-on (took (codes "in") ws) (one_list values) _)
 
 -- the second time, and what is before it: `until`, the first time
 abbrev second_form : ℕ → List Word → Result (Span × List Word) QueryFault
@@ -157,19 +120,24 @@ second_read said since ws =
 
 until_read : (said : Said) (since : ℕ) (ws : List Word)
     → read_from (time_until said since) ws ≡ on (until_form since ws) (after_span said)
+unfolding read_from step
 until_read said since ws =
-    until_times said since ws ∙ on-same (took (codes "until") ws) _ _ (second_read said since)
+    took_read (codes "until") (time_until said since) (second_time said since) ws (λ w. refl) refl
+    ∙ on-same (took (codes "until") ws) _ _ (second_read said since)
     ∙ sym (on-on (took (codes "until") ws) (second_form since) (after_span said))
 
 first_read : (said : Said) (ws : List Word) → read_from (first_time said) ws ≡ on (first_form ws) (after_span said)
+unfolding read_from step
 first_read said ws =
-    first_times said ws ∙ on-same (timed ws) _ _ (λ since. until_read said since.0 since.1)
+    value_read time_of BadTime (first_time said) (time_until said) ws (λ w. refl) refl
+    ∙ on-same (timed ws) _ _ (λ since. until_read said since.0 since.1)
     ∙ sym (on-on (timed ws) (λ since. until_form since.0 since.1) (after_span said))
 
 span_read : (said : Said) (ws : List Word) → read_from (time_from said) ws ≡ on (spanned ws) (after_span said)
-unfolding spanned
+unfolding spanned read_from step
 span_read said ws =
-    from_times said ws ∙ on-same (took (codes "from") ws) _ _ (first_read said)
+    took_read (codes "from") (time_from said) (first_time said) ws (λ w. refl) refl
+    ∙ on-same (took (codes "from") ws) _ _ (first_read said)
     ∙ sym (on-on (took (codes "from") ws) first_form (after_span said))
 
 -- ---- a condition and what follows it
@@ -200,9 +168,11 @@ unfolding condition_of read_from step
 condition_read said [] = refl
 condition_read said (w ∷ ws) =
     one_of_three w ws (reads_as (codes "symbol") w) (reads_as (codes "time") w) (reads_as (codes "kind") w) _ _ _ _ _ _
-    (once_read w ws (is_some said.symbols) (symbol_in said) (in_list symbols_of ws) (and_symbols said) (symbols_read said ws))
+    (once_read w ws (is_some said.symbols) (symbol_in said) (in_list symbols_of ws) (and_symbols said)
+    (listed_read symbols_of (symbol_in said) (symbols said) (λ names. more (and_symbols said names)) ws (λ v. refl) refl (λ v. refl) refl))
     (once_read w ws (is_some said.span) (time_from said) (spanned ws) (and_span said) (span_read said ws))
-    (once_read w ws (is_some said.kinds) (kind_in said) (in_list kinds_of ws) (and_kinds said) (kinds_read said ws))
+    (once_read w ws (is_some said.kinds) (kind_in said) (in_list kinds_of ws) (and_kinds said)
+    (listed_read kinds_of (kind_in said) (kinds said) (λ some. more (and_kinds said some)) ws (λ v. refl) refl (λ v. refl) refl))
 
 pub condition_goes_on : (said next : Said) (ws rest : List Word) → condition_of said ws ≡ Ok (next, rest)
     → read_from (condition said) ws ≡ read_from (more next) rest
@@ -246,12 +216,7 @@ abbrev after_width : ℕ × List Word → Result Meaning QueryFault
 after_width width = read_from (moment (only (Bars width.0))) width.1
 
 width_fits : (at width : ℕ) (ws : List Word) → continued (wide at width) (λ t. read_from t ws) ≡ on (width_at at width ws) after_width
-width_fits at width ws =
-    let go : (b : Bool)
-    → continued (cond b (Ok (moment (only (Bars width)))) (Err (BadNumber at))) (λ t. read_from t ws)
-    ≡ on (cond b (Ok (width, ws)) (Err (BadNumber at))) after_width =
-    elim [ true ↦ refl | false ↦ refl ] in
-    go (is_width width)
+width_fits at width ws = cond_read (is_width width) (moment (only (Bars width))) (BadNumber at) ws (width, ws) after_width refl
 
 unit_read : (at count : ℕ) (ws : List Word) → read_from (unit at count) ws ≡ on (unit_after at count ws) after_width
 unfolding read_from step
@@ -324,11 +289,6 @@ pub ruleset filtering = (filter_ends, filter_is_read, filter_refused)
 
 -- ---- the moment
 
-of_read : (said : Said) (ws : List Word) → read_from (of_after_as said) ws ≡ on (took (codes "of") ws) (read_from (moment_time said))
-unfolding read_from step
-of_read said [] = refl
-of_read said (w ∷ ws) = word_read (codes "of") (moment_time said) w ws
-
 abbrev and_moment : Said → ℕ → Said
 and_moment said time = record said { as_of = Some time }
 
@@ -341,14 +301,15 @@ with_moment said time = Ok (and_moment said time.0, time.1)
 
 time_read : (said : Said) (ws : List Word) → read_from (moment_time said) ws ≡ on (timed ws >>= with_moment said) after_moment
 unfolding read_from step
-time_read said [] = refl
-time_read said (w ∷ ws) =
-    value_read (time_of w.bytes) (BadTime w.at) (λ time. filter (and_moment said time)) ws
-    ∙ sym (on-on (value_or (time_of w.bytes) (BadTime w.at) ws) (with_moment said) after_moment)
+time_read said ws =
+    value_read time_of BadTime (moment_time said) (λ time. filter (and_moment said time)) ws (λ w. refl) refl
+    ∙ sym (on-on (timed ws) (with_moment said) after_moment)
 
 as_read : (said : Said) (ws : List Word) → read_from (of_after_as said) ws ≡ on (after_as said ws) after_moment
+unfolding read_from step
 as_read said ws =
-    of_read said ws ∙ on-same (took (codes "of") ws) _ _ (time_read said)
+    took_read (codes "of") (of_after_as said) (moment_time said) ws (λ w. refl) refl
+    ∙ on-same (took (codes "of") ws) _ _ (time_read said)
     ∙ sym (on-on (took (codes "of") ws) (λ after_of. timed after_of >>= with_moment said) after_moment)
 
 moment_read : (said : Said) (ws : List Word) → read_from (moment said) ws ≡ on (moment_of said ws) after_moment

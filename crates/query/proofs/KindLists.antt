@@ -1,18 +1,12 @@
 -- A list of kinds has a kind.
 use Rattle.std.proofs.Common.{◌≡◌, ℕ, Bool, true, false, cond, ◌&&◌, ◌||◌, List, [], ◌∷◌, Some, None, refl, subst, eqb}
 use Rattle.std.specs.List.{list_all, onto_first}
+use Rattle.std.proofs.lemmas.Bool.{and_parts, or_left, or_right}
+use Rattle.std.proofs.lemmas.Option.{cond_some}
 use Rattle.query.specs.Words.{parts}
 use Rattle.query.specs.Values.{is_kind, has_letter, letters_of, kinds_of}
 use Rattle.meaning.specs.Meaning.{has_some}
 use Rattle.probe.specs.declared.selection.Kinds.{Kinds}
-
-or_left : (a b : Bool) → a ≡ true → (a || b) ≡ true
-or_left true b h = refl
-or_left false b h = absurd (cc)
-
-or_right : (a b : Bool) → b ≡ true → (a || b) ≡ true
-or_right true b h = refl
-or_right false b h = h
 
 -- a kind's first byte is a letter
 letter_cases : (e c p q no_more s t u v : Bool) → (((e && no_more) || (c && no_more)) || ((p && no_more) || (q && no_more))) ≡ true
@@ -31,17 +25,13 @@ first_letter byte bytes (x ∷ xs) h =
     letter_cases (eqb byte 69) (eqb byte 67) (eqb byte 80) (eqb byte 81) false (has_letter 69 bytes) (has_letter 67 bytes) (has_letter 80 bytes)
     (has_letter 81 bytes) h
 
-first_true : (a b : Bool) → (a && b) ≡ true → a ≡ true
-first_true true b h = refl
-first_true false b h = absurd (cc)
-
 list_has_letter : (bytes : List ℕ) → list_all is_kind (parts 44 bytes) ≡ true → has_some (letters_of bytes) ≡ true
 list_has_letter [] h = absurd (cc)
 list_has_letter (byte ∷ bytes) h =
     let onto : (rest : List (List ℕ)) → list_all is_kind (onto_first byte rest) ≡ true → has_some (letters_of (byte ∷ bytes)) ≡ true =
     elim [
-      | [] ↦ λ i. first_letter byte bytes [] (first_true _ _ i)
-      | part ∷ more ↦ λ i. first_letter byte bytes part (first_true _ _ i)
+      | [] ↦ λ i. first_letter byte bytes [] (and_parts _ _ i).0
+      | part ∷ more ↦ λ i. first_letter byte bytes part (and_parts _ _ i).0
     ] in
     let go : (b : Bool) → list_all is_kind (cond b ([] ∷ parts 44 bytes) (onto_first byte (parts 44 bytes))) ≡ true
     → has_some (letters_of (byte ∷ bytes)) ≡ true =
@@ -51,9 +41,4 @@ list_has_letter (byte ∷ bytes) h =
 pub some_kind : (bytes : List ℕ) (some : Kinds) → kinds_of bytes ≡ Some some → has_some some ≡ true
 unfolding kinds_of
 some_kind bytes some e =
-    let go : (b : Bool) → list_all is_kind (parts 44 bytes) ≡ b → cond b (Some (letters_of bytes)) None ≡ Some some → has_some some ≡ true =
-    elim [
-      | true ↦ λ all f. let same : letters_of bytes ≡ some = cc in subst (λ k. has_some k ≡ true) same (list_has_letter bytes all)
-      | false ↦ λ all f. absurd (cc)
-    ] in
-    go (list_all is_kind (parts 44 bytes)) refl e
+    let h = cond_some _ (letters_of bytes) some e in subst (λ k. has_some k ≡ true) h.1 (list_has_letter bytes h.0)

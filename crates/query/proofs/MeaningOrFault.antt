@@ -1,7 +1,8 @@
 -- The words of a query are read without a fault just where the grammar gives them a meaning, and that is what is read.
-use Rattle.std.proofs.Common.{◌≡◌, ◌≢◌, ℕ, ◌*◌, Bool, true, false, cond, List, [], ◌∷◌, Option, Some, None, refl, sym, ap, subst, ◌⊎◌, inl, inr, nat_lt}
+use Rattle.std.proofs.Common.{◌≡◌, ◌≢◌, ℕ, ◌*◌, Bool, true, false, cond, List, [], ◌∷◌, Option, Some, None, refl, sym, ap, ◌∙◌, subst, ◌⊎◌, inl, inr, nat_lt}
 use Rattle.std.specs.Prelude.{is_some, Result, Ok, Err, codes}
 use Rattle.std.specs.Result.{result_err}
+use Rattle.std.proofs.lemmas.Option.{none-some}
 use Rattle.std.proofs.lemmas.Slice.Eq.{bytes_eq-Decides}
 use Rattle.query.specs.Words.{Word, word, reads_as}
 use Rattle.query.specs.Values.{count_of, unit_of, time_of, symbols_of, kinds_of}
@@ -15,7 +16,7 @@ use Rattle.query.specs.Faults.{query, number, unit, moment, of_after_as, moment_
 use Rattle.query.specs.Faults.{time_until, second_time, kind_in, kinds, more}
 use Rattle.meaning.specs.declared.query.What.TheVariants.{Sales, Bars}
 use Rattle.outcomes.specs.declared.query_fault.QueryFault.{QueryFault}
-use Rattle.outcomes.specs.declared.query_fault.QueryFault.TheVariants.{UnknownWord, BadNumber, BadTime, Repeated, Incomplete, EmptyRange, OutOfMemory}
+use Rattle.outcomes.specs.declared.query_fault.QueryFault.TheVariants.{UnknownWord, BadNumber, BadTime, EmptyRange, OutOfMemory}
 
 -- ---- what the grammar gives a meaning is read
 
@@ -105,26 +106,18 @@ begun : (w : Word) (ws : List Word) (q : Meaning) → ((t : Next) → read_from 
     → continued (begins w) (λ t. read_from t ws) ≡ Ok q → Means (w ∷ ws) q
 begun w ws q rest e =
     let k : Goes = λ t. read_from t ws in
-    let from_sales : (reads_as (codes "sales") w ≡ true) × (continued (Ok (moment (only Sales))) k ≡ Ok q) → Means (w ∷ ws) q =
-    λ h. subst (λ v. Means (v ∷ ws) q) (sym (same_word (codes "sales") w h.0)) (sales (rest (moment (only Sales)) h.1)) in
-    let from_bars : (w ≡ word w.at (codes "bars")) × (k number ≡ Ok q) → Means (w ∷ ws) q =
-    λ h. subst (λ v. Means (v ∷ ws) q) (sym h.0) (rest number h.1 w.at) in
     elim (either (reads_as (codes "sales") w) (Ok (moment (only Sales))) (cond (reads_as (codes "bars") w) (Ok number) (Err (UnknownWord w.at))) k q e) [
-      | inl h ↦ from_sales h
-      | inr h ↦ from_bars (expected (codes "bars") number w k q h)
+      | inl h ↦ rw (same_word (codes "sales") w h.0) (sales (rest (moment (only Sales)) h.1))
+      | inr h ↦ let bars_word = expected (codes "bars") number w k q h in rw bars_word.0 (rest number bars_word.1 w.at)
     ]
 
 narrowed : (said : Said) (w : Word) (ws : List Word) (q : Meaning) → ((t : Next) → read_from t ws ≡ Ok q → Completes t ws q)
     → continued (narrows said w) (λ t. read_from t ws) ≡ Ok q → Moment said (w ∷ ws) q
 narrowed said w ws q rest e =
     let k : Goes = λ t. read_from t ws in
-    let from_as : (reads_as (codes "as") w ≡ true) × (continued (Ok (of_after_as said)) k ≡ Ok q) → Moment said (w ∷ ws) q =
-    λ h. subst (λ v. Moment said (v ∷ ws) q) (sym (same_word (codes "as") w h.0)) (rest (of_after_as said) h.1 w.at) in
-    let from_where : (w ≡ word w.at (codes "where")) × (k (condition said) ≡ Ok q) → Moment said (w ∷ ws) q =
-    λ h. subst (λ v. Moment said (v ∷ ws) q) (sym h.0) (any_moment (those (rest (condition said) h.1))) in
     elim (either (reads_as (codes "as") w) (Ok (of_after_as said)) (expecting (codes "where") (condition said) w) k q e) [
-      | inl h ↦ from_as h
-      | inr h ↦ from_where (expected (codes "where") (condition said) w k q h)
+      | inl h ↦ rw (same_word (codes "as") w h.0) (rest (of_after_as said) h.1 w.at)
+      | inr h ↦ let where_word = expected (codes "where") (condition said) w k q h in rw where_word.0 (any_moment (those (rest (condition said) where_word.1)))
     ]
 
 opened : (said : Said) (w : Word) (ws : List Word) (q : Meaning) → ((t : Next) → read_from t ws ≡ Ok q → Completes t ws q)
@@ -247,17 +240,8 @@ some_meaning ws none =
 pub only_memory : (ws : List Word) (q : Meaning) (fault : QueryFault) → Means ws q → (fault ≢ OutOfMemory → first_query_fault ws ≡ Some fault)
     → fault ≡ OutOfMemory
 only_memory ws q fault m told =
-    let clash : fault ≢ OutOfMemory → ⊥ = λ other.
-    let none : first_query_fault ws ≡ None = no_fault ws q m in
-    let some : first_query_fault ws ≡ Some fault = told other in
-    absurd (cc) in
-    of_cases fault clash
+    of_cases fault (λ other. none-some fault (sym (no_fault ws q m) ∙ told other))
   where
     of_cases : (fault : QueryFault) → (fault ≢ OutOfMemory → ⊥) → fault ≡ OutOfMemory
     of_cases OutOfMemory clash = refl
-    of_cases (UnknownWord at) clash = absurd (clash (λ e. cc))
-    of_cases (BadNumber at) clash = absurd (clash (λ e. cc))
-    of_cases (BadTime at) clash = absurd (clash (λ e. cc))
-    of_cases (Repeated at) clash = absurd (clash (λ e. cc))
-    of_cases Incomplete clash = absurd (clash (λ e. cc))
-    of_cases EmptyRange clash = absurd (clash (λ e. cc))
+    of_cases fault clash = absurd (clash (λ e. cc))

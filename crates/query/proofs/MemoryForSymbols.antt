@@ -1,9 +1,10 @@
 -- Memory is wanted for a list of symbols alone.
 use Rattle.std.proofs.Common.{◌≡◌, ℕ, Bool, true, false, cond, ◌&&◌, ◌||◌, List, [], ◌∷◌, Option, Some, None, refl, nat_lt, subst}
 use Rattle.std.specs.Prelude.{◌*◌, ◌≢◌, Result, Ok, Err, codes, is_some}
+use Rattle.std.proofs.lemmas.Bool.{or_right}
 use Rattle.query.specs.Words.{Word, reads_as, begins_list, lists_symbols}
-use Rattle.query.specs.Forms.{◌>>=◌, value_or, took, timed, one_list, in_list, span_of, spanned, condition_of, width_at, unit_after, width_of, what_of}
-use Rattle.query.specs.Forms.{begins_with, after_as, moment_of}
+use Rattle.query.specs.Forms.{◌>>=◌, value_or, took, timed, one_list, one_value, in_list, span_of, spanned, condition_of, width_at, unit_after, width_of}
+use Rattle.query.specs.Forms.{begins_with, after_as, moment_of, what_of}
 use Rattle.query.specs.Values.{count_of, unit_of, time_of, symbols_of, kinds_of}
 use Rattle.meaning.specs.Meaning.{is_width}
 use Rattle.query.specs.Said.{Said}
@@ -12,10 +13,6 @@ use Rattle.outcomes.specs.declared.query_fault.QueryFault.TheVariants.{UnknownWo
 use Rattle.meaning.specs.declared.query.What.{What}
 use Rattle.meaning.specs.declared.query.What.TheVariants.{Sales, Bars}
 use Rattle.probe.specs.declared.selection.Span.{Span}
-
-or_right : (a b : Bool) → b ≡ true → (a || b) ≡ true
-or_right true b h = refl
-or_right false b h = h
 
 -- a list after the first word is a list of the words
 pub listed_later : (w : Word) (ws : List Word) → lists_symbols ws ≡ true → lists_symbols (w ∷ ws) ≡ true
@@ -46,36 +43,37 @@ after r = r.1
 abbrev whole : List Word → List Word
 whole ws = ws
 
+-- one form or another
+cond_sparing : {A : Type 0} (left : A → List Word) (ws : List Word) (b : Bool) (r s : Result A QueryFault) → IsSparing left ws r → IsSparing left ws s
+    → IsSparing left ws (cond b r s)
+cond_sparing left ws true r s one two = one
+cond_sparing left ws false r s one two = two
+
 took_sparing : (text : List ℕ) (ws : List Word) → IsSparing whole ws (took text ws)
 took_sparing text [] = λ e. cc
-took_sparing text (w ∷ ws) =
-    let go : (b : Bool) → IsSparing whole (w ∷ ws) (cond b (Ok ws) (Err (UnknownWord w.at))) =
-    elim [ true ↦ listed_later w ws | false ↦ λ e. cc ] in
-    go (reads_as text w)
+took_sparing text (w ∷ ws) = cond_sparing whole (w ∷ ws) (reads_as text w) (Ok ws) (Err (UnknownWord w.at)) (listed_later w ws) (λ e. cc)
 
 value_sparing : {A : Type 0} (o : Option A) (fault : QueryFault) (w : Word) (ws : List Word) → fault ≢ OutOfMemory
     → IsSparing after (w ∷ ws) (value_or o fault ws)
 value_sparing None fault w ws other = other
 value_sparing (Some x) fault w ws other = listed_later w ws
 
-timed_sparing : (ws : List Word) → IsSparing after ws (timed ws)
-timed_sparing [] = λ e. cc
-timed_sparing (w ∷ ws) = value_sparing (time_of w.bytes) (BadTime w.at) w ws (λ e. cc)
+one_sparing : {A : Type 0} (values : List ℕ → Option A) (fault_at : ℕ → QueryFault) (ws : List Word) → ((at : ℕ) → fault_at at ≢ OutOfMemory)
+    → IsSparing after ws (one_value values fault_at ws)
+one_sparing values fault_at [] other = λ e. cc
+one_sparing values fault_at (w ∷ ws) other = value_sparing (values w.bytes) (fault_at w.at) w ws (other w.at)
 
-list_sparing : {A : Type 0} (values : List ℕ → Option A) (ws : List Word) → IsSparing after ws (one_list values ws)
-list_sparing values [] = λ e. cc
-list_sparing values (w ∷ ws) = value_sparing (values w.bytes) (UnknownWord w.at) w ws (λ e. cc)
+timed_sparing : (ws : List Word) → IsSparing after ws (timed ws)
+timed_sparing ws = one_sparing time_of BadTime ws (λ at e. cc)
 
 in_sparing : {A : Type 0} (values : List ℕ → Option A) (ws : List Word) → IsSparing after ws (in_list values ws)
 unfolding in_list
 in_sparing values ws =
-    then_sparing whole after ws (took (codes "in") ws) (one_list values) (took_sparing (codes "in") ws) (list_sparing values)
+    then_sparing whole after ws (took (codes "in") ws) (one_list values) (took_sparing (codes "in") ws)
+    (λ rest. one_sparing values UnknownWord rest (λ at e. cc))
 
 rising_sparing : (since until : ℕ) (ws : List Word) → IsSparing after ws (span_of since until ws)
-rising_sparing since until ws =
-    let go : (b : Bool) → IsSparing (after {A = Span}) ws (cond b (Ok (record { since = since; until = until }, ws)) (Err EmptyRange)) =
-    elim [ true ↦ λ h. h | false ↦ λ e. cc ] in
-    go (nat_lt since until)
+rising_sparing since until ws = cond_sparing after ws (nat_lt since until) (Ok (record { since = since; until = until }, ws)) (Err EmptyRange) (λ h. h) (λ e. cc)
 
 second_sparing : (since : ℕ) (ws : List Word) → IsSparing after ws (timed ws >>= (λ until. span_of since until.0 until.1))
 second_sparing since ws =
@@ -106,34 +104,25 @@ kept_sparing : {A : Type 0} (w : Word) (ws : List Word) (r : Result (A × List W
 kept_sparing w ws (Ok x) f one = λ h. listed_later w ws (one h)
 kept_sparing w ws (Err fault) f one = one
 
-opened_sparing : (w : Word) (ws : List Word) (given : Bool) (r : Result (Said × List Word) QueryFault) → IsSparing after (w ∷ ws) r
-    → IsSparing after (w ∷ ws) (cond given (Err (Repeated w.at)) r)
-opened_sparing w ws true r one = λ e. cc
-opened_sparing w ws false r one = one
-
 condition_sparing : (said : Said) (ws : List Word) → IsSparing after ws (condition_of said ws)
 unfolding condition_of
 condition_sparing said [] = λ e. cc
 condition_sparing said (w ∷ ws) =
-    let symbols = opened_sparing w ws (is_some said.symbols) _ (kept_sparing w ws (in_list symbols_of ws) (λ names. record said { symbols = Some names })
-    (in_sparing symbols_of ws)) in
-    let span = opened_sparing w ws (is_some said.span) _ (kept_sparing w ws (spanned ws) (λ times. record said { span = Some times }) (span_sparing ws)) in
-    let kinds = opened_sparing w ws (is_some said.kinds) _
-    (kept_sparing w ws (in_list kinds_of ws) (λ some. record said { kinds = Some some }) (in_sparing kinds_of ws)) in
-    one_of (reads_as (codes "symbol") w) (reads_as (codes "time") w) (reads_as (codes "kind") w) _ _ _ symbols span kinds
+    cond_sparing after (w ∷ ws) (reads_as (codes "symbol") w) _ _
+    (once_sparing w ws (is_some said.symbols) _ (kept_sparing w ws (in_list symbols_of ws) (λ names. record said { symbols = Some names })
+    (in_sparing symbols_of ws)))
+    (cond_sparing after (w ∷ ws) (reads_as (codes "time") w) _ _
+    (once_sparing w ws (is_some said.span) _ (kept_sparing w ws (spanned ws) (λ times. record said { span = Some times }) (span_sparing ws)))
+    (cond_sparing after (w ∷ ws) (reads_as (codes "kind") w) _ (Err (UnknownWord w.at))
+    (once_sparing w ws (is_some said.kinds) _ (kept_sparing w ws (in_list kinds_of ws) (λ some. record said { kinds = Some some }) (in_sparing kinds_of ws)))
+    (λ e. cc)))
   where
-    one_of : (is_symbol is_time is_kind : Bool) (r s t : Result (Said × List Word) QueryFault) → IsSparing after (w ∷ ws) r → IsSparing after (w ∷ ws) s
-        → IsSparing after (w ∷ ws) t → IsSparing after (w ∷ ws) (cond is_symbol r (cond is_time s (cond is_kind t (Err (UnknownWord w.at)))))
-    one_of true b c r s t one two three = one
-    one_of false true c r s t one two three = two
-    one_of false false true r s t one two three = three
-    one_of false false false r s t one two three = λ e. cc
+    once_sparing : (w : Word) (ws : List Word) (given : Bool) (r : Result (Said × List Word) QueryFault) → IsSparing after (w ∷ ws) r
+        → IsSparing after (w ∷ ws) (cond given (Err (Repeated w.at)) r)
+    once_sparing w ws given r one = cond_sparing after (w ∷ ws) given (Err (Repeated w.at)) r (λ e. cc) one
 
 width_sparing : (at width : ℕ) (ws : List Word) → IsSparing after ws (width_at at width ws)
-width_sparing at width ws =
-    let go : (b : Bool) → IsSparing (after {A = ℕ}) ws (cond b (Ok (width, ws)) (Err (BadNumber at))) =
-    elim [ true ↦ λ h. h | false ↦ λ e. cc ] in
-    go (is_width width)
+width_sparing at width ws = cond_sparing after ws (is_width width) (Ok (width, ws)) (Err (BadNumber at)) (λ h. h) (λ e. cc)
 
 unit_sparing : (at count : ℕ) (ws : List Word) → IsSparing after ws (unit_after at count ws)
 unit_sparing at count [] = λ e. cc
@@ -157,13 +146,8 @@ what_sparing : (ws : List Word) → IsSparing after ws (what_of ws)
 unfolding what_of
 what_sparing [] = λ e. cc
 what_sparing (w ∷ ws) =
-    one_of (reads_as (codes "sales") w) (reads_as (codes "bars") w) _ (bars_sparing w ws (width_of ws) (number_sparing ws))
-  where
-    one_of : (is_sales is_bars : Bool) (r : Result (What × List Word) QueryFault) → IsSparing after (w ∷ ws) r
-        → IsSparing after (w ∷ ws) (cond is_sales (Ok (Sales, ws)) (cond is_bars r (Err (UnknownWord w.at))))
-    one_of true b r one = listed_later w ws
-    one_of false true r one = one
-    one_of false false r one = λ e. cc
+    cond_sparing after (w ∷ ws) (reads_as (codes "sales") w) (Ok (Sales, ws)) _ (listed_later w ws)
+    (cond_sparing after (w ∷ ws) (reads_as (codes "bars") w) _ (Err (UnknownWord w.at)) (bars_sparing w ws (width_of ws) (number_sparing ws)) (λ e. cc))
 
 of_sparing : (said : Said) (ws : List Word) → IsSparing after ws (after_as said ws)
 of_sparing said ws =
@@ -174,11 +158,8 @@ of_sparing said ws =
 moment_sparing : (said : Said) (ws : List Word) → IsSparing after ws (moment_of said ws)
 unfolding moment_of
 moment_sparing said ws =
-    let taken : IsSparing after ws (took (codes "as") ws >>= after_as said) =
-    then_sparing whole after ws (took (codes "as") ws) (after_as said) (took_sparing (codes "as") ws) (of_sparing said) in
-    let go : (b : Bool) → IsSparing after ws (cond b (took (codes "as") ws >>= after_as said) (Ok (said, ws))) =
-    elim [ true ↦ taken | false ↦ λ h. h ] in
-    go (begins_with (codes "as") ws)
+    cond_sparing after ws (begins_with (codes "as") ws) _ (Ok (said, ws))
+    (then_sparing whole after ws (took (codes "as") ws) (after_as said) (took_sparing (codes "as") ws) (of_sparing said)) (λ h. h)
 
 -- ---- as the parser's functions need it
 

@@ -1,9 +1,10 @@
 -- Lists of symbols, part by part.
 use Rattle.std.proofs.Common.{◌≡◌, ℕ, Bool, true, false, cond, ◌&&◌, List, [], ◌∷◌, ◌++◌, length, Option, Some, None, refl, sym, ap, ◌∙◌, subst, arith}
 use Rattle.std.proofs.Common.{nat_lt, nat_eq}
-use Rattle.std.specs.List.{list_all, slice_split, onto_first}
-use Rattle.std.proofs.lemmas.Grind.{common_steps}
-use borrow.Author.Tests.{lt-ltb}
+use Rattle.std.specs.List.{list_all, slice_split}
+use Rattle.std.proofs.lemmas.Bool.{lt-ltb}
+use Rattle.std.proofs.lemmas.List.{append-nil}
+use Rattle.std.proofs.lemmas.List.Splits.{length-slice_split}
 use Rattle.std.specs.Borrow.{Bor}
 use Rattle.query.specs.Words.{parts}
 use Rattle.query.specs.TextLeft.{after_part}
@@ -11,26 +12,15 @@ use Rattle.meaning.specs.Symbols.{is_symbol}
 use Rattle.query.specs.Values.{symbols_of}
 use Rattle.meaning.specs.Meaning.{are_symbols}
 
-append_none : (xs : List (List ℕ)) → xs ++ [] ≡ xs
-append_none xs = grind (arith, common_steps)
-
 -- a text has a part
 has_part : (p : ℕ → Bool) (text : List ℕ) → nat_lt 0 (length (slice_split p text)) ≡ true
-has_part p [] = refl
-has_part p (x ∷ xs) =
-    let go : (b : Bool) → nat_lt 0 (length (cond b ([] ∷ slice_split p xs) (onto_first x (slice_split p xs)))) ≡ true =
-    elim [ true ↦ lt-ltb _ _ (omega arith) | false ↦ first (slice_split p xs) ] in
-    go (p x)
-  where
-    first : (rest : List (List ℕ)) → nat_lt 0 (length (onto_first x rest)) ≡ true
-    first [] = refl
-    first (part ∷ more) = lt-ltb _ _ (omega arith)
+has_part p text = lt-ltb _ _ (omega (arith, length-slice_split p text))
 
 pub are_parts : (items : List (List ℕ)) (bytes : List ℕ) (rest : Option (Bor (List ℕ))) → rest ≡ None → items ++ after_part 44 rest ≡ parts 44 bytes
     → items ≡ parts 44 bytes
 are_parts items bytes rest none e =
     let f : items ++ after_part 44 None ≡ parts 44 bytes = subst (λ r. items ++ after_part 44 r ≡ parts 44 bytes) none e in
-    sym (append_none items) ∙ f
+    sym (append-nil items) ∙ f
 
 pub parts_are_symbols : (items : List (List ℕ)) (bytes : List ℕ) → items ≡ parts 44 bytes → list_all is_symbol items ≡ true → are_symbols items ≡ true
 parts_are_symbols items bytes e sound =

@@ -31,16 +31,20 @@ abbrev pub took : List ℕ → List Word → Result (List Word) QueryFault
 took text [] = Err Incomplete
 took text (w ∷ ws) = if reads_as text w then Ok ws else Err (UnknownWord w.at)
 
+-- a word that stands for a value, or the fault of one that doesn't
+abbrev pub one_value : {A : Type 0}
+    → (List ℕ → Option A) → (ℕ → QueryFault) → List Word → Result (A × List Word) QueryFault
+one_value values fault_at [] = Err Incomplete
+one_value values fault_at (w ∷ ws) = value_or (values w.bytes) (fault_at w.at) ws
+
 -- a time
 abbrev pub timed : List Word → Result (ℕ × List Word) QueryFault
-timed [] = Err Incomplete
-timed (w ∷ ws) = value_or (time_of w.bytes) (BadTime w.at) ws
+timed ws = one_value time_of BadTime ws
 
 -- a word that stands for a list
 abbrev pub one_list : {A : Type 0}
     → (List ℕ → Option A) → List Word → Result (A × List Word) QueryFault
-one_list values [] = Err Incomplete
-one_list values (w ∷ ws) = value_or (values w.bytes) (UnknownWord w.at) ws
+one_list values ws = one_value values UnknownWord ws
 
 -- `in` and a list
 unfoldable pub in_list : {A : Type 0}

@@ -11,12 +11,3 @@ returns-in-Some-2-clause-fits c =
     let known : length_of c.args.kind ≡ Some (length body) = cc c.in-Some.ensures in
     let room = FitsMessage-message_of_kind c.args.kind body (AreBytes-of_slice body c.type_inv.body) known in
     subst FitsMessage (sym c.message.ensures) room
-
-pub returns-in-None-clause-fault : goal.returns-in-None-clause-fault
-returns-in-None-clause-fault c = search rules
-
-pub returns-in-Some-clause-told : goal.returns-in-Some-clause-told
-returns-in-Some-clause-told c = search rules
-
-pub returns-in-Some-2-clause-fault : goal.returns-in-Some-2-clause-fault
-returns-in-Some-2-clause-fault c = search rules

@@ -18,6 +18,3 @@ returns-then-not-rises-clause-in_order c =
 
 pub returns-else-not-rises-clause-permutation : goal.returns-else-not-rises-clause-permutation
 returns-else-not-rises-clause-permutation c = IsPermutation-trans _ _ _ c.move_near.ensures c.sort_unstable_by_key.ensures.permutation
-
-pub returns-else-not-rises-clause-in_order : goal.returns-else-not-rises-clause-in_order
-returns-else-not-rises-clause-in_order c = search rules

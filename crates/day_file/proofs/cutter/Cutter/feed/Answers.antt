@@ -6,11 +6,10 @@ use Rattle.day_file.proofs.cutter.Cutter.feed.Goals as goal
 pub invariant_of-self : goal.invariant_of-self
 invariant_of-self c =
     let s = c.self.inside in
-    let rest = drop s.start s.rest.items in
     let done = c.extend_from_slice.result in
     let grown = c.extend_from_slice.ensures.items ∙ ap (λ l. if is_ok done then l ++ c.args.piece.now else l) c.remove_front.ensures in
     let sum = ap fed_length c.self.view_is in (
-      Cutting-grown (is_ok done) s.whole s.target s.past s.cut rest c.args.piece.now c.extend_from_slice.new.self.items c.self.invariant.0 grown
+      Cutting-grown (is_ok done) s.whole _ c.args.piece.now c.extend_from_slice.new.self.items c.self.invariant.0 grown
           (omega (arith, sum, c.requires, c.in_ok-cut_off.ensures.length)),
       omega arith,
     )
@@ -24,5 +23,4 @@ returns-clause-fed c = on_ok c.extend_from_slice.result _ (λ ok fed has.
     c.extend_from_slice.ensures.items ∙ ap (λ b. if b then c.remove_front.new.bytes.items ++ piece else c.remove_front.new.bytes.items) ok
     ∙ ap (λ l. l ++ piece) c.remove_front.ensures in
     let now = subst (λ (v : CutterView). HasFed v fed) (sym c.self.view_is) (c.in_ok-cut_off.ensures.fed fed has) in
-    subst (λ l. HasFed (record { target = s.target; cut = s.cut; past = s.past; rest = l }) (fed ++ piece)) (sym grown)
-    (HasFed-more s.target s.past s.cut rest fed piece now))
+    subst (λ l. HasFed (record { target = s.target; cut = s.cut; past = s.past; rest = l }) (fed ++ piece)) (sym grown) (HasFed-more _ fed piece now))

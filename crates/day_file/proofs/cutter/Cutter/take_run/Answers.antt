@@ -1,6 +1,6 @@
 use Rattle.std.proofs.Common.{◌≡◌, ℕ, ◌+◌, ◌-◌, ◌≤◌, length, take, drop, vec_len, sym, ap, ◌∙◌, subst, arith}
 use Rattle.std.specs.List.{concat}
-use Rattle.std.proofs.lemmas.List.{length-drop}
+use Rattle.std.proofs.lemmas.List.{drop-drop, length-drop}
 use Rattle.day_file.specs.Follow.{IsFirstRun}
 use Rattle.day_file.specs.Feeding.{CutterView, HasFed}
 use Rattle.day_file.specs.declared.cutter.Cutter.TheInside.{Inside}
@@ -19,18 +19,18 @@ taken c =
     let rest = drop s.start s.rest.items in
     let run : IsFirstRun s.target end rest = subst (λ (v : CutterView). IsFirstRun v.target end v.rest) (sym c.self.view_is) c.requires.run in
     let full : s.target ≤ end = subst (λ (v : CutterView). v.target ≤ end) (sym c.self.view_is) c.requires.full in
+    let left : drop (s.start + end) s.rest.items ≡ drop end rest = sym (drop-drop end s.start s.rest.items) in
     elim c.if-count-lt-MOST_MORSELS.branch [
       | then-count-lt-MOST_MORSELS+in_ok-run+in_ok-append w ↦
           let size : (s.start + end) - s.start ≡ end = omega arith in
           let is = w.in_ok-run.ensures.items ∙ ap (λ k. take k (drop s.start w.deref.result.now)) size
           ∙ ap (λ l. take end (drop s.start l)) w.deref.ensures.value in
           subst (λ (t : Inside). Taken end (viewed s.start s) (viewed (s.start + end) t)) (sym w.self-inside-is)
-          (Taken-kept s.target s.past end s.start s.cut w.append.new.self s.rest.items _ run full
-          (omega (arith, w.if-count-lt-MOST_MORSELS.true, c.count.ensures.count)) is w.in_ok-append.ensures.ok)
+          (Taken-kept (viewed s.start s) end run full w.append.new.self _ _
+          (omega (arith, w.if-count-lt-MOST_MORSELS.true, c.count.ensures.count)) is left w.in_ok-append.ensures.ok)
       | else-count-lt-MOST_MORSELS w ↦
           subst (λ (t : Inside). Taken end (viewed s.start s) (viewed (s.start + end) t)) (sym w.self-inside-is)
-          (Taken-past s.target s.past end s.start s.cut s.rest.items run full
-          (omega (arith, w.if-count-lt-MOST_MORSELS.false, c.count.ensures.count)))
+          (Taken-past (viewed s.start s) end run full _ (omega (arith, w.if-count-lt-MOST_MORSELS.false, c.count.ensures.count)) left)
     ]
 
 same_rest : (c : goal.After-self-3-1) → c.if-count-lt-MOST_MORSELS.self-inside.rest ≡ c.self.inside.rest

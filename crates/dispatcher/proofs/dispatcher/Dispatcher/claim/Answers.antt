@@ -1,4 +1,4 @@
-use Rattle.std.proofs.Common.{◌≡◌, ap, arith, rules}
+use Rattle.std.proofs.Common.{◌≡◌, ap, arith}
 use Rattle.dispatcher.specs.declared.rule.Size.{Size}
 use Rattle.dispatcher.proofs.dispatcher.Dispatcher.claim.Goals as goal
 use Rattle.dispatcher.proofs.StepsKeepRule.{claims}
@@ -12,21 +12,3 @@ fetch_add-number-requires g c = let table = c.args.self.now.table.shared in let 
       claims table.key inner.id inner.me c.args.seat.now.one_number (λ k d lt. omega (arith, c.requires.more k d lt))
           table.table_id.slots,
     )
-
-pub returns-then-number-tasks-clause-claims : goal.returns-then-number-tasks-clause-claims
-returns-then-number-tasks-clause-claims g c = search rules
-
-pub returns-then-number-tasks-clause-rises : goal.returns-then-number-tasks-clause-rises
-returns-then-number-tasks-clause-rises g c = search rules
-
-pub returns-then-number-tasks-clause-answer : goal.returns-then-number-tasks-clause-answer
-returns-then-number-tasks-clause-answer g c = search rules
-
-pub returns-else-number-tasks-clause-claims : goal.returns-else-number-tasks-clause-claims
-returns-else-number-tasks-clause-claims g c = search rules
-
-pub returns-else-number-tasks-clause-rises : goal.returns-else-number-tasks-clause-rises
-returns-else-number-tasks-clause-rises g c = search rules
-
-pub returns-else-number-tasks-clause-answer : goal.returns-else-number-tasks-clause-answer
-returns-else-number-tasks-clause-answer g c = search rules

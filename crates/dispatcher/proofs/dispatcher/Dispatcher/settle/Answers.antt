@@ -1,4 +1,4 @@
-use Rattle.std.proofs.Common.{◌≡◌, ◌==◌, ◌+◌, ℕ, false, slice_index, slice_index_or, ap, subst, sym, ◌∙◌, arith, rules}
+use Rattle.std.proofs.Common.{◌≡◌, ◌==◌, ◌+◌, ℕ, false, slice_index, slice_index_or, ap, subst, sym, ◌∙◌, arith}
 use Rattle.std.specs.Mem.Slots.{slots_items}
 use Rattle.dispatcher.specs.declared.rule.Size.{Size}
 use Rattle.dispatcher.specs.Rule.{occurrences, once_below}
@@ -50,6 +50,3 @@ returns-clause-marks g c = λ t. let items = c.args.seats.items in let gathered 
 pub returns-clause-seen : goal.returns-clause-seen
 returns-clause-seen g c = λ t saw. let gathered = c.gather-all.ensures.all.looks t in let word = (settled g c).marks t in
     flag g c t ∙ set_where_seen _ _ _ word (let has = of_some seen_tasks c.args.seats.items t saw in omega arith)
-
-pub returns-in_default-clause-seats_back : goal.returns-in_default-clause-seats_back
-returns-in_default-clause-seats_back g c = search rules

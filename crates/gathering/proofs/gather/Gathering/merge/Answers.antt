@@ -31,6 +31,3 @@ returns-clause-merged g c =
     other.folded kept.own_folded own.total other.total kept.own_total own.places.items other.places.items c.merge_places.new.own.items
     c.self.invariant c.other.invariant chosen c.merge_places.ensures.count c.merge_places.ensures.places in
     rw (← c.self.view_is, ← c.other.view_is) (c.fold_more.ensures ∙ (λ i. record { inputs = arc_value own.inputs; covered = united i }))
-
-pub returns-clause-other_inputs : goal.returns-clause-other_inputs
-returns-clause-other_inputs g c = search rules

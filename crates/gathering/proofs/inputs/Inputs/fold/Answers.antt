@@ -1,7 +1,7 @@
-use Rattle.std.proofs.Common.{◌≡◌, ◌<◌, arith, ◌∙◌, ap, subst, length, Some, None, get_or}
-use Rattle.std.proofs.lemmas.List.{length-map}
+use Rattle.std.proofs.Common.{◌≡◌, ◌<◌, arith, sym, ◌∙◌, ap, subst, length, Some, None, get_or}
+use Rattle.std.proofs.lemmas.List.{get_or_read, length-map}
 use Rattle.std.specs.Arc.{arc_value}
-use Rattle.gathering.proofs.CoveredTasks.{get_or_read, covered-fold}
+use Rattle.gathering.proofs.CoveredTasks.{covered-fold}
 use Rattle.gathering.proofs.Folding.{IsFolded-step}
 use Rattle.gathering.proofs.OneInputMore.{can_add, added}
 use Rattle.gathering.proofs.inputs.Inputs.fold.Goals as goal
@@ -18,7 +18,7 @@ add-requires g c =
     let t = c.loop-folded-test.true in
     omega (arith, folded.kept.one_each, ap length c.self.view_is, length-map c.self.inside.items.items arc_value)
     in
-    let here : get_or places p None ≡ Some c.in-Some.piece = get_or_read places p c.index.result.now None within c.index.ensures ∙ c.in-Some.is in
+    let here : get_or places p None ≡ Some c.in-Some.piece = sym (get_or_read places p c.index.result.now within c.index.ensures None) ∙ c.in-Some.is in
     can_add work.Gives work.IsTotalOf work.IsAdmissible g.W.Input.PartialEq.eq laws.equal_values c.args.self.now places folded.kept
     admissible p c.in-Some.piece here _ _ folded.total_is c.output.ensures
 
@@ -35,7 +35,7 @@ loop-folded-preserved g c =
     let t = c.loop-folded-test.true in
     omega (arith, folded.kept.one_each, ap length c.self.view_is, length-map c.self.inside.items.items arc_value)
     in
-    let here : get_or places p None ≡ Some c.in-Some.piece = get_or_read places p c.index.result.now None within c.index.ensures ∙ c.in-Some.is in
+    let here : get_or places p None ≡ Some c.in-Some.piece = sym (get_or_read places p c.index.result.now within c.index.ensures None) ∙ c.in-Some.is in
     let sum = added work.Gives work.IsTotalOf work.IsAdmissible eq laws.equal_values c.args.self.now places folded.kept
     admissible p c.in-Some.piece here _ _ folded.total_is c.output.ensures _ c.in_ok-add.ensures.ok in
     record {
