@@ -1,5 +1,5 @@
 -- Lists of equal inputs have equal inputs at each index and the same values, and a list is equal to itself. For who implements a work or stands on a gathering.
-use Rattle.std.specs.Prelude.{◌≡◌, ℕ, zero, suc, Bool, true, false, ◌&&◌, List, [], ◌∷◌, Some, map, slice_get, take, refl}
+use Rattle.std.specs.Prelude.{◌≡◌, ℕ, zero, suc, Bool, true, List, [], ◌∷◌, Some, map, slice_get, take, refl}
 use Rattle.std.proofs.lemmas.Bool.{and_parts}
 use Rattle.std.specs.Cmp.{IsEquivalence}
 use Rattle.std.specs.Cmp.Lexicographic.{lists_equiv}

@@ -2,8 +2,8 @@
 use Rattle.std.proofs.Common.{◌≡◌, ℕ, Bool, true, false, cond, List, [], ◌∷◌, Option, Some, None, refl, sym, ap, ◌∙◌, nat_lt}
 use Rattle.std.specs.Prelude.{◌*◌, Result, Ok, Err, codes, is_some}
 use Rattle.query.specs.Words.{Word, reads_as}
-use Rattle.query.specs.Forms.{◌>>=◌, value_or, took, timed, one_list, one_value, in_list, span_of, spanned, condition_of, width_at, unit_after, width_of, what_of}
-use Rattle.query.specs.Forms.{after_as, moment_of}
+use Rattle.query.specs.Forms.{◌>>=◌, value_or, took, timed, one_list, one_value, in_list, span_of, spanned, condition_of, width_at, unit_after, width_of}
+use Rattle.query.specs.Forms.{what_of, after_as, moment_of}
 use Rattle.query.specs.Values.{count_of, unit_of, time_of, symbols_of, kinds_of}
 use Rattle.meaning.specs.Meaning.{Meaning, is_width}
 use Rattle.query.specs.Said.{Said, meaning_of, only}

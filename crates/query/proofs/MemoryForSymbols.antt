@@ -73,7 +73,8 @@ in_sparing values ws =
     (λ rest. one_sparing values UnknownWord rest (λ at e. cc))
 
 rising_sparing : (since until : ℕ) (ws : List Word) → IsSparing after ws (span_of since until ws)
-rising_sparing since until ws = cond_sparing after ws (nat_lt since until) (Ok (record { since = since; until = until }, ws)) (Err EmptyRange) (λ h. h) (λ e. cc)
+rising_sparing since until ws =
+    cond_sparing after ws (nat_lt since until) (Ok (record { since = since; until = until }, ws)) (Err EmptyRange) (λ h. h) (λ e. cc)
 
 second_sparing : (since : ℕ) (ws : List Word) → IsSparing after ws (timed ws >>= (λ until. span_of since until.0 until.1))
 second_sparing since ws =

@@ -1,4 +1,4 @@
-use Rattle.std.proofs.Common.{◌≡◌, true, ◌∙◌, rules}
+use Rattle.std.proofs.Common.{◌≡◌, true, ◌∙◌}
 use Rattle.std.specs.Arc.{arc_value}
 use Rattle.gathering.specs.Adding.{same_inputs}
 use Rattle.gathering.proofs.Folding.{IsLonger, IsFolded-merge, covered-merge}

@@ -15,14 +15,16 @@ first_repeated-repeated-requires-clause-distinct g c =
     let rows = c.args.rows.items in
     let sorted = c.put_in_order.new.rows in
     let given = subst (λ l. IsPermutation l sorted) c.as_mut_slice.ensures.value c.put_in_order.ensures.permutation in
-    let kept = take_at sorted (drop (length sorted) rows) _ (length_permutation _ sorted c.put_in_order.ensures.permutation ∙ c.as_mut_slice.ensures.len) in
+    let kept = take_at sorted (drop (length sorted) rows) _
+    (length_permutation _ sorted c.put_in_order.ensures.permutation ∙ c.as_mut_slice.ensures.len) in
     rw (c.deref-else-rises.ensures.value ∙ kept) (distinct_as_given rows sorted given c.requires)
 
 pub first_repeated-repeated-requires-clause-in_order : goal.first_repeated-repeated-requires-clause-in_order
 first_repeated-repeated-requires-clause-in_order g c =
     let rows = c.args.rows.items in
     let sorted = c.put_in_order.new.rows in
-    let kept = take_at sorted (drop (length sorted) rows) _ (length_permutation _ sorted c.put_in_order.ensures.permutation ∙ c.as_mut_slice.ensures.len) in
+    let kept = take_at sorted (drop (length sorted) rows) _
+    (length_permutation _ sorted c.put_in_order.ensures.permutation ∙ c.as_mut_slice.ensures.len) in
     subst IsInOrder (sym (c.deref-else-rises.ensures.value ∙ kept)) c.put_in_order.ensures.in_order
 
 pub new-requires : goal.new-requires
@@ -33,7 +35,8 @@ new-requires g c =
           (rw w.rows-is (references_do_not_fall rows (in_order_from_rising rows (subst (AllPairs (λ (x y : OrderRow). x.order_no < y.order_no)) c.deref.ensures.value (c.rises.ensures w.if-rises.true)))))
       | else-rises w ↦
           (let sorted = w.put_in_order.new.rows in
-          let kept = take_at sorted (drop (length sorted) rows) _ (length_permutation _ sorted w.put_in_order.ensures.permutation ∙ w.as_mut_slice.ensures.len) in
+          let kept = take_at sorted (drop (length sorted) rows) _
+          (length_permutation _ sorted w.put_in_order.ensures.permutation ∙ w.as_mut_slice.ensures.len) in
           rw w.rows-is (rw kept (references_do_not_fall sorted w.put_in_order.ensures.in_order)))
     ]
 
@@ -47,7 +50,8 @@ returns-clause-table g c = λ q.
       | else-rises w ↦
           (let sorted = w.put_in_order.new.rows in
           let given = subst (λ l. IsPermutation l sorted) w.as_mut_slice.ensures.value w.put_in_order.ensures.permutation in
-          let kept = take_at sorted (drop (length sorted) rows) _ (length_permutation _ sorted w.put_in_order.ensures.permutation ∙ w.as_mut_slice.ensures.len) in
+          let kept = take_at sorted (drop (length sorted) rows) _
+          (length_permutation _ sorted w.put_in_order.ensures.permutation ∙ w.as_mut_slice.ensures.len) in
           rw w.rows-is (rw kept (first_as_given rows sorted q c.requires given w.put_in_order.ensures.in_order)))
     ] in
     ap (find (λ (row : OrderRow). eqb row.order_no q)) c.new.ensures ∙ kept
@@ -62,7 +66,8 @@ returns-clause-repeated g c =
       | else-rises w ↦
           (let sorted = w.put_in_order.new.rows in
           let given = subst (λ l. IsPermutation l sorted) w.as_mut_slice.ensures.value w.put_in_order.ensures.permutation in
-          let kept = take_at sorted (drop (length sorted) rows) _ (length_permutation _ sorted w.put_in_order.ensures.permutation ∙ w.as_mut_slice.ensures.len) in
+          let kept = take_at sorted (drop (length sorted) rows) _
+          (length_permutation _ sorted w.put_in_order.ensures.permutation ∙ w.as_mut_slice.ensures.len) in
           rw w.repeated-is
           (w.first_repeated-repeated.ensures ∙ ap first_repeated (w.deref-else-rises.ensures.value ∙ kept) ∙ repeated_as_given rows sorted c.requires given))
     ] in
