@@ -1,6 +1,5 @@
 use linked_list_allocator::LocalHeap;
 use probe::{Kind, Sale};
-use std::alloc::Global;
 use std::test::Fail;
 use time_and_sales::{
     DirectoryRow, Names, OutOfMemory, append_price, append_seconds, append_time, write_header,
@@ -74,23 +73,6 @@ fn write_lines<'a>(out: &mut Vec<u8, &'a LocalHeap>, names: &Names) -> Result<()
     Ok(())
 }
 
-/// Whether the lines are written to a heap of so many bytes, and whether what is written is right: all of them, or some
-/// of the first ones whole.
-fn written_within(alloc: Global, bytes: usize, names: &Names) -> Result<(bool, bool), OutOfMemory> {
-    let heap = LocalHeap::new(alloc, bytes)?;
-    let mut out = Vec::new(&heap);
-    let is_written = write_lines(&mut out, names).is_ok();
-    let is_whole = if is_written {
-        out.len() == LINES.len()
-    } else {
-        out.last().is_none_or(|last| *last == b'\n')
-    };
-    Ok((
-        is_written,
-        is_whole && LINES.as_bytes().starts_with(out.as_slice()),
-    ))
-}
-
 #[test]
 fn lines_of_sales_are_written_whole_or_not_at_all(rt: HostRuntime) -> Result<(), Fail> {
     let row = DirectoryRow {
@@ -101,12 +83,15 @@ fn lines_of_sales_are_written_whole_or_not_at_all(rt: HostRuntime) -> Result<(),
     let names = Names::build(rt.alloc(), &[row])?;
     let (mut was_refused, mut finished) = (false, false);
     for step in 1..100 {
-        let (is_written, is_right) = written_within(rt.alloc(), 16 * step, &names)?;
-        assert!(rt; is_right);
-        finished = is_written;
+        let heap = LocalHeap::new(rt.alloc(), 16 * step)?;
+        let mut out = Vec::new(&heap);
+        finished = write_lines(&mut out, &names).is_ok();
+        assert!(rt; LINES.as_bytes().starts_with(out.as_slice()));
         if finished {
+            assert!(rt; out.len() == LINES.len());
             break;
         }
+        assert!(rt; out.last().is_none_or(|last| *last == b'\n'));
         was_refused = true;
     }
     assert!(rt; was_refused && finished);

@@ -3,7 +3,7 @@ ghost use Rattle.std.specs.List.{IsDistinct, flat_map};
 
 use linked_list_allocator::LocalHeap;
 use probe::{Kind, Sale};
-use std::alloc::{Allocator, Global};
+use std::alloc::Allocator;
 use std::test::Fail;
 use time_and_sales::{Listing, OutOfMemory};
 
@@ -69,41 +69,23 @@ fn stands_at<A: Allocator>(listing: &Listing<A>, places: &[u64]) -> bool {
         .eq(places.iter().copied())
 }
 
-/// Whether two listings are united in a heap of so many bytes, and whether what comes is right: the sales of both,
-/// or of the first. None if there is no room for the two.
-fn united_within(alloc: Global, bytes: usize) -> Result<Option<(bool, bool)>, OutOfMemory> {
-    let heap = LocalHeap::new(alloc, bytes)?;
-    let Ok((mut one, other)) = listings(&heap) else {
-        return Ok(None);
-    };
-    let is_united = one.unite(&other).is_ok();
-    let places = if is_united {
-        [41, 87, 133].as_slice()
-    } else {
-        [41, 133].as_slice()
-    };
-    Ok(Some((is_united, stands_at(&one, places))))
-}
-
 #[test]
 fn listings_take_in_others_or_stay(rt: HostRuntime) -> Result<(), Fail> {
     let (mut was_refused, mut finished) = (false, false);
     for step in 1..100 {
-        if let Some((is_united, is_right)) = united_within(rt.alloc(), 16 * step)? {
-            assert!(rt; is_right);
-            finished = is_united;
-            if finished {
-                break;
-            }
-            was_refused = true;
+        let heap = LocalHeap::new(rt.alloc(), 16 * step)?;
+        let Ok((mut one, other)) = listings(&heap) else {
+            continue;
+        };
+        if one.unite(&other).is_ok() {
+            assert!(rt; stands_at(&one, &[41, 87, 133]));
+            finished = true;
+            break;
         }
+        assert!(rt; stands_at(&one, &[41, 133]));
+        was_refused = true;
     }
     assert!(rt; was_refused && finished);
-    Ok(())
-}
-
-#[test]
-fn the_later_listing_takes_in_the_earlier_one(rt: HostRuntime) -> Result<(), Fail> {
     let heap = LocalHeap::new(rt.alloc(), 1 << 12)?;
     let (one, mut other) = listings(&heap)?;
     other.unite(&one)?;
@@ -113,31 +95,20 @@ fn the_later_listing_takes_in_the_earlier_one(rt: HostRuntime) -> Result<(), Fai
     Ok(())
 }
 
-/// Whether two listings are merged in a heap of so many bytes, and have the sales of both; None if there is no room.
-fn merged_within(alloc: Global, bytes: usize) -> Result<Option<Option<bool>>, OutOfMemory> {
-    let heap = LocalHeap::new(alloc, bytes)?;
-    let Ok(both) = in_one_vector(&heap) else {
-        return Ok(None);
-    };
-    match Listing::merge_all(&heap, both) {
-        Ok(all) => Ok(Some(Some(stands_at(&all, &[41, 87, 133])))),
-        Err(_) => Ok(Some(None)),
-    }
-}
-
 #[test]
 fn many_listings_are_merged_or_refused(rt: HostRuntime) -> Result<(), Fail> {
     let (mut was_refused, mut finished) = (false, false);
     for step in 1..200 {
-        match merged_within(rt.alloc(), 16 * step)? {
-            None => {}
-            Some(None) => was_refused = true,
-            Some(Some(is_right)) => {
-                assert!(rt; is_right);
-                finished = true;
-                break;
-            }
+        let heap = LocalHeap::new(rt.alloc(), 16 * step)?;
+        let Ok(both) = in_one_vector(&heap) else {
+            continue;
+        };
+        if let Ok(all) = Listing::merge_all(&heap, both) {
+            assert!(rt; stands_at(&all, &[41, 87, 133]));
+            finished = true;
+            break;
         }
+        was_refused = true;
     }
     assert!(rt; was_refused && finished);
     let heap = LocalHeap::new(rt.alloc(), 1 << 12)?;
