@@ -1,7 +1,8 @@
 use Rattle.std.proofs.Common.{rules, arith, ◌<◌, ◌^◌, [], ◌∷◌, subst, sym, All}
 use Rattle.std.specs.List.{IsDistinct}
 use Rattle.std.proofs.lemmas.List.{append-nil}
-use Rattle.std.proofs.lemmas.List.Elements.{All-append}
+use Rattle.std.proofs.lemmas.List.Elements.{All-append, All-cons, All-nil}
+use Rattle.row_types.specs.declared.trade.Sale.{Sale}
 use Rattle.bars.specs.Bars.{IsTraded}
 use Rattle.bars.specs.declared.bar.Bar.{Bar}
 use Rattle.bars.proofs.SumsAreBounded.{all_sums_fit}
@@ -18,6 +19,15 @@ minutes-requires-2-clause-places c = search rules
 pub minutes-requires-3-clause-places : goal.minutes-requires-3-clause-places
 unfolding IsDistinct
 minutes-requires-3-clause-places c = search rules
+
+pub minutes-requires-2-clause-times : goal.minutes-requires-2-clause-times
+minutes-requires-2-clause-times c =
+    let early = λ (s : Sale). s.time < 2 ^ 48 in
+    let last : All early (c.sale-7.result ∷ []) = All-cons early c.sale-7.result [] c.sale-7.ensures.time (All-nil early) in
+    let two : All early (c.sale-6.result ∷ c.sale-7.result ∷ []) = All-cons early c.sale-6.result (c.sale-7.result ∷ []) c.sale-6.ensures.time last in
+    let three : All early (c.sale-5.result ∷ c.sale-6.result ∷ c.sale-7.result ∷ []) =
+    All-cons early c.sale-5.result (c.sale-6.result ∷ c.sale-7.result ∷ []) c.sale-5.ensures.time two in
+    All-cons early c.sale-4.result (c.sale-5.result ∷ c.sale-6.result ∷ c.sale-7.result ∷ []) c.sale-4.ensures.time three
 
 pub returns-clause-sums : goal.returns-clause-sums
 returns-clause-sums c =
