@@ -7,7 +7,7 @@ mod breaks;
 #[cfg(test)]
 mod far;
 #[cfg(test)]
-mod lists;
+mod order_lists;
 #[cfg(test)]
 mod orders;
 #[cfg(test)]
