@@ -38,7 +38,7 @@ fn a_list_takes_its_room_at_once_or_is_refused(rt: HostRuntime) -> Result<(), Fa
             break;
         }
     }
-    assert!(rt; enough.is_some_and(|step| step >= 9));
+    assert!(rt; enough.is_some_and(|step| step >= 7));
     Ok(())
 }
 
