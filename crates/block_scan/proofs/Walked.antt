@@ -1,6 +1,6 @@
 -- What is walked of a buffer.
-use Rattle.std.proofs.Common.{◌≡◌, ℕ, ◌+◌, ◌*◌, ◌<◌, Bool, true, false, nat_le, List, [], ◌∷◌, ◌++◌, Option, None, Some, MatchOption}
-use Rattle.std.proofs.Common.{length, slice_index, take, drop, take_at, drop_at, refl, sym, ap, ◌∙◌, subst, arith, append_assoc, append-nil}
+use Rattle.std.proofs.Common.{◌≡◌, ℕ, ◌+◌, ◌-◌, ◌*◌, ◌<◌, Bool, true, false, nat_le, List, [], ◌∷◌, ◌++◌, Option, None, Some, MatchOption}
+use Rattle.std.proofs.Common.{length, slice_index, take, drop, take_at, drop_at, refl, sym, ap, ◌∙◌, subst, arith, append_assoc}
 use Rattle.std.proofs.lemmas.Bool.{leb-true}
 use Rattle.std.proofs.lemmas.Bool.Decides.{nat_tests}
 use Rattle.std.proofs.lemmas.List.{length-append, get_or-drop, length-drop}
@@ -11,25 +11,8 @@ use Rattle.day_file.proofs.Laws.{spelling-append, StandAt-split}
 use Rattle.day_file.proofs.Moved.{moved, stands_moved}
 use Rattle.day_file.proofs.Readings.{AreShort, IsReading, IsReading-truncated, IsReading-whole, length-spelling, tail_short}
 use Rattle.day_file.proofs.Walks.{frame_found}
-use Rattle.scanning.specs.Scans.{ScanView, TakesIn, scan_of}
+use Rattle.scanning.specs.Scans.{AreTakenIn, ScanView}
 use Rattle.block_scan.specs.Pieces.{IsWalked}
-
--- what a loop over frames has walked
-pub record IsWalking (as_of : Option ℕ) (all left : List PlacedBody) (walked : ℕ) (old new : ScanView) : Type 0 where
-  pub front : List PlacedBody
-  pub split : all ≡ front ++ left
-  pub walked_is : walked ≡ length (spelling front)
-  pub takes : TakesIn as_of front old new
-
--- ---- frames taken in
-
-pub takes_none : (as_of : Option ℕ) (scan : ScanView) → TakesIn as_of [] scan scan
-takes_none as_of scan n frames some most is = is ∙ ap (scan_of n as_of) (sym (append-nil frames))
-
-pub takes_more : (as_of : Option ℕ) (xs ys : List PlacedBody) (old scan new : ScanView) → TakesIn as_of xs old scan → TakesIn as_of ys scan new
-    → TakesIn as_of (xs ++ ys) old new
-takes_more as_of xs ys old scan new p q n frames some most is =
-    q n (frames ++ xs) some most (p n frames some most is) ∙ ap (scan_of n as_of) (append_assoc frames xs ys)
 
 -- ---- what is read
 
@@ -73,26 +56,27 @@ stuck_short (high ∷ low ∷ after) b s = go (nat_le size (length after)) refl
         let less : length after < size = grind (arith, nat_tests) in
         omega (arith, less, b 0, b 1)
 
--- ---- the loop
+-- ---- the walk
 
--- where a walk stops at its target, or has no frame left
-pub walk_ends : (as_of : Option ℕ) (bytes : List ℕ) (place target walked : ℕ) (all left : List PlacedBody) (rest : List ℕ) (old new : ScanView)
-    → EachByte bytes → AreBytes bytes → IsReading place bytes all rest → IsWalking as_of all left walked old new → (place + walked < target → left ≡ [])
+-- what is taken in of the frames of bytes is walked
+pub walked_of : (as_of : Option ℕ) (bytes : List ℕ) (place target walked : ℕ) (all : List PlacedBody) (rest : List ℕ) (old new : ScanView)
+    → EachByte bytes → AreBytes bytes → IsReading place bytes all rest → AreTakenIn as_of all (target - place) walked old new
     → IsWalked as_of bytes place target walked old new
-walk_ends as_of bytes place target walked all left rest old new b are reading w stop =
+walked_of as_of bytes place target walked all rest old new b are reading w =
     let front = w.front in
-    let split : bytes ≡ spelling front ++ (spelling left ++ rest) = reading.split ∙ ap (λ l. spelling l ++ rest) w.split
-    ∙ ap (λ l. l ++ rest) (spelling-append front left) ∙ append_assoc (spelling front) (spelling left) rest in
+    let split : bytes ≡ spelling front ++ (spelling w.rest ++ rest) = reading.split ∙ ap (λ l. spelling l ++ rest) w.split
+    ∙ ap (λ l. l ++ rest) (spelling-append front w.rest) ∙ append_assoc (spelling front) (spelling w.rest) rest in
     let n : length (spelling front) ≡ walked = sym w.walked_is in
     let ends : place + walked < target → IsStuck (drop walked bytes) = λ h. subst IsStuck
-    (sym (ap (drop walked) split ∙ drop_at (spelling front) (spelling left ++ rest) walked n ∙ ap (λ l. spelling l ++ rest) (stop h))) reading.stuck in
+    (sym (ap (drop walked) split ∙ drop_at (spelling front) (spelling w.rest ++ rest) walked n ∙ ap (λ l. spelling l ++ rest) (w.ends (omega (arith, h)))))
+    reading.stuck in
     record {
       frames = front;
-      within = omega (arith, ap length split, length-append (spelling front) (spelling left ++ rest), n);
+      within = omega (arith, ap length split, length-append (spelling front) (spelling w.rest ++ rest), n);
       stands = record {
-        places = (StandAt-split place front left (subst (StandAt place) w.split reading.places)).0;
-        short = front_short front left (subst AreShort w.split reading.short);
-        whole = ap (take walked) split ∙ take_at (spelling front) (spelling left ++ rest) walked n;
+        places = (StandAt-split place front w.rest (subst (StandAt place) w.split reading.places)).0;
+        short = front_short front w.rest (subst AreShort w.split reading.short);
+        whole = ap (take walked) split ∙ take_at (spelling front) (spelling w.rest ++ rest) walked n;
       };
       are = All-take (λ byte. byte < 256) walked bytes are;
       takes = w.takes;
@@ -101,21 +85,3 @@ walk_ends as_of bytes place target walked all left rest old new b are reading w 
           let s = stuck_short (drop walked bytes) (λ k. rw (get_or-drop walked bytes k 0) (b (walked + k))) (ends h) in
           omega (arith, s, length-drop walked bytes);
     }
-
--- the next frame stands where the walk is
-pub next_place : (as_of : Option ℕ) (bytes : List ℕ) (place walked : ℕ) (all left : List PlacedBody) (rest : List ℕ) (old new : ScanView) (x : PlacedBody)
-    (xs : List PlacedBody) → IsReading place bytes all rest → IsWalking as_of all left walked old new → left ≡ x ∷ xs → x.place ≡ place + walked
-next_place as_of bytes place walked all left rest old new x xs reading w step =
-    let later = (StandAt-split place w.front left (subst (StandAt place) w.split reading.places)).1 in
-    (subst (StandAt (place + length (spelling w.front))) step later).0 ∙ ap (λ n. place + n) (sym w.walked_is)
-
--- with one frame more
-pub walk_goes_on : (as_of : Option ℕ) (all left : List PlacedBody) (walked : ℕ) (old scan new : ScanView) (x : PlacedBody) (xs : List PlacedBody)
-    → IsWalking as_of all left walked old scan → left ≡ x ∷ xs → TakesIn as_of (x ∷ []) scan new → IsWalking as_of all xs (walked + (2 + length x.body)) old new
-walk_goes_on as_of all left walked old scan new x xs w step takes = record {
-  front = w.front ++ x ∷ [];
-  split = w.split ∙ ap (λ l. w.front ++ l) step ∙ sym (append_assoc w.front (x ∷ []) xs);
-  walked_is = omega
-      (arith, w.walked_is, ap length (spelling-append w.front (x ∷ [])), length-append (spelling w.front) (spelling (x ∷ [])), length-spelling x []);
-  takes = takes_more as_of w.front (x ∷ []) old scan new w.takes takes;
-}

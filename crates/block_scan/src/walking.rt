@@ -4,7 +4,7 @@ ghost use Rattle.lists.specs.declared.limits.TheConstants.{LONGEST_FILE};
 ghost use Rattle.block_scan.specs.Pieces.{IsWalked};
 
 use crate::OutOfMemory;
-use day_file::{Frames, LENGTH_BYTES};
+use day_file::Frames;
 use lists::limits::LONGEST_FILE;
 use scanning::OpenScan;
 
@@ -20,13 +20,10 @@ pub(crate) fn walk(
     requires { place + length bytes.now ≤ LONGEST_FILE }
     ensures { IfOk result (λ walked. IsWalked as_of bytes.now place target walked scan.old scan.new) }
 {
-    let mut walked = 0;
-    for frame in Frames::of(place, bytes) {
-        if frame.place >= target {
-            return Ok(walked);
-        }
-        walked += LENGTH_BYTES + frame.body.len();
-        scan.take_in(as_of, frame)?;
-    }
-    Ok(walked)
+    let walked = scan.take_in(
+        as_of,
+        Frames::of(place, bytes),
+        target.saturating_sub(place),
+    )?;
+    Ok(walked as usize)
 }

@@ -19,5 +19,5 @@ pub use law::one_body_each;
 pub use layout::LengthFault;
 pub use lists::OutOfMemory;
 pub use message::{Add, Broken, Cross, Directory, Executed, ExecutedAt, Message, Replace, Trade};
-pub use reading::{kind_of, read, read_of_kind};
+pub use reading::{is_read, kind_of, read, read_of_kind};
 pub use writing::append;

@@ -1,5 +1,5 @@
 //! Reading a body.
-ghost use Rattle.std.specs.Prelude.{◌≡◌, ◌≤◌, ◌↔◌, Some, true, length, IsErr, IfErr, IfOk};
+ghost use Rattle.std.specs.Prelude.{◌≡◌, ◌≤◌, ◌↔◌, Some, true, length, is_some, IsErr, IfErr, IfOk};
 ghost use Rattle.itch_messages.specs.Body.{add_of, broken_of, cross_of, directory_of, executed_at_of, executed_of, header_of, replace_of, trade_of};
 ghost use Rattle.itch_messages.specs.Body.{FitsMessage, has_wrong_length, kind_of, length_fault_of, message_of, message_of_kind};
 ghost use Rattle.itch_messages.specs.Layout.{length_of};
@@ -170,6 +170,14 @@ pub fn kind_of(body: &[u8]) -> u8
         return 0;
     }
     body[0]
+}
+
+/// Whether a type is one of the nine that are read. A body of any other type is `Skipped`.
+#[inline(always)]
+pub fn is_read(kind: u8) -> bool
+    ensures { result ≡ is_some (length_of kind) }
+{
+    wanted_length(kind).is_some()
 }
 
 /// The message that a body is, by the table of TotalView-ITCH 5.0, section 1. An empty body is

@@ -1,3 +1,4 @@
 pub mod ScanOfFrames
+pub mod PickedFrames
 pub mod MorselInputs
 pub mod TotalOfScans

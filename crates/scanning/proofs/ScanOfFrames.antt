@@ -20,12 +20,6 @@ use Rattle.morsel_rows.specs.Partitions.{MorselRowsView, in_partitions}
 use Rattle.scanning.specs.Scans.{ScanView, TakesIn, scan_of, wrong_at, wrong_in}
 use Rattle.scanning.specs.declared.wrong.WrongLength.{WrongLength}
 
--- what a loop over frames has found in those before the ones that are left
-pub record IsScanning (n : ℕ) (as_of : Option ℕ) (all left : List PlacedBody) (scan : ScanView) : Type 0 where
-  pub front : List PlacedBody
-  pub split : all ≡ front ++ left
-  pub is : scan ≡ scan_of n as_of front
-
 -- one message more, as it is added to rows in partitions
 abbrev pub AddsCounted : Option ℕ → ℕ → Message → MorselRowsView → MorselRowsView → Type 0
 AddsCounted as_of place message old new =
@@ -72,20 +66,3 @@ passes as_of frame rows wrong next told is told_is later n front some most so_fa
     (ap (λ (scan : ScanView). scan.wrong) so_far) tells
     ∙ sym (least_more (λ (w : WrongLength). w.place) wrong_at front frame) in
     λ i. record { rows = same i; wrong = least i }
-
--- a turn of the loop
-pub scan_goes_on : (n : ℕ) (as_of : Option ℕ) (all left : List PlacedBody) (frame : PlacedBody) (rest : List PlacedBody) (old new : ScanView)
-    → 0 < n → n ≤ MOST_PARTITIONS → IsScanning n as_of all left old → left ≡ frame ∷ rest → TakesIn as_of (frame ∷ []) old new
-    → IsScanning n as_of all rest new
-scan_goes_on n as_of all left frame rest old new some most so_far step takes = record {
-  front = so_far.front ++ frame ∷ [];
-  split = so_far.split ∙ ap (λ l. so_far.front ++ l) step ∙ sym (append_assoc so_far.front (frame ∷ []) rest);
-  is = takes n so_far.front some most so_far.is;
-}
-
--- where no frame is left, the scan is of all
-pub scan_ends : (n : ℕ) (as_of : Option ℕ) (all left : List PlacedBody) (scan : ScanView) → IsScanning n as_of all left scan → left ≡ []
-    → scan ≡ scan_of n as_of all
-scan_ends n as_of all left scan so_far none =
-    let front : so_far.front ≡ all = sym (so_far.split ∙ ap (λ l. so_far.front ++ l) none ∙ append-nil so_far.front) in
-    so_far.is ∙ ap (scan_of n as_of) front

@@ -1,2 +1,3 @@
 pub mod EqualScans
 pub mod Scans
+pub mod Picked

@@ -8,7 +8,7 @@ use Rattle.lists.specs.Least.{least_by}
 use Rattle.lists.specs.declared.limits.TheConstants.{LONGEST_FILE, MOST_PARTITIONS}
 use Rattle.itch_messages.specs.Body.{has_wrong_length, length_fault_of}
 use Rattle.day_file.specs.Cuts.{IsRun, MorselView, is_same_morsel}
-use Rattle.day_file.specs.Frames.{PlacedBody}
+use Rattle.day_file.specs.Frames.{PlacedBody, spelling}
 use Rattle.day_file.specs.Kept.{numbered}
 use Rattle.day_file.specs.Walk.{frames_of}
 use Rattle.day_rows.specs.DayRows.{rows_of}
@@ -56,6 +56,23 @@ abbrev pub TakesIn : Option ℕ → List PlacedBody → ScanView → ScanView �
 TakesIn as_of more old new =
     (n : ℕ) (frames : List PlacedBody) → 0 < n → n ≤ MOST_PARTITIONS →
     old ≡ scan_of n as_of frames → new ≡ scan_of n as_of (frames ++ more)
+
+-- of frames, the first ones were taken in, which have so many bytes: all that have fewer bytes than this before them
+pub record AreTakenIn (as_of : Option ℕ) (frames : List PlacedBody) (bytes walked : ℕ) (old new : ScanView)
+    : Type 0 where
+  pub front : List PlacedBody
+  pub rest : List PlacedBody
+  pub split : frames ≡ front ++ rest
+  pub walked_is : walked ≡ length (spelling front)
+  pub takes : TakesIn as_of front old new
+  pub ends : walked < bytes → rest ≡ []
+
+-- of frames, the first ones were taken in
+pub record AreSomeTakenIn (as_of : Option ℕ) (frames : List PlacedBody) (old new : ScanView) : Type 0 where
+  pub front : List PlacedBody
+  pub rest : List PlacedBody
+  pub split : frames ≡ front ++ rest
+  pub takes : TakesIn as_of front old new
 
 -- the value of an input
 abbrev pub scanned : ScanInputView → ScanView

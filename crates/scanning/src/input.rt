@@ -3,6 +3,7 @@ ghost use Rattle.std.specs.Prelude.{◌≡◌, ◌+◌, ◌<◌, ◌≤◌, leng
 ghost use Rattle.std.specs.Arc.{arc_value};
 ghost use Rattle.std.specs.Cmp.{partial_equiv_from_equiv};
 ghost use Rattle.lists.specs.declared.limits.TheConstants.{LONGEST_FILE, MOST_PARTITIONS};
+ghost use Rattle.day_file.specs.Frames.{spelling};
 ghost use Rattle.day_file.specs.Walk.{frames_of};
 ghost use Rattle.scanning.specs.EqualScans.{input_equiv};
 ghost use Rattle.scanning.specs.Scans.{is_same_input};
@@ -80,7 +81,8 @@ impl ScanInput {
 
     /// The frames of the morsel in order, with their places in the whole file.
     pub fn frames(&self) -> Frames<'_>
-        ensures { result.frames ≡ frames_of self.now.morsel }
+        ensures frames { result.frames ≡ frames_of self.now.morsel }
+        ensures within { length (spelling result.frames) ≤ LONGEST_FILE }
     {
         Frames::of(self.start, self.morsel.bytes())
     }

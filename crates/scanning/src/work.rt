@@ -37,9 +37,7 @@ impl Work for ScanWork {
         let as_of = input.as_of();
         let bytes = input.bytes().len() as u64;
         let mut scan = OpenScan::new(alloc, input.parts(), bytes)?;
-        for frame in input.frames() {
-            scan.take_in(as_of, frame)?;
-        }
+        scan.take_in(as_of, input.frames(), u64::MAX)?;
         scan.finish(alloc)
     }
 

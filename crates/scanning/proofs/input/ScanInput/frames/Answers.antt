@@ -5,8 +5,8 @@ use Rattle.day_file.proofs.CutFrames.{walk_stands}
 use Rattle.scanning.specs.Scans.{ScanInputView}
 use Rattle.scanning.proofs.input.ScanInput.frames.Goals as goal
 
-pub returns : goal.returns
-returns c =
+pub returns-clause-frames : goal.returns-clause-frames
+returns-clause-frames c =
     let start = c.self.inside.start in
     let bytes = c.bytes.result.now in
     c.of.ensures.whole (walk (length bytes) start bytes) (walk_stands start bytes c.bytes.ensures.run.whole)
