@@ -57,7 +57,7 @@ TakesIn as_of more old new =
     (n : ℕ) (frames : List PlacedBody) → 0 < n → n ≤ MOST_PARTITIONS →
     old ≡ scan_of n as_of frames → new ≡ scan_of n as_of (frames ++ more)
 
--- of frames, the first ones were taken in, which have so many bytes: all that have fewer bytes than this before them
+-- of frames, the first ones were taken in, which have `walked` bytes; if that is fewer than `bytes`, they are all
 pub record AreTakenIn (as_of : Option ℕ) (frames : List PlacedBody) (bytes walked : ℕ) (old new : ScanView)
     : Type 0 where
   pub front : List PlacedBody
