@@ -7,6 +7,7 @@ ghost use Rattle.morsel_rows.specs.LeanRows.{IsOrigin, row_of_lean};
 
 use crate::OutOfMemory;
 use crate::offsets::{LAST_START, offset_from};
+use crate::pushing::push;
 use crate::rising::RisingRows;
 use row_types::OrderRow;
 use std::alloc::Allocator;
@@ -150,7 +151,7 @@ impl<A: Allocator> LeanRows<A> {
         }
         match Lean::of(self.origin, row) {
             Some(lean) => {
-                self.rows.push(lean)?;
+                push(&mut self.rows, lean)?;
                 Ok(true)
             }
             None => Ok(false),

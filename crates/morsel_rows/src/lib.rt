@@ -11,6 +11,7 @@ mod numbers;
 mod offsets;
 mod orders;
 mod partition;
+mod pushing;
 mod rising;
 mod rows;
 

@@ -6,6 +6,7 @@ ghost use Rattle.morsel_rows.specs.NarrowRows.{row_of_narrow};
 
 use crate::OutOfMemory;
 use crate::offsets::{LAST_START, offset_from};
+use crate::pushing::push;
 use row_types::OrderRow;
 use std::alloc::Allocator;
 use std::marker::Model;
@@ -100,7 +101,7 @@ impl<A: Allocator> NarrowRows<A> {
         }
         match Narrow::of(self.start, row) {
             Some(narrow) => {
-                self.rows.push(narrow)?;
+                push(&mut self.rows, narrow)?;
                 Ok(true)
             }
             None => Ok(false),

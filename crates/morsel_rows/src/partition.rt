@@ -7,6 +7,7 @@ ghost use Rattle.morsel_rows.specs.SameRows.{is_same_partition, partition_equiv}
 
 use crate::OutOfMemory;
 use crate::orders::OrderList;
+use crate::pushing::push;
 use row_types::{Execution, OrderRow, Sale};
 use std::alloc::{Allocator, Global};
 use std::marker::Model;
@@ -97,8 +98,7 @@ impl<A: Allocator> Partition<A> {
         ensures added { OnOk result (self.new ≡ with_execution row self.old) }
         ensures unchanged { OnErr result (self.new ≡ self.old) }
     {
-        self.executions.push(row)?;
-        Ok(())
+        push(&mut self.executions, row)
     }
 
     /// Adds a sale. Where there is no memory for it, the partition stays as it was.
@@ -107,8 +107,7 @@ impl<A: Allocator> Partition<A> {
         ensures added { OnOk result (self.new ≡ with_sale row self.old) }
         ensures unchanged { OnErr result (self.new ≡ self.old) }
     {
-        self.own_priced.push(row)?;
-        Ok(())
+        push(&mut self.own_priced, row)
     }
 
     /// Gives memory back that is taken for further rows.
