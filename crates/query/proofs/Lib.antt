@@ -1,6 +1,5 @@
 pub mod MeaningOrFault
 pub mod CutAtSeparator
 pub mod SymbolLists
-pub mod FormsWordByWord
+pub mod WordByWord
 pub mod KindLists
-pub mod MemoryForSymbols

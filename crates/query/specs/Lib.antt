@@ -2,6 +2,6 @@ pub mod Words
 pub mod TextLeft
 pub mod Values
 pub mod Said
-pub mod Forms
 pub mod Grammar
 pub mod Faults
+pub mod Taken

@@ -1,11 +1,12 @@
 //! Reads a text as a query.
-ghost use Rattle.std.specs.Prelude.{◌≡◌, ◌≢◌, IfOk, IfErr, MatchResult, Ok, Err, Some, true};
-ghost use Rattle.query.specs.Faults.{first_query_fault, query, read_from};
-ghost use Rattle.query.specs.Forms.{what_of, width_of};
+ghost use Rattle.std.specs.Prelude.{◌≡◌, ◌≢◌, IfOk, IfErr, MatchResult, OnOk, Ok, Err, Some, true};
+ghost use Rattle.query.specs.Faults.{first_query_fault, moment, number, query, read_from};
 ghost use Rattle.query.specs.Grammar.{Means};
-ghost use Rattle.meaning.specs.Meaning.{CanBeSpelled, HasWidth, Meaning, is_width};
-ghost use Rattle.query.specs.Said.{meaning_of};
+ghost use Rattle.query.specs.Said.{meaning_of, only};
+ghost use Rattle.query.specs.Taken.{IsLater, IsRefused};
 ghost use Rattle.query.specs.Words.{lists_symbols, words_of};
+ghost use Rattle.meaning.specs.Meaning.{CanBeSpelled, HasWidth, Meaning, is_width};
+ghost use Rattle.meaning.specs.declared.query.What.TheVariants.{Bars};
 
 use crate::reading::Reading;
 use crate::values::{count_of, unit_of};
@@ -33,28 +34,26 @@ pub fn parse<A: Allocator + Clone>(alloc: A, text: &str) -> Result<Query<A>, Que
     Ok(reading.into_query())
 }
 
-#[tactic(auto, using(crate::proofs::FormsWordByWord::whole, crate::proofs::MemoryForSymbols::memory))]
+#[tactic(auto, using(crate::proofs::WordByWord::reading), unfolding(crate::specs::Faults::step))]
 fn read_query<A: Allocator + Clone>(alloc: A, text: &[u8]) -> Result<Reading<A>, QueryFault>
     ensures ok { IfOk result (λ said. read_from query (words_of text.now) ≡ Ok (meaning_of said)) }
-    ensures err { IfErr result (λ fault. fault ≢ QueryFault.OutOfMemory →
-        read_from query (words_of text.now) ≡ Err fault) }
-    ensures memory { IfErr result (λ fault. fault ≡ QueryFault.OutOfMemory →
-        lists_symbols (words_of text.now) ≡ true) }
+    ensures err { IfErr result (IsRefused query (words_of text.now)) }
 {
     let mut words = Words::of(text);
     let what = read_what(&mut words)?;
     let mut reading = Reading::only(what);
-    reading.read_moment(&mut words)?;
-    reading.read_filter(&alloc, &mut words)?;
+    reading.read_rest(&alloc, &mut words)?;
     Ok(reading)
 }
 
 /// Reads `sales`, or `bars` and a width.
-#[tactic(auto, unfolding(crate::specs::Forms::what_of))]
+#[tactic(auto, using(crate::proofs::WordByWord::reading), unfolding(crate::specs::Faults::step))]
 fn read_what(words: &mut Words<'_>) -> Result<What, QueryFault>
-    ensures ok { IfOk result (λ what. what_of words.old ≡ Ok (what, words.new)) }
+    ensures ok { IfOk result (λ what.
+        read_from query words.old ≡ read_from (moment (only what)) words.new) }
     ensures sound { IfOk result HasWidth }
-    ensures err { IfErr result (λ fault. what_of words.old ≡ Err fault) }
+    ensures err { IfErr result (λ fault. read_from query words.old ≡ Err fault) }
+    ensures later { OnOk result (IsLater words.old words.new) }
 {
     let word = words.required()?;
     if word.is(b"sales") {
@@ -67,11 +66,13 @@ fn read_what(words: &mut Words<'_>) -> Result<What, QueryFault>
 }
 
 /// Reads a number and its unit.
-#[tactic(auto, unfolding(crate::specs::Forms::width_of))]
+#[tactic(auto, using(crate::proofs::WordByWord::reading), unfolding(crate::specs::Faults::step))]
 fn read_width(words: &mut Words<'_>) -> Result<u32, QueryFault>
-    ensures ok { IfOk result (λ width. width_of words.old ≡ Ok (width, words.new)) }
+    ensures ok { IfOk result (λ width.
+        read_from number words.old ≡ read_from (moment (only (Bars width))) words.new) }
     ensures sound { IfOk result (λ width. is_width width ≡ true) }
-    ensures err { IfErr result (λ fault. width_of words.old ≡ Err fault) }
+    ensures err { IfErr result (λ fault. read_from number words.old ≡ Err fault) }
+    ensures later { OnOk result (IsLater words.old words.new) }
 {
     let number = words.required()?;
     let count = count_of(number.bytes).ok_or(QueryFault::BadNumber { at: number.at })?;

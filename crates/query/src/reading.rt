@@ -1,15 +1,13 @@
 //! The part of a query that was read.
-ghost use Rattle.std.specs.Prelude.{◌≡◌, ◌≢◌, ◌<◌, ◌≤◌, length, true, IfOk, IfErr, OnOk, Ok, Err, Some};
-ghost use Rattle.query.specs.Faults.{condition, filter, read_from};
-ghost use Rattle.query.specs.Forms.{condition_of, in_list, moment_of, spanned, timed};
-ghost use Rattle.meaning.specs.Meaning.{CanBeSpelled, HasWidth, are_symbols, has_some, is_span};
-ghost use Rattle.query.specs.Said.{Said, meaning_of, only};
-ghost use Rattle.query.specs.Values.{kinds_of, symbols_of};
-ghost use Rattle.query.specs.Words.{begins_list, lists_symbols};
+ghost use Rattle.std.specs.Prelude.{◌≡◌, ◌≢◌, true, IfErr, OnOk, Ok, Err};
+ghost use Rattle.query.specs.Faults.{condition, filter, kind_in, moment, more, read_from, symbol_in, time_from};
+ghost use Rattle.query.specs.Said.{meaning_of, only};
+ghost use Rattle.query.specs.Taken.{IsLater, IsRefused};
+ghost use Rattle.query.specs.Words.{begins_list};
+ghost use Rattle.meaning.specs.Meaning.{CanBeSpelled, HasWidth};
 
-use crate::values::{kinds_of, symbols_of, time_of};
+use crate::values::{kinds_of, symbols_of};
 use crate::words::Words;
-use lists::limits::SECONDS_OF_DAY;
 use meaning::{Query, Symbols, What};
 use outcomes::QueryFault;
 use probe::{Kinds, Span};
@@ -84,28 +82,29 @@ impl<A: Allocator + Clone> Reading<A> {
         }
     }
 
-    /// Reads `as of` and a time, if `as` comes next.
-    #[tactic(auto, unfolding(crate::specs::Forms::moment_of))]
-    pub(crate) fn read_moment(&mut self, words: &mut Words<'_>) -> Result<(), QueryFault>
-        ensures ok { OnOk result (moment_of self.old words.old ≡ Ok (self.new, words.new)) }
-        ensures err { IfErr result (λ fault. moment_of self.old words.old ≡ Err fault) }
+    /// Reads what may follow what is listed: `as of` and a time, and then a filter.
+    #[tactic(auto, using(crate::proofs::WordByWord::reading), unfolding(crate::specs::Faults::step))]
+    pub(crate) fn read_rest(&mut self, alloc: &A, words: &mut Words<'_>) -> Result<(), QueryFault>
+        ensures ok { OnOk result (read_from (moment self.old) words.old ≡ Ok (meaning_of self.new)) }
+        ensures err { IfErr result (IsRefused (moment self.old) words.old) }
     {
-        if words.take_if(b"as") {
-            words.expect(b"of")?;
-            self.as_of = Some(read_time(words)?);
+        let Some(word) = words.next() else {
+            return Ok(());
+        };
+        if word.is(b"as") {
+            words.required()?.require(b"of")?;
+            self.as_of = Some(words.required()?.time()?);
+            return self.read_filter(alloc, words);
         }
-        Ok(())
+        word.require(b"where")?;
+        self.read_conditions(alloc, words)
     }
 
     /// Reads to the end of the text: nothing, or `where` and conditions.
-    #[tactic(auto, using(crate::proofs::FormsWordByWord::filtering, crate::proofs::MemoryForSymbols::memory))]
-    pub(crate) fn read_filter(&mut self, alloc: &A, words: &mut Words<'_>) -> Result<(), QueryFault>
-        ensures ok { OnOk result (read_from (filter self.old) words.old
-            ≡ Ok (meaning_of self.new)) }
-        ensures err { IfErr result (λ fault. fault ≢ QueryFault.OutOfMemory →
-            read_from (filter self.old) words.old ≡ Err fault) }
-        ensures memory { IfErr result (λ fault. fault ≡ QueryFault.OutOfMemory →
-            lists_symbols words.old ≡ true) }
+    #[tactic(auto, using(crate::proofs::WordByWord::reading), unfolding(crate::specs::Faults::step))]
+    fn read_filter(&mut self, alloc: &A, words: &mut Words<'_>) -> Result<(), QueryFault>
+        ensures ok { OnOk result (read_from (filter self.old) words.old ≡ Ok (meaning_of self.new)) }
+        ensures err { IfErr result (IsRefused (filter self.old) words.old) }
     {
         let Some(word) = words.next() else {
             return Ok(());
@@ -115,14 +114,10 @@ impl<A: Allocator + Clone> Reading<A> {
     }
 
     /// Reads the conditions after `where`, to the end of the text.
-    #[tactic(auto, using(crate::proofs::FormsWordByWord::reading, crate::proofs::MemoryForSymbols::memory))]
+    #[tactic(auto, using(crate::proofs::WordByWord::reading), unfolding(crate::specs::Faults::step))]
     fn read_conditions(&mut self, alloc: &A, words: &mut Words<'_>) -> Result<(), QueryFault>
-        ensures ok { OnOk result (read_from (condition self.old) words.old
-            ≡ Ok (meaning_of self.new)) }
-        ensures err { IfErr result (λ fault. fault ≢ QueryFault.OutOfMemory →
-            read_from (condition self.old) words.old ≡ Err fault) }
-        ensures memory { IfErr result (λ fault. fault ≡ QueryFault.OutOfMemory →
-            lists_symbols words.old ≡ true) }
+        ensures ok { OnOk result (read_from (condition self.old) words.old ≡ Ok (meaning_of self.new)) }
+        ensures err { IfErr result (IsRefused (condition self.old) words.old) }
     {
         self.read_condition(alloc, words)?;
         while let Some(word) = words.next() {
@@ -133,14 +128,12 @@ impl<A: Allocator + Clone> Reading<A> {
     }
 
     /// Reads one condition.
-    #[tactic(auto, using(crate::proofs::MemoryForSymbols::memory), unfolding(crate::specs::Forms::condition_of))]
+    #[tactic(auto, using(crate::proofs::WordByWord::reading), unfolding(crate::specs::Faults::step))]
     fn read_condition(&mut self, alloc: &A, words: &mut Words<'_>) -> Result<(), QueryFault>
-        ensures ok { OnOk result (condition_of self.old words.old ≡ Ok (self.new, words.new)) }
-        ensures err { IfErr result (λ fault. fault ≢ QueryFault.OutOfMemory →
-            condition_of self.old words.old ≡ Err fault) }
-        ensures memory { IfErr result (λ fault. fault ≡ QueryFault.OutOfMemory →
-            lists_symbols words.old ≡ true) }
-        ensures shorter { OnOk result (length words.new < length words.old) }
+        ensures ok { OnOk result (read_from (condition self.old) words.old
+            ≡ read_from (more self.new) words.new) }
+        ensures err { IfErr result (IsRefused (condition self.old) words.old) }
+        ensures later { OnOk result (IsLater words.old words.new) }
     {
         let word = words.required()?;
         let at = word.at;
@@ -148,82 +141,72 @@ impl<A: Allocator + Clone> Reading<A> {
             if self.symbols.is_some() {
                 return Err(QueryFault::Repeated { at });
             }
-            self.symbols = Some(read_symbols(alloc, words)?);
+            self.read_symbols(alloc, words)
         } else if word.is(b"time") {
             if self.span.is_some() {
                 return Err(QueryFault::Repeated { at });
             }
-            self.span = Some(read_span(words)?);
+            self.read_span(words)
         } else if word.is(b"kind") {
             if self.kinds.is_some() {
                 return Err(QueryFault::Repeated { at });
             }
-            self.kinds = Some(read_kinds(words)?);
+            self.read_kinds(words)
         } else {
-            return Err(QueryFault::UnknownWord { at });
+            Err(QueryFault::UnknownWord { at })
         }
+    }
+
+    /// Reads `in` and a list of symbols.
+    #[tactic(auto, using(crate::proofs::WordByWord::reading), unfolding(crate::specs::Faults::step))]
+    fn read_symbols(&mut self, alloc: &A, words: &mut Words<'_>) -> Result<(), QueryFault>
+        ensures ok { OnOk result (read_from (symbol_in self.old) words.old
+            ≡ read_from (more self.new) words.new) }
+        ensures err { IfErr result (λ fault. fault ≢ QueryFault.OutOfMemory →
+            read_from (symbol_in self.old) words.old ≡ Err fault) }
+        ensures memory { IfErr result (λ fault. fault ≡ QueryFault.OutOfMemory →
+            begins_list words.old ≡ true) }
+        ensures later { OnOk result (IsLater words.old words.new) }
+    {
+        words.required()?.require(b"in")?;
+        let list = words.required()?;
+        let alloc = alloc.clone().map_err(|_| QueryFault::OutOfMemory)?;
+        let symbols = symbols_of(alloc, list.bytes).map_err(|_| QueryFault::OutOfMemory)?;
+        self.symbols = Some(symbols.ok_or(QueryFault::UnknownWord { at: list.at })?);
         Ok(())
     }
-}
 
-/// Reads `in` and a list of symbols.
-#[tactic(auto, unfolding(crate::specs::Forms::in_list))]
-fn read_symbols<A: Allocator + Clone>(
-    alloc: &A,
-    words: &mut Words<'_>,
-) -> Result<Symbols<A>, QueryFault>
-    ensures ok { IfOk result (λ names. in_list symbols_of words.old ≡ Ok (names, words.new)) }
-    ensures sound { IfOk result (λ names. are_symbols names ≡ true) }
-    ensures err { IfErr result (λ fault. fault ≢ QueryFault.OutOfMemory →
-        in_list symbols_of words.old ≡ Err fault) }
-    ensures memory { IfErr result (λ fault. fault ≡ QueryFault.OutOfMemory →
-        begins_list words.old ≡ true) }
-    ensures shorter { OnOk result (length words.new < length words.old) }
-{
-    words.expect(b"in")?;
-    let list = words.required()?;
-    let alloc = alloc.clone().map_err(|_| QueryFault::OutOfMemory)?;
-    let symbols = symbols_of(alloc, list.bytes).map_err(|_| QueryFault::OutOfMemory)?;
-    symbols.ok_or(QueryFault::UnknownWord { at: list.at })
-}
-
-fn read_time(words: &mut Words<'_>) -> Result<u32, QueryFault>
-    ensures ok { IfOk result (λ time. timed words.old ≡ Ok (time, words.new)) }
-    ensures small { IfOk result (λ time. time ≤ SECONDS_OF_DAY) }
-    ensures err { IfErr result (λ fault. timed words.old ≡ Err fault) }
-{
-    let word = words.required()?;
-    time_of(word.bytes).ok_or(QueryFault::BadTime { at: word.at })
-}
-
-/// Reads `from`, a time, `until` and a time.
-#[tactic(auto, unfolding(crate::specs::Forms::spanned))]
-fn read_span(words: &mut Words<'_>) -> Result<Span, QueryFault>
-    ensures ok { IfOk result (λ span. spanned words.old ≡ Ok (span, words.new)) }
-    ensures sound { IfOk result (λ span. is_span span ≡ true) }
-    ensures err { IfErr result (λ fault. spanned words.old ≡ Err fault) }
-    ensures shorter { OnOk result (length words.new < length words.old) }
-{
-    words.expect(b"from")?;
-    let since = read_time(words)?;
-    words.expect(b"until")?;
-    let until = read_time(words)?;
-    if since < until {
-        Ok(Span { since, until })
-    } else {
-        Err(QueryFault::EmptyRange)
+    /// Reads `from`, a time, `until` and a time.
+    #[tactic(auto, using(crate::proofs::WordByWord::reading), unfolding(crate::specs::Faults::step))]
+    fn read_span(&mut self, words: &mut Words<'_>) -> Result<(), QueryFault>
+        ensures ok { OnOk result (read_from (time_from self.old) words.old
+            ≡ read_from (more self.new) words.new) }
+        ensures err { IfErr result (λ fault. read_from (time_from self.old) words.old ≡ Err fault) }
+        ensures later { OnOk result (IsLater words.old words.new) }
+    {
+        words.required()?.require(b"from")?;
+        let since = words.required()?.time()?;
+        words.required()?.require(b"until")?;
+        let until = words.required()?.time()?;
+        if since < until {
+            self.span = Some(Span { since, until });
+            Ok(())
+        } else {
+            Err(QueryFault::EmptyRange)
+        }
     }
-}
 
-/// Reads `in` and a list of kinds.
-#[tactic(auto, unfolding(crate::specs::Forms::in_list), using(crate::proofs::KindLists::some_kind))]
-fn read_kinds(words: &mut Words<'_>) -> Result<Kinds, QueryFault>
-    ensures ok { IfOk result (λ some. in_list kinds_of words.old ≡ Ok (some, words.new)) }
-    ensures sound { IfOk result (λ some. has_some some ≡ true) }
-    ensures err { IfErr result (λ fault. in_list kinds_of words.old ≡ Err fault) }
-    ensures shorter { OnOk result (length words.new < length words.old) }
-{
-    words.expect(b"in")?;
-    let list = words.required()?;
-    kinds_of(list.bytes).ok_or(QueryFault::UnknownWord { at: list.at })
+    /// Reads `in` and a list of kinds.
+    #[tactic(auto, using(crate::proofs::KindLists::reading_kinds), unfolding(crate::specs::Faults::step))]
+    fn read_kinds(&mut self, words: &mut Words<'_>) -> Result<(), QueryFault>
+        ensures ok { OnOk result (read_from (kind_in self.old) words.old
+            ≡ read_from (more self.new) words.new) }
+        ensures err { IfErr result (λ fault. read_from (kind_in self.old) words.old ≡ Err fault) }
+        ensures later { OnOk result (IsLater words.old words.new) }
+    {
+        words.required()?.require(b"in")?;
+        let list = words.required()?;
+        self.kinds = Some(kinds_of(list.bytes).ok_or(QueryFault::UnknownWord { at: list.at })?);
+        Ok(())
+    }
 }

@@ -1,10 +1,13 @@
 //! The words of a text, one after the other.
-ghost use Rattle.std.specs.Prelude.{◌≡◌, ◌+◌, ◌<◌, ◌^◌, ◌∷◌, ◌++◌, [], length, MatchOption, IfOk, IfErr, IfSome};
-ghost use Rattle.std.specs.Prelude.{OnOk, position, ◌==◌, Ok, Err, true, false};
+ghost use Rattle.std.specs.Prelude.{◌≡◌, ◌+◌, ◌<◌, ◌≤◌, ◌^◌, ◌∷◌, ◌++◌, [], length, MatchOption, IfOk, IfErr, IfSome};
+ghost use Rattle.std.specs.Prelude.{OnOk, position, ◌==◌, None, Some, true, false};
 ghost use Rattle.query.specs.Words.{Word, parts, reads_as, word, words_from};
-ghost use Rattle.query.specs.Forms.{begins_with, took};
+ghost use Rattle.query.specs.Values.{time_of};
+ghost use Rattle.query.specs.Taken.{IsLater};
 ghost use Rattle.query.specs.TextLeft.{after_part};
 
+use crate::values::time_of;
+use lists::limits::SECONDS_OF_DAY;
 use outcomes::QueryFault;
 use std::marker::Model;
 
@@ -46,6 +49,7 @@ fn first_place(text: &[u8], separator: u8) -> Option<usize>
 }
 
 /// What comes before the first separator, and what comes after it if there is one.
+#[tactic(auto, using(crate::proofs::CutAtSeparator::parting))]
 pub(crate) fn cut(text: &[u8], separator: u8) -> (&[u8], Option<&[u8]>)
     ensures parts { parts separator text.now ≡ result.0.now ∷ after_part separator result.1 }
     ensures shorter { MatchOption result.1 (length result.0.now ≡ length text.now)
@@ -68,6 +72,7 @@ impl<'a> Words<'a> {
     }
 
     /// The next word.
+    #[tactic(auto, using(crate::proofs::CutAtSeparator::cutting))]
     pub(crate) fn next(&mut self) -> Option<Word<'a>>
         ensures { MatchOption result (self.old ≡ [])
             (λ next. self.old ≡ word next.at next.bytes.now ∷ self.new) }
@@ -88,37 +93,9 @@ impl<'a> Words<'a> {
     pub(crate) fn required(&mut self) -> Result<Word<'a>, QueryFault>
         ensures ok { IfOk result (λ next. self.old ≡ word next.at next.bytes.now ∷ self.new) }
         ensures err { IfErr result (λ fault. (fault ≡ QueryFault.Incomplete) × (self.old ≡ [])) }
+        ensures later { OnOk result (IsLater self.old self.new) }
     {
         self.next().ok_or(QueryFault::Incomplete)
-    }
-
-    /// Takes the next word if it is this one, and answers whether it is.
-    pub(crate) fn take_if(&mut self, text: &[u8]) -> bool
-        ensures is { result ≡ begins_with text.now self.old }
-        ensures taken { result ≡ true → took text.now self.old ≡ Ok self.new }
-        ensures unchanged { result ≡ false → self.new ≡ self.old }
-    {
-        let mut ahead = Words {
-            at: self.at,
-            rest: self.rest,
-        };
-        match ahead.next() {
-            Some(word) if word.is(text) => {
-                *self = ahead;
-                true
-            }
-            _ => false,
-        }
-    }
-
-    /// Takes the next word, which must be this one.
-    pub(crate) fn expect(&mut self, text: &[u8]) -> Result<(), QueryFault>
-        ensures ok { IfOk result (λ _. took text.now self.old ≡ Ok self.new) }
-        ensures err { IfErr result (λ fault. took text.now self.old ≡ Err fault) }
-        ensures shorter { OnOk result (length self.new < length self.old) }
-    {
-        let word = self.required()?;
-        word.require(text)
     }
 }
 
@@ -142,5 +119,15 @@ impl Word<'_> {
         } else {
             Err(QueryFault::UnknownWord { at: self.at })
         }
+    }
+
+    /// The word must be a time.
+    pub(crate) fn time(&self) -> Result<u32, QueryFault>
+        ensures ok { IfOk result (λ time. time_of self.now.bytes.now ≡ Some time) }
+        ensures small { IfOk result (λ time. time ≤ SECONDS_OF_DAY) }
+        ensures err { IfErr result (λ fault. (fault ≡ QueryFault.BadTime self.now.at)
+            × (time_of self.now.bytes.now ≡ None)) }
+    {
+        time_of(self.bytes).ok_or(QueryFault::BadTime { at: self.at })
     }
 }

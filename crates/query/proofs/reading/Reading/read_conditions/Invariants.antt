@@ -1,13 +1,13 @@
-use Rattle.std.proofs.Common.{◌≡◌, length, true}
-use Rattle.query.specs.Words.{lists_symbols}
+use Rattle.std.proofs.Common.{◌≡◌, length}
 use Rattle.query.specs.Faults.{read_from, condition, more}
+use Rattle.query.specs.Taken.{IsLater}
 use Rattle.query.proofs.reading.Reading.read_conditions.Given as goal
 
 abbrev pub invariant-loop-word : goal.invariant-loop-word
 invariant-loop-word g l =
     record {
       outcome : read_from (condition l.fn.self) l.fn.words ≡ read_from (more l.self) l.words;
-      listed : lists_symbols l.words ≡ true → lists_symbols l.fn.words ≡ true;
+      later : IsLater l.fn.words l.words;
     }
 
 abbrev pub decreases-loop-word : goal.decreases-loop-word
