@@ -7,12 +7,14 @@ ghost use Rattle.meaning.specs.Meaning.{CanBeSpelled, Meaning};
 ghost use Rattle.query.specs.Words.{Word, words_of};
 
 /// The words of a text have one meaning or none.
+#[tactic(auto, using(query::proofs::MeaningOrFault::one_meaning))]
 pub fn one_meaning()
     ensures { (words : List Word) (one other : Meaning) →
         Means words one → Means words other → one ≡ other }
 {}
 
 /// The words of a text have a meaning, or a first fault, and never both.
+#[tactic(auto, using(query::proofs::MeaningOrFault::no_fault, query::proofs::MeaningOrFault::some_meaning))]
 pub fn meaning_or_fault()
     ensures never_both { (words : List Word) (meaning : Meaning) →
         Means words meaning → first_query_fault words ≡ None }
@@ -21,6 +23,7 @@ pub fn meaning_or_fault()
 {}
 
 /// The canonical text of a query is in the grammar, with that query as its meaning.
+#[tactic(auto, using(crate::proofs::CanonicalHasMeaning::canonical_means))]
 pub fn canonical_text()
     ensures { (query : Meaning) → CanBeSpelled query → Means (words_of (canonical query)) query }
 {}

@@ -86,7 +86,6 @@ fn append_moment<A: Allocator>(text: &mut Vec<u8, A>, as_of: Option<u32>) -> Res
     append_clock(text, time)
 }
 
-#[tactic(auto, using(crate::proofs::WriterIsCanonical::joined_first, crate::proofs::WriterIsCanonical::joined_next))]
 fn append_joined<A: Allocator>(text: &mut Vec<u8, A>, symbols: &[Symbol]) -> Result<(), OutOfMemory>
     ensures { OnOk result (text.new.items ≡ text.old.items ++ join_with_byte COMMA symbols.now) }
 {
