@@ -8,10 +8,12 @@ use crate::header::Header;
 pub struct Add {
     pub header: Header,
     pub order_no: u64,
-    pub side: u8,
+    // Both numbers lie in one word of eight bytes. If the price shared one with the attribution, a copy of the
+    // message would read it before it is written through, and wait.
     pub shares: u32,
-    pub stock: [u8; 8],
     pub price: u32,
+    pub side: u8,
+    pub stock: [u8; 8],
     pub attribution: Option<[u8; 4]>,
 }
 
