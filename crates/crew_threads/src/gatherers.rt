@@ -42,20 +42,13 @@ fn start_gatherer<'s, E, W: Work + 's, R: Threads + Wait + Sync>(
     let inputs = Arc::try_clone(inputs).ok()?;
     let gathering = Gathering::new(alloc, inputs).ok()?;
     let (to, from) = crossbeam_channel::unbounded::<Piece<W>, Global>(alloc).ok()?;
-    let thread = scope.spawn(move || gather_apart(rt, gathering, from)).ok()?;
+    let gather = move || {
+        let mut gathering = gathering;
+        gather_all(rt, &mut gathering, &from);
+        gathering
+    };
+    let thread = scope.spawn(gather).ok()?;
     Some(Gatherer { to, thread })
-}
-
-/// What a gatherer's thread runs.
-fn gather_apart<W: Work, R: Wait>(
-    rt: &R,
-    mut gathering: Gathering<W>,
-    from: Receiver<Piece<W>>,
-) -> Gathering<W>
-    ensures { result.inputs ≡ gathering.inputs }
-{
-    gather_all(rt, &mut gathering, &from);
-    gathering
 }
 
 /// The channel that a worker sends into: that of its number modulo the gatherers.

@@ -20,6 +20,6 @@ pub use gatherers::{
 pub use gathering::{Gathering, Inputs, OutOfMemory, Piece, Work};
 pub use outcomes::Crew;
 pub use pipeline::run_pipeline;
-pub use port::{ChannelPort, KeepingPort, Port};
+pub use port::{ChannelPort, Port};
 pub use runs::{run_missing, run_task};
 pub use worker::work;

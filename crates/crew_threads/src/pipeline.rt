@@ -1,8 +1,7 @@
 //! One pipeline on threads.
-ghost use Rattle.std.specs.Prelude.{◌≡◌, ◌<◌, [], length, IfOk, OnOk};
+ghost use Rattle.std.specs.Prelude.{◌≡◌, ◌<◌, length, IfOk, OnOk};
 ghost use Rattle.std.specs.Arc.{arc_value};
 
-use crate::employ::start_workers;
 use crate::gate::Gate;
 use crate::gatherers::{gather_all, gather_until_covered, merge_all, start_gatherers};
 use crate::runs::run_missing;
@@ -30,81 +29,67 @@ pub fn run_pipeline<'s, E, W: Work + 's, G: Gate, R: Threads + Wait + Sync>(
     inputs: Arc<Inputs<W>, Global>,
     crew: Crew,
     gate: &'s G,
-    pipeline: u8,
+    number: u8,
 ) -> Result<W::Total, OutOfMemory>
     ensures total { IfOk result (λ total. W.IsTotalOf (arc_value inputs) total) }
     ensures admissible { OnOk result (W.IsAdmissible (arc_value inputs)) }
 {
     let mut gathering = Gathering::new(alloc, Arc::try_clone(&inputs)?)?;
-    if inputs.count() > 0 {
-        gather(
-            scope,
-            rt,
-            alloc,
-            &inputs,
-            crew,
-            &mut gathering,
-            gate,
-            pipeline,
-        );
-    }
-    complete(alloc, gathering, &inputs, gate, pipeline)
-}
-
-/// Runs the tasks that are not covered, and gives the total of all inputs.
-fn complete<W: Work, G: Gate>(
-    alloc: Global,
-    mut gathering: Gathering<W>,
-    inputs: &Arc<Inputs<W>, Global>,
-    gate: &G,
-    pipeline: u8,
-) -> Result<W::Total, OutOfMemory>
-    requires own { gathering.inputs ≡ arc_value inputs.now }
-    ensures total { IfOk result (λ total. W.IsTotalOf (arc_value inputs.now) total) }
-    ensures admissible { OnOk result (W.IsAdmissible (arc_value inputs.now)) }
-{
-    run_missing(alloc, &mut gathering, inputs, pipeline, gate)?;
-    gate.done(pipeline);
-    match gathering.total() {
-        Ok(total) => Ok(total),
-        Err(TotalRefused::Memory { gathering: _ }) => Err(AllocError),
-        Err(TotalRefused::Missing { gathering: _ }) => unreachable!(),
-    }
-}
-
-/// Gathers what the crew's workers bring.
-fn gather<'s, E, W: Work + 's, G: Gate, R: Threads + Wait + Sync>(
-    scope: &Scope<'s, E>,
-    rt: &'s R,
-    alloc: Global,
-    inputs: &Arc<Inputs<W>, Global>,
-    crew: Crew,
-    gathering: &mut Gathering<W>,
-    gate: &'s G,
-    pipeline: u8,
-)
-    requires { 0 < length (arc_value inputs.now) }
-    ensures { gathering.new.inputs ≡ gathering.old.inputs }
-{
-    let Ok((to, from)) = crossbeam_channel::unbounded::<Piece<W>, Global>(alloc) else {
-        return;
-    };
-    let others = start_gatherers(scope, rt, alloc, inputs, crew.gatherers);
-    start_workers(
-        scope,
+    let pipeline = Pipeline {
         rt,
         alloc,
         inputs,
-        crew.workers,
-        to,
-        &others,
         gate,
-        pipeline,
-    );
-    if others.is_empty() {
-        gather_until_covered(rt, gathering, &from, inputs.count());
-    } else {
-        gather_all(rt, gathering, &from);
-        merge_all(rt, gathering, others);
+        number,
+    };
+    if pipeline.inputs.count() > 0 {
+        pipeline.gather(scope, crew, &mut gathering);
+    }
+    pipeline.complete(gathering)
+}
+
+/// A pipeline of this number, and what its threads share.
+#[derive(Drop)]
+pub(crate) struct Pipeline<'s, W: Work, G: Gate, R> {
+    pub(crate) rt: &'s R,
+    pub(crate) alloc: Global,
+    pub(crate) inputs: Arc<Inputs<W>, Global>,
+    pub(crate) gate: &'s G,
+    pub(crate) number: u8,
+}
+
+impl<'s, W: Work + 's, G: Gate, R: Threads + Wait + Sync> Pipeline<'s, W, G, R> {
+    /// Runs the tasks that are not covered, and gives the total of all inputs.
+    fn complete(&self, mut gathering: Gathering<W>) -> Result<W::Total, OutOfMemory>
+        requires own { gathering.inputs ≡ arc_value self.now.inputs }
+        ensures total { IfOk result (λ total. W.IsTotalOf (arc_value self.now.inputs) total) }
+        ensures admissible { OnOk result (W.IsAdmissible (arc_value self.now.inputs)) }
+    {
+        let inputs = &self.inputs;
+        run_missing(self.alloc, &mut gathering, inputs, self.number, self.gate)?;
+        self.gate.done(self.number);
+        match gathering.total() {
+            Ok(total) => Ok(total),
+            Err(TotalRefused::Memory { gathering: _ }) => Err(AllocError),
+            Err(TotalRefused::Missing { gathering: _ }) => unreachable!(),
+        }
+    }
+
+    /// Gathers what the crew's workers bring.
+    fn gather<E>(&self, scope: &Scope<'s, E>, crew: Crew, gathering: &mut Gathering<W>)
+        requires { 0 < length (arc_value self.now.inputs) }
+        ensures { gathering.new.inputs ≡ gathering.old.inputs }
+    {
+        let Ok((to, from)) = crossbeam_channel::unbounded::<Piece<W>, Global>(self.alloc) else {
+            return;
+        };
+        let others = start_gatherers(scope, self.rt, self.alloc, &self.inputs, crew.gatherers);
+        self.start_workers(scope, crew.workers, to, &others);
+        if others.is_empty() {
+            gather_until_covered(self.rt, gathering, &from, self.inputs.count());
+        } else {
+            gather_all(self.rt, gathering, &from);
+            merge_all(self.rt, gathering, others);
+        }
     }
 }

@@ -2,8 +2,6 @@
 ghost use Rattle.std.specs.Prelude.{◌≡◌, ◌++◌, ◌∷◌, [], List, MatchResult, IfErr};
 
 use crossbeam_channel::Sender;
-use std::alloc::{Allocator, Global};
-use std::marker::Model;
 use std::sync::Wait;
 
 /// Takes messages from one thread, as the pieces that a worker makes.
@@ -21,53 +19,6 @@ pub trait Port<M> {
         ensures taken { Tells → MatchResult result
             (λ _. taken self.new ≡ taken self.old ++ message ∷ [])
             (λ _. taken self.new ≡ taken self.old) };
-}
-
-/// Keeps what it is sent, in order, and tells it. It refuses a message if there is no memory for it.
-///
-/// Contracts see the messages.
-#[derive(Drop)]
-pub struct KeepingPort<M, A: Allocator = Global> {
-    messages: Vec<M, A>,
-}
-
-impl<M, A: Allocator> Model for KeepingPort<M, A> {
-    ghost use Rattle.std.specs.Prelude.{List};
-
-    ghost Value = { List M };
-
-    ghost view = { λ a. a.messages.items };
-}
-
-impl<M, A: Allocator> KeepingPort<M, A> {
-    /// It has taken nothing.
-    pub fn new(alloc: A) -> Self
-        ensures { result ≡ [] }
-    {
-        KeepingPort {
-            messages: Vec::new(alloc),
-        }
-    }
-
-    /// What it has taken, the earliest first.
-    pub fn items(&self) -> &[M]
-        ensures { result.now ≡ self.now }
-    {
-        self.messages.as_slice()
-    }
-}
-
-impl<M, A: Allocator> Port<M> for KeepingPort<M, A> {
-    ghost taken = { λ messages. messages };
-
-    ghost Tells = { Unit {0} };
-
-    fn send(&mut self, message: M) -> Result<(), M> {
-        match self.messages.push(message) {
-            Ok(()) => Ok(()),
-            Err(refused) => Err(refused.value),
-        }
-    }
 }
 
 /// Sends into a channel. It refuses a message if the receiver is gone or there is no memory, and

@@ -9,7 +9,7 @@ pub mod laws;
 mod outcome;
 mod pair;
 
-pub use crew_threads::{Crew, FreeGate, Gate, KeepingPort, Port, work};
+pub use crew_threads::{Crew, FreeGate, Gate, Port, work};
 pub use dispatcher::{Dispatcher, Seat};
 pub use gathering::{Gathering, Inputs, OutOfMemory, Piece, Work};
 pub use links::{Link, Linked};

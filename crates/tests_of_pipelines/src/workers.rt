@@ -4,9 +4,10 @@ ghost use Rattle.std.specs.Prelude.{◌≡◌};
 use crew_threads::ChannelPort;
 use dispatcher::Dispatcher;
 use linked_list_allocator::LocalHeap;
-use pipelines::{FreeGate, KeepingPort, Piece, Port, work};
+use pipelines::{FreeGate, Piece, Port, work};
 use std::alloc::Global;
 use std::test::Fail;
+use tests_gates::KeepingPort;
 use tests_works::{NUMBERS, Sum, Watch, inputs_of};
 
 /// Keeps pieces, but refuses the first one of a task.
