@@ -12,8 +12,7 @@ use Rattle.day_file.specs.Frames.{IsStuck, IsTruncatedAt, IsWhole, PlacedBody, S
 use Rattle.day_file.specs.Kept.{numbered}
 use Rattle.day_file.specs.Walk.{frames_of}
 use Rattle.day_file.proofs.CutFrames.{frames_of_cut}
-use Rattle.day_file.proofs.CutsAt.{IsWhole-spelling}
-use Rattle.day_file.proofs.Joined.{truncated_later}
+use Rattle.day_file.proofs.Joined.{IsWhole-spelling, truncated_later}
 use Rattle.day_file.proofs.Kept.{numbered-last}
 use Rattle.day_file.proofs.Walks.{walk_whole}
 use Rattle.scanning.specs.Scans.{ScanInputView, ScanTotalView, inputs_of, scan_of, total_of, with_scan}

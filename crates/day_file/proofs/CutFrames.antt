@@ -1,20 +1,17 @@
 -- The frames of the morsels of a cut, morsel after morsel, are the frames of the file.
-use Rattle.std.proofs.Common.{ℕ, ◌+◌, List, [], ◌∷◌, length, All, flat_map, refl, sym, subst, arith}
+use Rattle.std.proofs.Common.{ℕ, ◌+◌, List, [], ◌∷◌, length, All, flat_map, refl, arith}
 use Rattle.std.specs.List.{concat}
 use Rattle.std.proofs.lemmas.List.Elements.{All-nil, All-tail}
 use Rattle.day_file.specs.Cuts.{IsRun}
 use Rattle.day_file.specs.Frames.{IsWhole, StandsFor, StandsFrom}
 use Rattle.day_file.specs.Kept.{numbered}
 use Rattle.day_file.specs.Walk.{frames_of, walk}
-use Rattle.day_file.proofs.Joined.{StandsFrom-append}
-use Rattle.day_file.proofs.Moved.{moved, stands_moved}
+use Rattle.day_file.proofs.Joined.{StandsFrom-append, placed, stands_from}
 use Rattle.day_file.proofs.Walks.{walk_whole}
 
 -- the frames of whole frames, of which the first stands at this place, are those that the walk comes to
 pub walk_stands : (start : ℕ) (bytes : List ℕ) → IsWhole bytes → StandsFrom start (walk (length bytes) start bytes) bytes
-walk_stands start bytes w =
-    let all = stands_moved start bytes w.0 w.1 in
-    subst (λ frames. StandsFrom start frames bytes) (sym (walk_whole start bytes (moved start w.0) all)) all
+walk_stands start bytes w = let all = stands_from start bytes w in rw (walk_whole start bytes (placed start w.0) all) all
 
 -- runs from this place on, numbered from this number on
 pub frames_of_runs : (number start : ℕ) (runs : List (List ℕ)) → All IsRun runs

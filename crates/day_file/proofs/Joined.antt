@@ -1,11 +1,59 @@
--- Whole frames that follow whole frames.
-use Rattle.std.proofs.Common.{ℕ, ◌+◌, List, [], ◌++◌, length, take, drop, refl, sym, ap, ap₂, ◌∙◌, subst, arith}
+-- Whole frames that stand elsewhere, that follow whole frames, and that whole frames leave.
+use Rattle.std.proofs.Common.{◌≡◌, ℕ, ◌+◌, ◌-◌, ◌≤◌, List, [], ◌∷◌, ◌++◌, length, take, drop, refl, sym, ap, ap₂, ◌∙◌, subst, append_assoc}
+use Rattle.std.proofs.Common.{append-nil, arith, Option, Some, None, MatchOption}
 use Rattle.std.proofs.Math.Seq.{take-add}
-use Rattle.std.proofs.lemmas.List.{length-drop, drop-drop}
-use Rattle.std.proofs.lemmas.List.Elements.{All-append, All-nil}
-use Rattle.day_file.specs.Frames.{IsShort, IsTruncatedAt, IsStuck, IsWhole, PlacedBody, StandAt, StandsFrom}
-use Rattle.day_file.proofs.Moved.{moved, stands_moved}
-use Rattle.day_file.proofs.Laws.{spelling-append, StandAt-append}
+use Rattle.std.proofs.lemmas.Grind.{flat_map-append}
+use Rattle.std.proofs.lemmas.List.{length-append, length-drop, drop-drop, drop-take, take-append-drop, take-take}
+use Rattle.std.proofs.lemmas.List.Elements.{All-append, All-cons, All-nil}
+use Rattle.day_file.specs.Frames.{PlacedBody, frame_of, spelling, IsShort, IsStuck, IsTruncatedAt, IsWhole, StandAt, StandsFrom}
+use Rattle.day_file.proofs.Readings.{AreShort, IsReading, IsReading-truncated, IsReading-whole, head_apart, head_short, tail_short}
+
+-- ---- frames at another place
+
+-- frames with these bodies, of which the first stands at this place
+abbrev pub placed : ℕ → List PlacedBody → List PlacedBody
+placed place [] = []
+placed place (x ∷ xs) = record { place = place; body = x.body } ∷ placed (place + length (frame_of x.body)) xs
+
+stands_placed : (place : ℕ) (xs : List PlacedBody) → AreShort xs → StandsFrom place (placed place xs) (spelling xs)
+stands_placed place [] h = record { places = tt; short = All-nil _; whole = refl }
+stands_placed place (x ∷ xs) h =
+    let later = stands_placed (place + length (frame_of x.body)) xs (tail_short x xs h) in
+    record {
+      places = (refl, later.places);
+      short = All-cons (λ frame. IsShort frame.body) _ _ (head_short x xs h) later.short;
+      whole = ap (λ l. frame_of x.body ++ l) later.whole;
+    }
+
+-- the frames of whole frames, of which the first stands at this place
+pub stands_from : (start : ℕ) (bytes : List ℕ) → (w : IsWhole bytes) → StandsFrom start (placed start w.0) bytes
+stands_from start bytes w = rw w.1.whole (stands_placed start w.0 w.1.short)
+
+-- what the frames of bytes and their end say is one reading
+pub reading_of : (place : ℕ) (bytes : List ℕ) (frames : List PlacedBody) (truncated : Option ℕ) →
+    ((all : List PlacedBody) → StandsFrom place all bytes → frames ≡ all)
+    → ((count : ℕ) → IsTruncatedAt bytes count → StandsFrom place frames (take count bytes))
+    → MatchOption truncated (IsWhole bytes) (λ end. (count : ℕ) × (end ≡ place + count) × IsTruncatedAt bytes count)
+    → (rest : List ℕ) × IsReading place bytes frames rest
+reading_of place bytes frames None whole cut w =
+    let all = stands_from place bytes w in ([], IsReading-whole (rw (whole (placed place w.0) all) all))
+reading_of place bytes frames (Some at) whole cut end = (drop end.0 bytes, IsReading-truncated end.2 (cut end.0 end.2))
+
+pub IsWhole-spelling : (xs : List PlacedBody) → AreShort xs → IsWhole (spelling xs)
+IsWhole-spelling xs h = (placed 0 xs, stands_placed 0 xs h)
+
+-- ---- frames joined
+
+pub spelling-append : (xs ys : List PlacedBody) → spelling (xs ++ ys) ≡ spelling xs ++ spelling ys
+spelling-append xs ys = flat_map-append (λ frame. frame_of frame.body) xs ys
+
+-- frames that follow others stand where those end
+StandAt-append : (place : ℕ) (xs ys : List PlacedBody) → StandAt place xs → StandAt (place + length (spelling xs)) ys → StandAt place (xs ++ ys)
+StandAt-append place [] ys p q = subst (λ n. StandAt n ys) (omega arith) q
+StandAt-append place (x ∷ xs) ys p q =
+    let n : place + length (spelling (x ∷ xs)) ≡ (place + length (frame_of x.body)) + length (spelling xs) =
+    omega (arith, length-append (frame_of x.body) (spelling xs)) in
+    (p.0, StandAt-append (place + length (frame_of x.body)) xs ys p.1 (subst (λ k. StandAt k ys) n q))
 
 -- frames, and then frames that stand where those end
 pub StandsFrom-append : (start : ℕ) (xs ys : List PlacedBody) (bytes more : List ℕ) → StandsFrom start xs bytes → StandsFrom (start + length bytes) ys more
@@ -16,21 +64,51 @@ StandsFrom-append start xs ys bytes more p q = record {
   whole = ap₂ ◌++◌ p.whole q.whole ∙ sym (spelling-append xs ys);
 }
 
+pub IsWhole-nil : IsWhole []
+IsWhole-nil = ([], record { places = tt; short = All-nil _; whole = refl })
+
+pub one_frame : (body : List ℕ) → IsShort body → IsWhole (frame_of body)
+one_frame body h =
+    rw append-nil at (IsWhole-spelling (record { place = 0; body = body } ∷ []) (All-cons (λ frame. IsShort frame.body) _ [] h (All-nil _)))
+
 -- whole frames and then whole frames are whole frames
 pub IsWhole-append : (xs ys : List ℕ) → IsWhole xs → IsWhole ys → IsWhole (xs ++ ys)
 IsWhole-append xs ys p q =
-    let more = moved (length xs) q.0 in
-    let behind : StandsFrom (0 + length xs) more ys = subst (λ n. StandsFrom n more ys) (omega arith) (stands_moved (length xs) ys q.0 q.1) in
-    (p.0 ++ more, StandsFrom-append 0 p.0 more xs ys p.1 behind)
+    rw (p.1.whole, q.1.whole, ← spelling-append)
+    (IsWhole-spelling (p.0 ++ q.0) (All-append (λ frame. IsShort frame.body) p.0 q.0 p.1.short q.1.short))
 
-pub IsWhole-nil : IsWhole []
-IsWhole-nil = ([], record { places = tt; short = All-nil _; whole = refl })
+-- the same of a place, and what comes behind it
+pub IsWhole-further : (start n : ℕ) (bytes : List ℕ) → IsWhole (take start bytes) → IsWhole (take n (drop start bytes)) → IsWhole (take (start + n) bytes)
+IsWhole-further start n bytes p q = subst IsWhole (sym (take-add start n bytes)) (IsWhole-append (take start bytes) (take n (drop start bytes)) p q)
 
 -- what is truncated after whole frames is truncated
 pub truncated_later : (bytes : List ℕ) (start place : ℕ) → IsWhole (take start bytes) → IsTruncatedAt (drop start bytes) place
     → IsTruncatedAt bytes (start + place)
 truncated_later bytes start place w t = record {
-  front = subst IsWhole (sym (take-add start place bytes)) (IsWhole-append (take start bytes) (take place (drop start bytes)) w t.front);
+  front = IsWhole-further start place bytes w t.front;
   within = omega (arith, t.within, length-drop start bytes);
   stuck = subst IsStuck (drop-drop place start bytes) t.stuck;
 }
+
+-- ---- what whole frames leave of whole frames
+
+rest_spelled : (front all : List PlacedBody) (rest : List ℕ) → AreShort front → AreShort all → spelling all ≡ spelling front ++ rest → IsWhole rest
+rest_spelled [] all rest hf ha e = subst IsWhole e (IsWhole-spelling all ha)
+rest_spelled (g ∷ front) [] rest hf ha e =
+    absurd (omega (arith, ap length e, length-append (spelling (g ∷ front)) rest, length-append (frame_of g.body) (spelling front)))
+rest_spelled (g ∷ front) (f ∷ all) rest hf ha e =
+    let apart = head_apart f.body g.body (spelling all) (spelling front ++ rest) (head_short f all ha) (head_short g front hf)
+    (e ∙ append_assoc (frame_of g.body) (spelling front) rest) in
+    rest_spelled front all rest (tail_short g front hf) (tail_short f all ha) apart.1
+
+pub IsWhole-rest : (n : ℕ) (bytes : List ℕ) → IsWhole bytes → IsWhole (take n bytes) → IsWhole (drop n bytes)
+IsWhole-rest n bytes w f =
+    rest_spelled f.0 w.0 (drop n bytes) f.1.short w.1.short (sym w.1.whole ∙ sym (take-append-drop n bytes) ∙ ap (λ l. l ++ drop n bytes) f.1.whole)
+
+pub IsWhole-between : (start end : ℕ) (bytes : List ℕ) → start ≤ end → IsWhole (take start bytes) → IsWhole (take end bytes)
+    → IsWhole (take (end - start) (drop start bytes))
+IsWhole-between start end bytes h f w =
+    let n : start + (end - start) ≡ end = omega arith in
+    let back : drop start (take end bytes) ≡ take (end - start) (drop start bytes) = ap (λ k. drop start (take k bytes)) (sym n)
+    ∙ drop-take start (end - start) bytes in
+    subst IsWhole back (IsWhole-rest start (take end bytes) w (subst IsWhole (sym (take-take start end bytes h)) f))

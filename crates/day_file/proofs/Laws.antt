@@ -1,29 +1,16 @@
--- What follows for the frames of a file, and of runs of frames joined.
-use Rattle.std.proofs.Common.{◌≡◌, ℕ, ◌+◌, ◌<◌, ◌≤◌, List, [], ◌∷◌, ◌++◌, length, drop, All, Less, nat_cmp, refl, sym, ap, subst, arith}
-use Rattle.std.proofs.Common.{Option, None, Some, MatchOption}
+-- What follows for the frames of a file.
+use Rattle.std.proofs.Common.{◌≡◌, ℕ, ◌+◌, ◌<◌, ◌≤◌, List, [], ◌∷◌, ◌++◌, length, All, Less, nat_cmp, sym, ap, subst, arith}
 use Rattle.std.specs.Cmp.{nat_cmp_is}
 use Rattle.std.specs.List.{AllByRecursion}
 use Rattle.std.specs.List.Sorted.{IsStrictlySortedBy}
-use Rattle.std.proofs.lemmas.Grind.{flat_map-append}
 use Rattle.std.proofs.lemmas.List.{length-append, length-drop}
 use Rattle.std.proofs.lemmas.List.Elements.{All-cons, All-nil}
-use Rattle.day_file.specs.Frames.{PlacedBody, frame_of, spelling, StandAt, StandsFor, IsTruncatedAt, IsWhole}
-use Rattle.day_file.proofs.Readings.{same_reading, IsReading-whole, IsReading-truncated, length-frame_of}
+use Rattle.day_file.specs.Frames.{PlacedBody, frame_of, spelling, StandAt, StandsFor, IsTruncatedAt}
+use Rattle.day_file.proofs.Readings.{same_reading, IsReading-whole, IsReading-truncated, length-spelling}
 
--- ---- frames joined
+-- ---- places
 
-pub spelling-append : (xs ys : List PlacedBody) → spelling (xs ++ ys) ≡ spelling xs ++ spelling ys
-spelling-append xs ys = flat_map-append (λ frame. frame_of frame.body) xs ys
-
--- frames that follow others stand where those end
-pub StandAt-append : (place : ℕ) (xs ys : List PlacedBody) → StandAt place xs → StandAt (place + length (spelling xs)) ys → StandAt place (xs ++ ys)
-StandAt-append place [] ys p q = subst (λ n. StandAt n ys) (omega arith) q
-StandAt-append place (x ∷ xs) ys p q =
-    let n : place + length (spelling (x ∷ xs)) ≡ (place + length (frame_of x.body)) + length (spelling xs) =
-    omega (arith, length-append (frame_of x.body) (spelling xs)) in
-    (p.0, StandAt-append (place + length (frame_of x.body)) xs ys p.1 (subst (λ k. StandAt k ys) n q))
-
--- and the other way round
+-- the first of frames stand at their place, and those behind them where they end
 pub StandAt-split : (place : ℕ) (xs ys : List PlacedBody) → StandAt place (xs ++ ys) → StandAt place xs × StandAt (place + length (spelling xs)) ys
 StandAt-split place [] ys p = (tt, subst (λ n. StandAt n ys) (omega arith) p)
 StandAt-split place (x ∷ xs) ys p =
@@ -31,8 +18,6 @@ StandAt-split place (x ∷ xs) ys p =
     omega (arith, length-append (frame_of x.body) (spelling xs)) in
     let q = StandAt-split (place + length (frame_of x.body)) xs ys p.1 in
     ((p.0, q.0), subst (λ k. StandAt k ys) n q.1)
-
--- ---- places
 
 later_places : (least place : ℕ) (xs : List PlacedBody) → least < place → StandAt place xs → AllByRecursion (λ y. nat_cmp least y.place ≡ Less) xs
 later_places least place [] h p = tt
@@ -44,18 +29,16 @@ later_places least place (x ∷ xs) h p =
 pub places_rise : (place : ℕ) (xs : List PlacedBody) → StandAt place xs → IsStrictlySortedBy (λ a b. nat_cmp a.place b.place) xs
 unfolding IsStrictlySortedBy
 places_rise place [] p = tt
-places_rise place (x ∷ xs) p = (
-  later_places x.place (place + length (frame_of x.body)) xs (omega (arith, p.0, length-frame_of x.body)) p.1,
-  places_rise
-      (place + length (frame_of x.body)) xs p.1,
-)
+places_rise place (x ∷ xs) p =
+    let next = place + length (frame_of x.body) in
+    (later_places x.place next xs (omega (arith, p.0)) p.1, places_rise next xs p.1)
 
 ends_by : (end place : ℕ) (xs : List PlacedBody) → place + length (spelling xs) ≤ end → StandAt place xs
     → All (λ frame. frame.place + 2 + length frame.body ≤ end) xs
 ends_by end place [] h p = All-nil _
 ends_by end place (x ∷ xs) h p =
-    let n : length (spelling (x ∷ xs)) ≡ length (frame_of x.body) + length (spelling xs) = length-append (frame_of x.body) (spelling xs) in
-    All-cons (λ frame. frame.place + 2 + length frame.body ≤ end) x xs (omega (arith, p.0, h, n, length-frame_of x.body))
+    let n = length-spelling x xs in
+    All-cons (λ frame. frame.place + 2 + length frame.body ≤ end) x xs (omega (arith, p.0, h, n))
     (ends_by end (place + length (frame_of x.body)) xs (omega (arith, h, n)) p.1)
 
 -- each frame of a file ends within it
@@ -66,22 +49,14 @@ frames_within bytes frames s = ends_by (length bytes) 0 frames (omega (arith, ap
 -- ---- one reading
 
 pub frames_are_one : (bytes : List ℕ) (some others : List PlacedBody) → StandsFor some bytes → StandsFor others bytes → some ≡ others
-frames_are_one bytes some others p q = (same_reading 0 bytes some others [] [] (IsReading-whole 0 bytes some p) (IsReading-whole 0 bytes others q)).0
+frames_are_one bytes some others p q = (same_reading some others (IsReading-whole p) (IsReading-whole q)).0
 
 pub not_both : (bytes : List ℕ) (frames : List PlacedBody) (place : ℕ) → StandsFor frames bytes → ¬ IsTruncatedAt bytes place
 not_both bytes frames place s t =
-    let e = (same_reading 0 bytes frames t.front.0 [] (drop place bytes) (IsReading-whole 0 bytes frames s)
-    (IsReading-truncated 0 bytes place t.front.0 t t.front.1)).1 in
+    let e = (same_reading frames t.front.0 (IsReading-whole s) (IsReading-truncated t t.front.1)).1 in
     omega (arith, ap length e, length-drop place bytes, t.within)
 
 pub truncated_once : (bytes : List ℕ) (one other : ℕ) → IsTruncatedAt bytes one → IsTruncatedAt bytes other → one ≡ other
 truncated_once bytes one other p q =
-    let e = (same_reading 0 bytes p.front.0 q.front.0 (drop one bytes) (drop other bytes) (IsReading-truncated 0 bytes one p.front.0 p p.front.1)
-    (IsReading-truncated 0 bytes other q.front.0 q q.front.1)).1 in
+    let e = (same_reading p.front.0 q.front.0 (IsReading-truncated p p.front.1) (IsReading-truncated q q.front.1)).1 in
     omega (arith, ap length e, length-drop one bytes, length-drop other bytes, p.within, q.within)
-
--- bytes that are whole frames have no place where they are truncated
-pub whole_has_no_end : (bytes : List ℕ) (start : ℕ) (o : Option ℕ) → IsWhole bytes
-    → MatchOption o (IsWhole bytes) (λ end. (count : ℕ) × (end ≡ start + count) × IsTruncatedAt bytes count) → o ≡ None
-whole_has_no_end bytes start None w told = refl
-whole_has_no_end bytes start (Some end) w told = absurd (not_both bytes w.0 told.0 w.1 told.2)

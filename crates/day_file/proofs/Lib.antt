@@ -7,7 +7,6 @@ pub mod Joined
 pub mod Kept
 pub mod Laws
 pub mod MakingAt
-pub mod Moved
 pub mod OneCut
 pub mod Pieces
 pub mod Readings

@@ -1,18 +1,21 @@
 -- A file has one list of frames: what whole frames and a stuck rest say of the bytes that they make.
-use Rattle.std.proofs.Common.{◌≡◌, ℕ, ◌+◌, List, ◌⊎◌, inl, inr, [], ◌∷◌, ◌++◌, length, take, drop, All, refl, sym, ap, ap₂, ◌∙◌, subst, append_assoc}
-use Rattle.std.proofs.Common.{append-nil, arith}
+use Rattle.std.proofs.Common.{◌≡◌, ℕ, ◌+◌, List, [], ◌∷◌, ◌++◌, length, take, drop, All, refl, sym, ap, ap₂, ◌∙◌, subst}
+use Rattle.std.proofs.Common.{append_assoc, append-nil, arith}
 use Rattle.std.proofs.Math.Seq.{take-append_seam, drop-append_seam}
-use Rattle.std.proofs.lemmas.List.{length-append, take-append-drop}
-use Rattle.std.proofs.lemmas.List.Elements.{All-tail}
+use Rattle.std.proofs.lemmas.List.{drop_at, length-append, take-append-drop, take_at}
+use Rattle.std.proofs.lemmas.List.Elements.{All-cons, All-tail}
 use Rattle.byteorder.specs.Endian.{big_number}
 use Rattle.byteorder.specs.Numbers.{big_number-reads_back}
-use Rattle.day_file.specs.Frames.{PlacedBody, frame_of, spelling, StandAt, IsShort, StandsFrom, IsStuck, IsTruncatedAt, IsWhole}
+use Rattle.day_file.specs.Frames.{PlacedBody, frame_of, spelling, StandAt, IsShort, StandsFrom, IsStuck, IsTruncatedAt}
 
 -- ---- one frame at the head of bytes
 
--- a frame has two bytes more than its body
-pub length-frame_of : (body : List ℕ) → length (frame_of body) ≡ length body + 2
-length-frame_of body = omega arith
+-- lists whose fronts have one length have equal fronts, and equal rests
+pub two_fronts : (x y more others : List ℕ) → length x ≡ length y → x ++ more ≡ y ++ others → (x ≡ y) × (more ≡ others)
+two_fronts x y more others n e = (
+  sym (take-append_seam x more) ∙ ap (take (length x)) e ∙ take_at y others (length x) (sym n),
+  sym (drop-append_seam x more) ∙ ap (drop (length x)) e ∙ drop_at y others (length x) (sym n),
+)
 
 -- the first two bytes of a frame tell how long its body is
 pub length_told : (body rest : List ℕ) → IsShort body → big_number 2 (frame_of body ++ rest) ≡ length body
@@ -20,12 +23,7 @@ length_told body rest h = big_number-reads_back 2 (length body) (body ++ rest) h
 
 -- bytes begin with one frame at most
 pub head_apart : (b c r s : List ℕ) → IsShort b → IsShort c → frame_of b ++ r ≡ frame_of c ++ s → (b ≡ c) × (r ≡ s)
-head_apart b c r s hb hc e =
-    let n : length b ≡ length c = sym (length_told b r hb) ∙ ap (big_number 2) e ∙ length_told c s hc in
-    let tails : b ++ r ≡ c ++ s = ap (drop 2) e in (
-      sym (take-append_seam b r) ∙ ap (take (length b)) tails ∙ ap (λ k. take k (c ++ s)) n ∙ take-append_seam c s,
-      sym (drop-append_seam b r) ∙ ap (drop (length b)) tails ∙ ap (λ k. drop k (c ++ s)) n ∙ drop-append_seam c s,
-    )
+head_apart b c r s hb hc e = two_fronts b c r s (sym (length_told b r hb) ∙ ap (big_number 2) e ∙ length_told c s hc) (ap (drop 2) e)
 
 -- ---- frames, and a rest in which none stands
 
@@ -45,32 +43,44 @@ head_short x xs h = h 0 x (omega arith)
 pub tail_short : (x : PlacedBody) (xs : List PlacedBody) → AreShort (x ∷ xs) → AreShort xs
 tail_short x xs h = All-tail (λ frame. IsShort frame.body) x xs h
 
--- the first frame of a spelling, set apart
-spelling_first : (x : PlacedBody) (xs : List PlacedBody) (r : List ℕ) → spelling (x ∷ xs) ++ r ≡ frame_of x.body ++ (spelling xs ++ r)
-spelling_first x xs r = append_assoc (frame_of x.body) (spelling xs) r
-
 -- the bytes of frames, of which the first has this body
 pub length-spelling : (x : PlacedBody) (xs : List PlacedBody) → length (spelling (x ∷ xs)) ≡ (length x.body + 2) + length (spelling xs)
-length-spelling x xs = omega (arith, length-append (frame_of x.body) (spelling xs), length-frame_of x.body)
+length-spelling x xs = omega (arith, length-append (frame_of x.body) (spelling xs))
 
-same_split : (place : ℕ) (xs ys : List PlacedBody) (r s : List ℕ) → StandAt place xs → StandAt place ys → AreShort xs → AreShort ys
-    → IsStuck r → IsStuck s → spelling xs ++ r ≡ spelling ys ++ s → (xs ≡ ys) × (r ≡ s)
-same_split place [] [] r s px py hx hy jr js e = (refl, e)
-same_split place [] (y ∷ ys) r s px py hx hy jr js e =
-    absurd (jr y.body (spelling ys ++ s) (head_short y ys hy) (e ∙ spelling_first y ys s))
-same_split place (x ∷ xs) [] r s px py hx hy jr js e =
-    absurd (js x.body (spelling xs ++ r) (head_short x xs hx) (sym e ∙ spelling_first x xs r))
-same_split place (x ∷ xs) (y ∷ ys) r s px py hx hy jr js e =
-    let first = head_apart x.body y.body (spelling xs ++ r) (spelling ys ++ s) (head_short x xs hx) (head_short y ys hy)
-    (sym (spelling_first x xs r) ∙ e ∙ spelling_first y ys s) in
-    let later = same_split (place + length (frame_of x.body)) xs ys r s px.1 (subst (λ b. StandAt (place + length (frame_of b)) ys) (sym first.0) py.1)
-    (tail_short x xs hx) (tail_short y ys hy) jr js first.1 in
-    (ap₂ ◌∷◌ (λ i. record { place = (px.0 ∙ sym py.0) i; body = first.0 i }) later.0, later.1)
+module _ {place : ℕ} {bytes : List ℕ} {x : PlacedBody} {xs : List PlacedBody} {rest : List ℕ} where
+  -- the first frame of a reading, and the reading of what is behind it
+  pub reading_head : IsReading place bytes (x ∷ xs) rest → bytes ≡ frame_of x.body ++ (spelling xs ++ rest)
+  reading_head r = r.split ∙ append_assoc (frame_of x.body) (spelling xs) rest
+
+  pub reading_tail : IsReading place bytes (x ∷ xs) rest → IsReading (place + (2 + length x.body)) (spelling xs ++ rest) xs rest
+  reading_tail r = record {
+    places = subst (λ n. StandAt n xs) (omega arith) r.places.1;
+    short = tail_short x xs r.short;
+    split = refl;
+    stuck = r.stuck;
+  }
+
+-- the other way round
+pub reading_more : {next : ℕ} {after : List ℕ} {frames : List PlacedBody} {rest : List ℕ} (place : ℕ) (bytes body : List ℕ) → bytes ≡ frame_of body ++ after
+    → IsShort body → next ≡ place + (2 + length body) → IsReading next after frames rest
+    → IsReading place bytes (record { place = place; body = body } ∷ frames) rest
+reading_more {next} {after} {frames} {rest} place bytes body e h n r = record {
+  places = (refl, subst (λ k. StandAt k frames) (omega (arith, n)) r.places);
+  short = All-cons (λ frame. IsShort frame.body) _ frames h r.short;
+  split = e ∙ ap (λ l. frame_of body ++ l) r.split ∙ sym (append_assoc (frame_of body) (spelling frames) rest);
+  stuck = r.stuck;
+}
 
 -- bytes have one reading
-pub same_reading : (place : ℕ) (bytes : List ℕ) (xs ys : List PlacedBody) (r s : List ℕ) → IsReading place bytes xs r → IsReading place bytes ys s
+pub same_reading : (xs ys : List PlacedBody) {place : ℕ} {bytes r s : List ℕ} → IsReading place bytes xs r → IsReading place bytes ys s
     → (xs ≡ ys) × (r ≡ s)
-same_reading place bytes xs ys r s p q = same_split place xs ys r s p.places q.places p.short q.short p.stuck q.stuck (sym p.split ∙ q.split)
+same_reading [] [] p q = (refl, sym p.split ∙ q.split)
+same_reading [] (y ∷ ys) p q = absurd (p.stuck y.body _ (head_short y ys q.short) (sym p.split ∙ reading_head q))
+same_reading (x ∷ xs) [] p q = absurd (q.stuck x.body _ (head_short x xs p.short) (sym q.split ∙ reading_head p))
+same_reading (x ∷ xs) (y ∷ ys) p q =
+    let first = head_apart x.body y.body _ _ (head_short x xs p.short) (head_short y ys q.short) (sym (reading_head p) ∙ reading_head q) in
+    let later = same_reading xs ys (reading_tail p) (rw (first.0, first.1) (reading_tail q)) in
+    (ap₂ ◌∷◌ (λ i. record { place = (p.places.0 ∙ sym q.places.0) i; body = first.0 i }) later.0, later.1)
 
 -- no frame stands at the head of no bytes
 pub IsStuck-nil : IsStuck []
@@ -78,36 +88,15 @@ IsStuck-nil body rest h e = absurd (cc)
 
 -- ---- whole files and truncated ones
 
-pub IsReading-whole : (start : ℕ) (bytes : List ℕ) (frames : List PlacedBody) → StandsFrom start frames bytes → IsReading start bytes frames []
-IsReading-whole start bytes frames s = record {
-  places = s.places;
-  short = s.short;
-  split = s.whole ∙ sym (append-nil (spelling frames));
-  stuck = IsStuck-nil;
-}
+pub IsReading-whole : {start : ℕ} {bytes : List ℕ} {frames : List PlacedBody} → StandsFrom start frames bytes → IsReading start bytes frames []
+IsReading-whole {start} {bytes} {frames} s =
+    record { places = s.places; short = s.short; split = s.whole ∙ sym (append-nil (spelling frames)); stuck = IsStuck-nil }
 
-pub IsReading-truncated : (start : ℕ) (bytes : List ℕ) (count : ℕ) (frames : List PlacedBody) → IsTruncatedAt bytes count
+pub IsReading-truncated : {start : ℕ} {bytes : List ℕ} {count : ℕ} {frames : List PlacedBody} → IsTruncatedAt bytes count
     → StandsFrom start frames (take count bytes) → IsReading start bytes frames (drop count bytes)
-IsReading-truncated start bytes count frames t s = record {
+IsReading-truncated {start} {bytes} {count} t s = record {
   places = s.places;
   short = s.short;
   split = sym (take-append-drop count bytes) ∙ ap (λ l. l ++ drop count bytes) s.whole;
   stuck = t.stuck;
 }
-
--- bytes that have a reading are whole frames, or truncated where the rest begins
-pub reading_ends : (bytes : List ℕ) (frames : List PlacedBody) (rest : List ℕ) → IsReading 0 bytes frames rest
-    → IsWhole bytes ⊎ ((place : ℕ) × IsTruncatedAt bytes place)
-reading_ends bytes frames [] r = inl (frames, record { places = r.places; short = r.short; whole = r.split ∙ append-nil (spelling frames) })
-reading_ends bytes frames (x ∷ rest) r =
-    let place = length (spelling frames) in
-    let front : take place bytes ≡ spelling frames = ap (take place) r.split ∙ take-append_seam (spelling frames) (x ∷ rest) in
-    let back : drop place bytes ≡ x ∷ rest = ap (drop place) r.split ∙ drop-append_seam (spelling frames) (x ∷ rest) in
-    inr (
-      place,
-      record {
-        front = (frames, record { places = r.places; short = r.short; whole = front });
-        within = omega (arith, ap length r.split, length-append (spelling frames) (x ∷ rest));
-        stuck = subst IsStuck (sym back) r.stuck;
-      },
-    )

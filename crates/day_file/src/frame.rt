@@ -30,6 +30,7 @@ pub struct Frames<'a> {
 impl<'a> Model for Frames<'a> {
     ghost use Rattle.std.specs.Prelude.{◌+◌, ◌≤◌, length};
     ghost use Rattle.lists.specs.declared.limits.TheConstants.{LONGEST_FILE};
+    ghost use Rattle.day_file.specs.Cuts.{AreBytes};
     ghost use Rattle.day_file.specs.Frames.{FramesLeft};
     ghost use Rattle.day_file.specs.Walk.{left_of};
 
@@ -37,7 +38,7 @@ impl<'a> Model for Frames<'a> {
 
     ghost view = { λ it. left_of it.place it.rest.now };
 
-    ghost invariant = { λ it. it.place + length it.rest.now ≤ LONGEST_FILE };
+    ghost invariant = { λ it. (it.place + length it.rest.now ≤ LONGEST_FILE) × AreBytes it.rest.now };
 }
 
 impl<'a> Frames<'a> {

@@ -13,7 +13,7 @@ use Rattle.std.specs.Option.{option_map_or}
 use Rattle.day_file.specs.declared.frame.Frame.{Frame}
 use Rattle.day_file.specs.Frames.{PlacedBody, spelling}
 use Rattle.day_file.specs.Placed.{placed_body}
-use Rattle.day_file.proofs.Laws.{spelling-append}
+use Rattle.day_file.proofs.Joined.{spelling-append}
 use Rattle.day_file.proofs.Readings.{length-spelling}
 use Rattle.day_rows.specs.DayRows.{rows_of}
 use Rattle.day_rows.specs.Messages.{Placed, counted, messages_of, placed_at}

@@ -1,7 +1,7 @@
 use Rattle.std.proofs.Common.{length, sym, ap, ◌∙◌, subst}
 use Rattle.day_file.specs.Cuts.{MorselView}
 use Rattle.day_file.specs.Frames.{IsWhole, StandsFrom}
-use Rattle.day_file.proofs.Laws.{whole_has_no_end}
+use Rattle.day_file.proofs.Walks.{whole_has_no_end}
 use Rattle.day_file.specs.Walk.{frames_of, walk}
 use Rattle.day_file.proofs.CutFrames.{walk_stands}
 use Rattle.day_file.proofs.morsel.Morsel.frames.Goals as goal
