@@ -1,12 +1,12 @@
 -- The runs that bytes begin with: how far the loop of `first_run` has come.
-use Rattle.std.proofs.Common.{◌≡◌, ℕ, ◌+◌, ◌-◌, ◌<◌, ◌≤◌, ⊎_elim, List, MatchOption, [], ◌∷◌, ◌++◌, length, take, drop, sym, ap, ◌∙◌}
+use Rattle.std.proofs.Common.{◌≡◌, ℕ, ◌+◌, ◌-◌, ◌<◌, ◌≤◌, ⊎_elim, List, Option, Some, None, MatchOption, [], ◌∷◌, ◌++◌, length, take, drop, sym, ap, ◌∙◌}
 use Rattle.std.proofs.Common.{subst, append_assoc, arith}
 use Rattle.std.proofs.Math.Seq.{take-length}
 use Rattle.std.proofs.lemmas.Bool.{cases_lt}
 use Rattle.std.proofs.lemmas.List.{drop_at, drop-drop, length-append, length-drop, length-take-le, take_at, take-append-drop, take-take}
 use Rattle.day_file.specs.Frames.{FramesLeft, PlacedBody, frame_of, spelling, IsShort, IsTruncatedAt, IsWhole, StandsFrom}
 use Rattle.day_file.specs.Follow.{IsFirstRun}
-use Rattle.day_file.proofs.Joined.{IsWhole-between, IsWhole-further, IsWhole-nil, one_frame, reading_of}
+use Rattle.day_file.proofs.Joined.{IsWhole-append, IsWhole-between, IsWhole-further, one_frame, reading_of, truncated_later}
 use Rattle.day_file.proofs.Laws.{not_both, truncated_once}
 use Rattle.day_file.proofs.Readings.{AreShort, IsReading, head_apart, head_short, length-spelling, reading_head, reading_tail}
 
@@ -17,12 +17,22 @@ pub record Reached (end : ℕ) (left : List PlacedBody) (bytes : List ℕ) : Typ
   pub rest : List ℕ
   pub reads : IsReading end (drop end bytes) left rest
 
-pub Reached-none : (bytes : List ℕ) (left : FramesLeft) → ((all : List PlacedBody) → StandsFrom 0 all bytes → left.frames ≡ all)
-    → ((count : ℕ) → IsTruncatedAt bytes count → StandsFrom 0 left.frames (take count bytes))
-    → MatchOption left.truncated (IsWhole bytes) (λ end. (count : ℕ) × (end ≡ 0 + count) × IsTruncatedAt bytes count) → Reached 0 left.frames bytes
-Reached-none bytes left whole truncated end =
-    let r = reading_of 0 bytes left.frames left.truncated whole truncated end in
-    record { within = omega arith; whole = IsWhole-nil; rest = r.0; reads = r.1 }
+-- from a place on, whose bytes are read as `tail`
+pub Reached-start : (whole : ℕ) (bytes tail : List ℕ) (left : FramesLeft) → tail ≡ drop whole bytes → whole ≤ length bytes → IsWhole (take whole bytes)
+    → ((all : List PlacedBody) → StandsFrom whole all tail → left.frames ≡ all)
+    → ((count : ℕ) → IsTruncatedAt tail count → StandsFrom whole left.frames (take count tail))
+    → MatchOption left.truncated (IsWhole tail) (λ end. (count : ℕ) × (end ≡ whole + count) × IsTruncatedAt tail count) → Reached whole left.frames bytes
+Reached-start whole bytes tail left is within w all truncated end =
+    let r = reading_of whole tail left.frames left.truncated all truncated end in
+    record { within = within; whole = w; rest = r.0; reads = rw (← is) r.1 }
+
+pub ends_from : (whole : ℕ) (bytes tail : List ℕ) (o : Option ℕ) → tail ≡ drop whole bytes → IsWhole (take whole bytes)
+    → MatchOption o (IsWhole tail) (λ end. (count : ℕ) × (end ≡ whole + count) × IsTruncatedAt tail count)
+    → MatchOption o (IsWhole bytes) (IsTruncatedAt bytes)
+ends_from whole bytes tail None is w told =
+    subst IsWhole (take-append-drop whole bytes) (IsWhole-append (take whole bytes) (drop whole bytes) w (subst IsWhole is told))
+ends_from whole bytes tail (Some end) is w told =
+    rw told.1 (truncated_later bytes whole told.0 w (subst (λ l. IsTruncatedAt l told.0) is told.2))
 
 -- the next frame is passed
 pub Reached-more : {end : ℕ} {left : List PlacedBody} {bytes : List ℕ} (x : PlacedBody) (later : List PlacedBody) → Reached end left bytes

@@ -1,6 +1,6 @@
 -- What a `Cut` keeps of its morsels, as it grows.
-use Rattle.std.proofs.Common.{◌≡◌, ℕ, zero, suc, ◌+◌, ◌<◌, ◌≤◌, List, [], ◌∷◌, ◌++◌, length, take, map, All, get_or, slice_get, Some, refl, sym, ap}
-use Rattle.std.proofs.Common.{◌∙◌, subst, arith, Fits, w8}
+use Rattle.std.proofs.Common.{◌≡◌, ℕ, zero, suc, ◌+◌, ◌<◌, ◌≤◌, List, [], ◌∷◌, ◌++◌, length, take, map, get_or, slice_get, Some, refl, sym, ap}
+use Rattle.std.proofs.Common.{◌∙◌, arith, Fits, w8}
 use Rattle.std.proofs.lemmas.List.{get_or_default}
 use Rattle.std.specs.List.{concat}
 use Rattle.std.proofs.lemmas.List.{length-append, length-map, map-append}
@@ -14,9 +14,6 @@ use Rattle.day_file.specs.Kept.{runs_of, numbered, AreMorsels}
 
 pub AreMorsels-none : AreMorsels [] 0
 AreMorsels-none = record { numbers = refl; runs = All-nil _; bytes = All-nil _; few = omega arith; length_is = refl; within = omega arith }
-
-pub runs_of-append : (xs : List MorselView) (x : MorselView) → runs_of (xs ++ x ∷ []) ≡ runs_of xs ++ x.bytes ∷ []
-runs_of-append xs x = map-append (λ morsel. morsel.bytes) xs (x ∷ [])
 
 pub numbered-last : (number start : ℕ) (runs : List (List ℕ)) (run : List ℕ) →
     numbered number start (runs ++ run ∷ []) ≡ numbered number start runs ++ record
@@ -33,24 +30,22 @@ numbered-last number start (first ∷ runs) run =
     ∙ (λ i. numbered (number + 1) (start + length first) runs ++ record { number = a i; start = b i; bytes = run } ∷ []))
 
 -- one morsel more
-pub AreMorsels-more : (morsels : List MorselView) (total : ℕ) (run : List ℕ) → AreMorsels morsels total → IsRun run → AreBytes run
-    → length morsels < MOST_MORSELS
-    → total + length run ≤ LONGEST_FILE
-    → AreMorsels (morsels ++ record { number = length morsels; start = total; bytes = run } ∷ []) (total + length run)
-AreMorsels-more morsels total run m r are few h =
-    let last : MorselView = record { number = length morsels; start = total; bytes = run } in
+pub AreMorsels-more : (morsels : List MorselView) (number total size : ℕ) (run : List ℕ) → AreMorsels morsels total → number ≡ length morsels
+    → size ≡ length run → IsRun run → AreBytes run → length morsels < MOST_MORSELS → total + size ≤ LONGEST_FILE
+    → AreMorsels (morsels ++ record { number = number; start = total; bytes = run } ∷ []) (total + size)
+AreMorsels-more morsels number total size run m n s r are few h =
+    let last : MorselView = record { number = number; start = total; bytes = run } in
     let runs = runs_of morsels in
-    let grown : runs_of (morsels ++ last ∷ []) ≡ runs ++ run ∷ [] = runs_of-append morsels last in
-    let n : length runs ≡ length morsels = length-map morsels (λ morsel. morsel.bytes) in
-    let a : 0 + length runs ≡ length morsels = omega (arith, n) in
+    let grown : runs_of (morsels ++ last ∷ []) ≡ runs ++ run ∷ [] = map-append (λ morsel. morsel.bytes) morsels (last ∷ []) in
+    let a : 0 + length runs ≡ number = omega (arith, length-map morsels (λ morsel. morsel.bytes), n) in
     let b : 0 + length (concat runs) ≡ total = omega (arith, m.length_is) in
     record {
       numbers = ap (λ l. l ++ last ∷ []) m.numbers
           ∙ sym (ap (numbered 0 0) grown ∙ numbered-last 0 0 runs run ∙ (λ i. numbered 0 0 runs ++ record { number = a i; start = b i; bytes = run } ∷ []));
-      runs = subst (All IsRun) (sym grown) (All-push IsRun runs run m.runs r);
-      bytes = subst (All AreBytes) (sym grown) (All-push AreBytes runs run m.bytes are);
+      runs = rw grown (All-push IsRun runs run m.runs r);
+      bytes = rw grown (All-push AreBytes runs run m.bytes are);
       few = omega (arith, few, length-append morsels (last ∷ []));
-      length_is = omega (arith, m.length_is, ap (λ l. length (concat l)) grown, length-concat_push runs run);
+      length_is = omega (arith, s, m.length_is, ap (λ l. length (concat l)) grown, length-concat_push runs run);
       within = h;
     }
 
@@ -74,42 +69,15 @@ numbered_at (run ∷ runs) (suc k) first start m e =
       bytes_is = later.bytes_is;
     }
 
-module _ {X : Type 0} where
-  -- the morsel that is read at a number
-  pub morsel_at : (value : X → MorselView) (items : List X) (x : X) (k total : ℕ) → AreMorsels (map value items) total
-      → k < length (runs_of (map value items)) → x ≡ get_or items k x
-      → IsMorselOf (runs_of (map value items)) k 0 0 (value x)
-  morsel_at value items x k total m h e =
-      let all = map value items in
-      let here : value x ≡ get_or all k (value x) = ap value e ∙ sym (get_or-map value items k x) in
-      let read : slice_get all k ≡ Some (value x) =
-      slice_get_read all (length all) k (value x) refl (omega (arith, length-map all (λ morsel. morsel.bytes), h)) here in
-      numbered_at (runs_of all) k 0 0 (value x) (ap (λ l. slice_get l k) (sym m.numbers) ∙ read)
-
-  -- one more was pushed
-  pub AreMorsels-pushed : (value : X → MorselView) (items grown : List X) (x : X) (number total size : ℕ) (run : List ℕ) (runs : List (List ℕ))
-      → AreMorsels (map value items) total → runs_of (map value items) ≡ runs
-      → grown ≡ items ++ x ∷ [] → value x ≡ record { number = number; start = total; bytes = run } → number ≡ length items → size ≡ length run
-      → IsRun run → AreBytes run
-      → length runs < MOST_MORSELS → length (concat runs) + size ≤ LONGEST_FILE → AreMorsels (map value grown) (total + size)
-  AreMorsels-pushed value items grown x number total size run runs m view pushed made n s r are few within =
-      let all = map value items in
-      let long : length all ≡ length items = length-map items value in
-      let same : length (runs_of all) ≡ length all = length-map all (λ morsel. morsel.bytes) in
-      let more =
-      AreMorsels-more all total run m r are (omega (arith, same, ap length view, few)) (omega (
-        arith,
-        m.length_is,
-        ap (λ l. length (concat l)) view,
-        within,
-        s,
-      )) in
-      let k : length all ≡ number = omega (arith, long, n) in
-      let last : all ++ record { number = length all; start = total; bytes = run } ∷ [] ≡ map value grown =
-      (λ i. all ++ record { number = k i; start = total; bytes = run } ∷ []) ∙ ap (λ v. all ++ v ∷ []) (sym made) ∙ sym (map-append value items (x ∷ []))
-      ∙ ap (map value) (sym pushed) in
-      subst (λ l. AreMorsels l (total + size)) last
-      (subst (λ k. AreMorsels (all ++ record { number = length all; start = total; bytes = run } ∷ []) (total + k)) (sym s) more)
+-- the morsel that is read at a number
+pub morsel_at : {X : Type 0} (value : X → MorselView) (items : List X) (x : X) (k total : ℕ) → AreMorsels (map value items) total
+    → k < length (runs_of (map value items)) → x ≡ get_or items k x → IsMorselOf (runs_of (map value items)) k 0 0 (value x)
+morsel_at value items x k total m h e =
+    let all = map value items in
+    let here : value x ≡ get_or all k (value x) = ap value e ∙ sym (get_or-map value items k x) in
+    let read : slice_get all k ≡ Some (value x) =
+    slice_get_read all (length all) k (value x) refl (omega (arith, length-map all (λ morsel. morsel.bytes), h)) here in
+    numbered_at (runs_of all) k 0 0 (value x) (ap (λ l. slice_get l k) (sym m.numbers) ∙ read)
 
 -- what a vector of bytes has
 pub bytes_of_type : (bytes : List ℕ) → ((k : ℕ) → Fits w8 (get_or bytes k 0)) → AreBytes bytes

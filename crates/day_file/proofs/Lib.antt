@@ -1,16 +1,12 @@
 pub mod CutsAt
+pub mod CutsBy
 pub mod Fed
 pub mod FirstRuns
-pub mod Following
-pub mod Heads
 pub mod Joined
 pub mod Kept
 pub mod Laws
-pub mod MakingAt
-pub mod OneCut
 pub mod Pieces
 pub mod Readings
-pub mod TakenOut
 pub mod Walks
 pub mod CutFrames
 pub mod BodyBytes

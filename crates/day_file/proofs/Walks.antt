@@ -166,17 +166,14 @@ walk_next place size bytes prefix after body rest b two p a told fits bodies res
     ∙ (λ i. record { frames = record { place = place; body = body } ∷ walk (length rest) next rest; truncated = place_if_any (end i) later.0 })
     ∙ ap (λ (l : FramesLeft). record l { frames = record { place = place; body = body } ∷ l.frames }) (sym (left_of-reading next rest _ later.0 are later.1))
 
--- where no frame is left, the end is here
-pub end_here : (place : ℕ) (rest : List ℕ) → walk (length rest) place rest ≡ [] → (left_of place rest).truncated ≡ place_if_any place rest
-end_here place rest none = ap (λ frames. truncated_after frames place rest) none ∙ ap (λ n. place_if_any n rest) (omega arith)
-
-pub none_left : (place : ℕ) (rest : List ℕ) → (length rest == 0) ≡ true → place_if_any place rest ≡ None
-none_left place [] e = refl
-none_left place (byte ∷ rest) e = absurd (omega (arith, eqb-true (length (byte ∷ rest)) 0 e))
-
-pub some_left : (place : ℕ) (rest : List ℕ) → (length rest == 0) ≡ false → place_if_any place rest ≡ Some place
-some_left place [] e = absurd (cc)
-some_left place (byte ∷ rest) e = refl
+-- where no frame is left, the bytes end here, or are truncated here
+pub ended_walk : (place : ℕ) (rest : List ℕ) → walk (length rest) place rest ≡ []
+    → ((length rest == 0) ≡ true → (left_of place rest).truncated ≡ None) × ((length rest == 0) ≡ false → (left_of place rest).truncated ≡ Some place)
+ended_walk place [] none = (λ _. refl, λ e. absurd (cc))
+ended_walk place (byte ∷ rest) none = (
+  λ e. absurd (omega (arith, eqb-true (length (byte ∷ rest)) 0 e)),
+  λ _. ap (λ frames. truncated_after frames place (byte ∷ rest)) none ∙ ap Some (omega arith),
+)
 
 -- bytes that are whole frames have no place where they are truncated
 pub whole_has_no_end : (bytes : List ℕ) (start : ℕ) (o : Option ℕ) → IsWhole bytes

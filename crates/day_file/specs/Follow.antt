@@ -1,6 +1,6 @@
--- Runs one after the other, as the loops of `cut` and `cut_at` find them.
+-- The first run of a cut, and the runs at given ends, as the loops of `cut` and `cut_at` find them.
 -- Derived: it follows the code; what is promised speaks of `IsCutBy` and `IsCutAt`.
-use Rattle.std.specs.Prelude.{◌≡◌, ℕ, ◌<◌, ◌≤◌, List, [], ◌∷◌, length, take, drop}
+use Rattle.std.specs.Prelude.{ℕ, ◌<◌, ◌≤◌, List, [], ◌∷◌, length, take, drop}
 use Rattle.std.specs.List.{slice_range}
 use Rattle.day_file.specs.Cuts.{HasNoShorter, IsPlace, IsRun}
 
@@ -10,13 +10,6 @@ pub record IsFirstRun (target : ℕ) (n : ℕ) (bytes : List ℕ) : Type 0 where
   pub run : IsRun (take n bytes)
   pub shortest : HasNoShorter target (take n bytes)
   pub full : n < length bytes → target ≤ n
-
--- each run is the first of what the runs before it leave, and nothing is left in the end
-abbrev pub Follow : ℕ → List (List ℕ) → List ℕ → Type 0
-Follow target [] bytes = bytes ≡ []
-Follow target (run ∷ runs) bytes =
-    IsFirstRun target (length run) bytes × (run ≡ take (length run) bytes)
-    × Follow target runs (drop (length run) bytes)
 
 -- the rest as a run, if there is any
 abbrev pub rest_run : List ℕ → List (List ℕ)

@@ -4,6 +4,7 @@ ghost use Rattle.lists.specs.declared.limits.TheConstants.{MOST_MORSELS};
 ghost use Rattle.day_file.specs.Cuts.{IsCutBy};
 ghost use Rattle.day_file.specs.Follow.{IsFirstRun};
 ghost use Rattle.day_file.specs.CutFaults.{IsCutFault};
+ghost use Rattle.day_file.specs.Cutting.{IsTaken};
 ghost use Rattle.day_file.specs.Feeding.{HasFed, IsFullRun, fed_length};
 ghost use Rattle.day_file.specs.Frames.{IsTruncatedAt, IsWhole};
 
@@ -122,18 +123,7 @@ impl Cutter {
         ensures cut { IfOk result (λ cut. (fed : List ℕ) → HasFed self fed → IsCutBy self.target cut fed) }
         ensures fault { IfErr result (λ fault. (fed : List ℕ) → HasFed self fed → IsCutFault self.target fed fault) }
     {
-        let ended = self.cut.length() + self.past;
-        let more = match count_runs(&self.rest[self.start..], self.target) {
-            Ok(more) => more,
-            Err(fault) => {
-                return Err(CutFault::Truncated {
-                    place: ended + fault.place,
-                });
-            }
-        };
-        if self.past > 0 || u64::from(self.cut.count()) + more > MOST_MORSELS.into() {
-            return Err(CutFault::TooManyMorsels);
-        }
+        self.count_all()?;
         self.cut_off()?;
         let Cutter {
             alloc,
@@ -143,10 +133,40 @@ impl Cutter {
             ..
         } = self;
         remove_front(&mut rest, start);
-        if !rest.is_empty() {
-            cut.append(alloc, rest)?;
-        }
+        cut.append_rest(alloc, rest)?;
         Ok(cut)
+    }
+
+    // Whether all that was fed has a cut of no more runs than a cut may have.
+    fn count_all(&self) -> Result<(), CutFault>
+        ensures some { (fed : List ℕ) × HasFed self.now fed }
+        ensures few { OnOk result ((fed : List ℕ) → HasFed self.now fed
+            → (runs : List (List ℕ)) × IsCutBy self.now.target runs fed × (length runs ≤ MOST_MORSELS)) }
+        ensures fault { IfErr result (λ fault. (fed : List ℕ) → HasFed self.now fed
+            → IsCutFault self.now.target fed fault) }
+    {
+        let more = match count_runs(self.left(), self.target) {
+            Ok(more) => more,
+            Err(fault) => {
+                let ended = self.cut.length() + self.past;
+                return Err(CutFault::Truncated {
+                    place: ended + fault.place,
+                });
+            }
+        };
+        if self.past > 0 || u64::from(self.cut.count()) + more > MOST_MORSELS.into() {
+            return Err(CutFault::TooManyMorsels);
+        }
+        Ok(())
+    }
+
+    // The bytes after all full runs.
+    fn left(&self) -> &[u8]
+        ensures same { result.now ≡ self.now.rest }
+        ensures within { length result.now ≤ LONGEST_FILE }
+        ensures target { 0 < self.now.target }
+    {
+        &self.rest[self.start..]
     }
 
     // Takes all full runs off the rest.
@@ -172,7 +192,7 @@ impl Cutter {
         ensures none { IsNone result → (IsWhole self.old.rest × (length self.old.rest < self.old.target))
             ⊎ ((place : ℕ) × IsTruncatedAt self.old.rest place) }
     {
-        let head = head_of(&self.rest[self.start..], self.whole, self.target);
+        let head = head_of(self.left(), self.whole, self.target);
         if head.is_run {
             return Some(head.end);
         }
@@ -184,16 +204,12 @@ impl Cutter {
     fn take_run(&mut self, end: usize) -> Result<(), OutOfMemory>
         requires run { IsFirstRun self.old.target end self.old.rest }
         requires full { self.old.target ≤ end }
-        ensures fed { OnOk result ((fed : List ℕ) → HasFed self.old fed → HasFed self.new fed) }
-        ensures rest { OnOk result (self.new.rest ≡ drop end self.old.rest) }
-        ensures target { OnOk result (self.new.target ≡ self.old.target) }
-        ensures bytes { OnOk result (length (concat self.new.cut) + self.new.past
-            ≡ (length (concat self.old.cut) + self.old.past) + end) }
+        ensures taken { OnOk result (IsTaken end self.old self.new) }
         ensures same { OnErr result (self.new ≡ self.old) }
     {
         let after = self.start + end;
         if self.cut.count() < MOST_MORSELS {
-            let run = Vec::from_slice(self.alloc, &self.rest[self.start..after])?;
+            let run = Vec::from_slice(self.alloc, &self.left()[..end])?;
             self.cut.append(self.alloc, run)?;
         } else {
             self.past += end as u64;

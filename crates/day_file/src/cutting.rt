@@ -1,7 +1,7 @@
 ghost use Rattle.std.specs.Prelude.{◌≡◌, ◌≤◌, ◌<◌, ◌↔◌, ◌∷◌, [], ℕ, List, length, take, IfOk, IfErr, IfSome, IsNone, IsTrue};
 ghost use Rattle.day_file.specs.Frames.{IsWhole};
 ghost use Rattle.day_file.specs.Cuts.{IsCutAt, IsCutBy, IsFirstBad};
-ghost use Rattle.day_file.specs.Follow.{AreEnds, Follow, runs_at};
+ghost use Rattle.day_file.specs.Follow.{AreEnds, runs_at};
 ghost use Rattle.day_file.specs.CutFaults.{IsCutAtFault, IsCutFault};
 
 use crate::runs::{count_runs, run_at};
@@ -62,7 +62,7 @@ pub fn cut<A: Allocator>(alloc: Global, file: &DayFile<A>, target: u64) -> Resul
 fn make_cut(alloc: Global, bytes: &[u8], target: u64) -> Result<Cut, CutFault>
     requires limit { length bytes.now ≤ LONGEST_FILE }
     requires target { 0 < target }
-    requires few { (runs : List (List ℕ)) × Follow target runs bytes.now × (length runs ≤ MOST_MORSELS) }
+    requires few { (runs : List (List ℕ)) × IsCutBy target runs bytes.now × (length runs ≤ MOST_MORSELS) }
     ensures cut { IfOk result (λ cut. IsCutBy target cut bytes.now) }
     ensures fault { IfErr result (IsCutFault target bytes.now) }
 {
@@ -146,8 +146,6 @@ fn make_at(alloc: Global, bytes: &[u8], ends: &[u64]) -> Result<Cut, OutOfMemory
         cut.append(alloc, Vec::from_slice(alloc, &bytes[start..end])?)?;
         start = end;
     }
-    if start < bytes.len() {
-        cut.append(alloc, Vec::from_slice(alloc, &bytes[start..])?)?;
-    }
+    cut.append_rest(alloc, Vec::from_slice(alloc, &bytes[start..])?)?;
     Ok(cut)
 }

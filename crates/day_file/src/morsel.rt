@@ -73,7 +73,7 @@ impl Morsel {
         ensures whole { result.truncated ≡ None }
         ensures walked { result.frames ≡ frames_of self.now }
     {
-        Frames::of(self.start, &self.bytes)
+        Frames::of(self.start(), self.bytes())
     }
 }
 

@@ -2,6 +2,8 @@ ghost use Rattle.std.specs.Prelude.{◌≡◌, ◌≤◌, ◌<◌, ◌+◌, ◌+
 ghost use Rattle.std.specs.List.{concat};
 ghost use Rattle.std.specs.Arc.{arc_value};
 ghost use Rattle.day_file.specs.Cuts.{AreBytes, IsRun, start_of};
+ghost use Rattle.day_file.specs.Follow.{rest_run};
+ghost use Rattle.day_file.specs.Frames.{IsWhole};
 
 use crate::{Morsel, OutOfMemory};
 use lists::limits::{LONGEST_FILE, MOST_MORSELS};
@@ -55,6 +57,19 @@ impl Cut {
         self.morsels.push(Arc::new(alloc, morsel)?)?;
         self.length += length;
         Ok(())
+    }
+
+    // Adds the rest of the bytes as the last morsel, if there is any, without a copy.
+    pub(crate) fn append_rest(&mut self, alloc: Global, rest: Vec<u8>) -> Result<(), OutOfMemory>
+        requires whole { IsWhole rest.items }
+        requires room { length self.old + length (rest_run rest.items) ≤ MOST_MORSELS }
+        requires within { length (concat self.old) + vec_len rest ≤ LONGEST_FILE }
+        ensures ok { OnOk result (self.new ≡ self.old ++ rest_run rest.items) }
+    {
+        if rest.is_empty() {
+            return Ok(());
+        }
+        self.append(alloc, rest)
     }
 
     /// How many morsels there are.

@@ -1,23 +1,25 @@
 ghost use Rattle.std.specs.Prelude.{◌≡◌, ◌≤◌, ◌<◌, ◌⊎◌, ℕ, List, length, take, drop, IfOk, IfErr, IsTrue, false};
 ghost use Rattle.day_file.specs.Frames.{IsTruncatedAt, IsWhole};
-ghost use Rattle.day_file.specs.Follow.{Follow, IsFirstRun};
+ghost use Rattle.day_file.specs.Cuts.{IsCutBy};
+ghost use Rattle.day_file.specs.Follow.{IsFirstRun};
 
 use crate::frame::LENGTH_BYTES;
 use crate::{Frames, Truncated};
 use lists::limits::LONGEST_FILE;
 
-/// The length of the shortest run of frames at the head of these bytes that has at least `target`
-/// bytes, or of all of them.
-pub(crate) fn first_run(bytes: &[u8], target: u64) -> Result<usize, Truncated>
+/// Where the shortest run of frames at the head of these bytes that has at least `target` bytes ends,
+/// or where all of them end. The first `whole` bytes, fewer than that, are known to be whole frames.
+pub(crate) fn first_run(bytes: &[u8], whole: usize, target: u64) -> Result<usize, Truncated>
     requires limit { length bytes.now ≤ LONGEST_FILE }
-    requires some { 0 < length bytes.now }
-    requires target { 0 < target }
+    requires some { whole < length bytes.now }
+    requires target { whole < target }
+    requires front { IsWhole (take whole bytes.now) }
     ensures run { IfOk result (λ n. IsFirstRun target n bytes.now) }
     ensures truncated { IfErr result (λ fault. IsTruncatedAt bytes.now fault.place) }
     ensures below { IfErr result (λ fault. fault.place < target) }
 {
-    let mut left = Frames::of(0, bytes);
-    let mut end = 0;
+    let mut left = Frames::of(whole as u64, &bytes[whole..]);
+    let mut end = whole;
     // No `for`: after one over a borrowed iterator no clause says what is left, which `finish` needs.
     while let Some(frame) = left.next() {
         end += LENGTH_BYTES + frame.body.len();
@@ -29,7 +31,7 @@ pub(crate) fn first_run(bytes: &[u8], target: u64) -> Result<usize, Truncated>
     Ok(end)
 }
 
-// The same of the bytes from this place on, which come after whole frames.
+// How long the first run of the bytes from this place on is, which come after whole frames.
 pub(crate) fn run_at(bytes: &[u8], start: usize, target: u64) -> Result<usize, Truncated>
     requires limit { length bytes.now ≤ LONGEST_FILE }
     requires some { start < length bytes.now }
@@ -38,7 +40,7 @@ pub(crate) fn run_at(bytes: &[u8], start: usize, target: u64) -> Result<usize, T
     ensures run { IfOk result (λ n. IsFirstRun target n (drop start bytes.now)) }
     ensures truncated { IfErr result (λ fault. IsTruncatedAt bytes.now fault.place) }
 {
-    match first_run(&bytes[start..], target) {
+    match first_run(&bytes[start..], 0, target) {
         Ok(length) => Ok(length),
         Err(fault) => Err(Truncated {
             place: start as u64 + fault.place,
@@ -51,7 +53,7 @@ pub(crate) fn count_runs(bytes: &[u8], target: u64) -> Result<u64, Truncated>
     requires limit { length bytes.now ≤ LONGEST_FILE }
     requires target { 0 < target }
     ensures count { IfOk result (λ n. (runs : List (List ℕ))
-        × Follow target runs bytes.now × (length runs ≡ n)) }
+        × IsCutBy target runs bytes.now × (length runs ≡ n)) }
     ensures few { IfOk result (λ n. n ≤ length bytes.now) }
     ensures truncated { IfErr result (λ fault. IsTruncatedAt bytes.now fault.place) }
 {
@@ -89,14 +91,14 @@ pub(crate) fn head_of(bytes: &[u8], whole: usize, target: u64) -> Head
             end: whole,
         };
     }
-    match first_run(&bytes[whole..], target - whole as u64) {
-        Ok(length) => Head {
-            is_run: (whole + length) as u64 >= target,
-            end: whole + length,
+    match first_run(bytes, whole, target) {
+        Ok(end) => Head {
+            is_run: end as u64 >= target,
+            end,
         },
         Err(fault) => Head {
             is_run: false,
-            end: whole + fault.place as usize,
+            end: fault.place as usize,
         },
     }
 }

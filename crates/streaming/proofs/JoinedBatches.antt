@@ -10,8 +10,8 @@ use Rattle.day_file.specs.Cuts.{IsCutBy}
 use Rattle.day_file.specs.declared.cutting.CutFault.TheVariants as cut_fault
 use Rattle.day_file.specs.Feeding.{CutterView, HasFed, IsFullRun}
 use Rattle.day_file.specs.Frames.{IsTruncatedAt}
-use Rattle.day_file.proofs.Fed.{fed_length_is}
-use Rattle.day_file.proofs.TakenOut.{cut_after, truncated_after_full}
+use Rattle.day_file.proofs.Fed.{fed_length_is, truncated_after_full}
+use Rattle.day_file.proofs.CutsBy.{cut_after}
 use Rattle.streaming.specs.Batches.{HasRead, IsLastFault, IsReadTo, IsReading, ReaderView, read_length}
 use Rattle.streaming.specs.Fed.{IsFedBy}
 use Rattle.streaming.specs.Streams.{GaveAll, HasTooMany, IsReadFault}

@@ -1,6 +1,6 @@
-use Rattle.std.proofs.Common.{◌≡◌, ◌++◌, if◌then◌else◌, is_ok, drop, sym, ap, ◌∙◌, subst, arith}
+use Rattle.std.proofs.Common.{◌≡◌, ◌++◌, if◌then◌else◌, Result, Ok, Err, OnOk, is_ok, refl, true, drop, sym, ap, ◌∙◌, subst, arith}
 use Rattle.day_file.specs.Feeding.{CutterView, HasFed, fed_length}
-use Rattle.day_file.proofs.Fed.{Cutting-grown, HasFed-more, on_ok}
+use Rattle.day_file.proofs.Fed.{Cutting-grown, HasFed-more}
 use Rattle.day_file.proofs.cutter.Cutter.feed.Goals as goal
 
 pub invariant_of-self : goal.invariant_of-self
@@ -13,6 +13,10 @@ invariant_of-self c =
           (omega (arith, sum, c.requires, c.in_ok-cut_off.ensures.length)),
       omega arith,
     )
+
+on_ok : {A B : Type 0} (r : Result A B) (P : Type 0) → (is_ok r ≡ true → P) → OnOk r P
+on_ok (Ok x) P h = h refl
+on_ok (Err e) P h = tt
 
 pub returns-clause-fed : goal.returns-clause-fed
 returns-clause-fed c = on_ok c.extend_from_slice.result _ (λ ok fed has.

@@ -7,12 +7,5 @@ use Rattle.day_file.proofs.cutter.Cutter.length.Goals as goal
 pub returns-clause-fed : goal.returns-clause-fed
 returns-clause-fed c = λ fed has.
     let s = c.self.inside in
-    omega (
-      arith,
-      fed_length_is c.args.self.now fed has,
-      ap fed_length c.self.view_is,
-      c.length.ensures,
-      c.len.ensures,
-      s.rest.ok.0,
-      length-drop s.start s.rest.items,
-    )
+    let now = ap fed_length c.self.view_is in
+    omega (arith, fed_length_is c.args.self.now fed has, now, c.length.ensures, c.len.ensures, s.rest.ok.0, length-drop s.start s.rest.items)

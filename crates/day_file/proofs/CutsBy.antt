@@ -1,0 +1,196 @@
+-- The one cut of bytes by a target: with a run more at its head or at its end, and how long its runs are.
+use Rattle.std.proofs.Common.{◌≡◌, ℕ, suc, ◌+◌, ◌-◌, ◌<◌, ◌≤◌, List, [], ◌∷◌, ◌++◌, length, take, drop, All, refl, sym, ap, ap₂, ◌∙◌, subst}
+use Rattle.std.proofs.Common.{append_assoc, arith, get_or}
+use Rattle.std.proofs.Math.Seq.{take-add, take-append_seam, take-length}
+use Rattle.std.specs.List.{concat}
+use Rattle.std.proofs.lemmas.List.{length-append, length-drop, length-take-le, take-append-drop, take-take, take_all, take_more}
+use Rattle.std.proofs.lemmas.List.Elements.{All-cons, All-nil, All-push, All-tail, All-take}
+use Rattle.lists.proofs.Lists.{concat_push}
+use Rattle.day_file.specs.Frames.{PlacedBody, spelling, IsShort, IsWhole}
+use Rattle.day_file.specs.Cuts.{IsRun, IsCutBy, HasNoShorter, but_last}
+use Rattle.day_file.specs.Feeding.{IsFullRun}
+use Rattle.day_file.specs.Follow.{IsFirstRun}
+use Rattle.day_file.proofs.Joined.{IsWhole-further, IsWhole-nil, IsWhole-spelling, spelling-append}
+use Rattle.day_file.proofs.Readings.{AreShort, length-spelling, two_fronts}
+
+-- ---- all runs but the last
+
+pub but_last_more : (first : List ℕ) (runs : List (List ℕ)) → 0 < length runs → but_last (first ∷ runs) ≡ first ∷ but_last runs
+but_last_more first runs h =
+    let n : length (first ∷ runs) - 1 ≡ suc (length runs - 1) = omega (arith, h) in ap (λ k. take k (first ∷ runs)) n
+
+pub but_last_push : (runs : List (List ℕ)) (last : List ℕ) → but_last (runs ++ last ∷ []) ≡ runs
+but_last_push runs last =
+    let n : length (runs ++ last ∷ []) - 1 ≡ length runs = omega (arith, length-append runs (last ∷ [])) in
+    ap (λ k. take k (runs ++ last ∷ [])) n ∙ take-append_seam runs (last ∷ [])
+
+abbrev IsFull : ℕ → List ℕ → Type 0
+IsFull target run = target ≤ length run
+
+full_more : (target : ℕ) (run : List ℕ) (runs : List (List ℕ)) → (0 < length runs → target ≤ length run) → All (IsFull target) (but_last runs)
+    → All (IsFull target) (but_last (run ∷ runs))
+full_more target run [] h a = subst (All (IsFull target)) (sym (but_last_push [] run)) (All-nil _)
+full_more target run (next ∷ runs) h a =
+    subst (All (IsFull target)) (sym (but_last_more run (next ∷ runs) (omega arith))) (All-cons (IsFull target) run _ (h (omega arith)) a)
+
+full_first : (target : ℕ) (run : List ℕ) (runs : List (List ℕ)) → All (IsFull target) (but_last (run ∷ runs))
+    → (0 < length runs → target ≤ length run) × All (IsFull target) (but_last runs)
+full_first target run [] a = (λ h. absurd (omega (arith, h)), All-nil _)
+full_first target run (next ∷ runs) a =
+    let b = subst (All (IsFull target)) (but_last_more run (next ∷ runs) (omega arith)) a in
+    (λ _. b 0 run (omega arith), All-tail (IsFull target) run (but_last (next ∷ runs)) b)
+
+-- ---- the first run of a cut
+
+pub some_runs : (runs : List (List ℕ)) → 0 < length (concat runs) → 0 < length runs
+some_runs [] h = absurd (omega (arith, h))
+some_runs (run ∷ runs) h = omega arith
+
+pub some_bytes : (runs : List (List ℕ)) → All IsRun runs → 0 < length runs → 0 < length (concat runs)
+some_bytes [] each h = absurd (omega (arith, h))
+some_bytes (run ∷ runs) each h = omega (arith, (each 0 run (omega arith)).some, length-append run (concat runs))
+
+-- a run at the head of bytes
+first_is : (target : ℕ) (run more bytes : List ℕ) → bytes ≡ run ++ more → IsRun run → HasNoShorter target run → (0 < length more → target ≤ length run)
+    → IsFirstRun target (length run) bytes
+first_is target run more bytes e is shortest full =
+    let front : take (length run) bytes ≡ run = rw e (take-append_seam run more) in
+    let n = ap length e ∙ length-append run more in
+    record { within = omega (arith, n); run = rw front is; shortest = rw front shortest; full = λ h. full (omega (arith, n, h)) }
+
+-- with one run more at its head
+pub cut_more : (target : ℕ) (run more : List ℕ) (runs : List (List ℕ)) → IsRun run → HasNoShorter target run → (0 < length more → target ≤ length run)
+    → IsCutBy target runs more → IsCutBy target (run ∷ runs) (run ++ more)
+cut_more target run more runs is shortest full c = record {
+  cut = record { each = All-cons IsRun run runs is c.cut.each; joined = ap (λ l. run ++ l) c.cut.joined };
+  shortest = All-cons (HasNoShorter target) run runs shortest c.shortest;
+  full = full_more target run runs (λ h. full (omega (arith, ap length c.cut.joined, some_bytes runs c.cut.each h))) c.full;
+}
+
+-- full runs, and then a cut of what is behind them
+pub cut_after : (target : ℕ) (full runs : List (List ℕ)) (rest : List ℕ) → All (IsFullRun target) full → IsCutBy target runs rest
+    → IsCutBy target (full ++ runs) (concat full ++ rest)
+cut_after target [] runs rest h c = c
+cut_after target (run ∷ full) runs rest h c =
+    let first : IsFullRun target run = h 0 run (omega arith) in
+    rw append_assoc (cut_more target run (concat full ++ rest) (full ++ runs) first.run first.shortest (λ _. first.full)
+    (cut_after target full runs rest (All-tail (IsFullRun target) run full h) c))
+
+pub cut_none : (target : ℕ) → IsCutBy target [] []
+cut_none target = record { cut = record { each = All-nil _; joined = refl }; shortest = All-nil _; full = All-nil _ }
+
+-- the first run of a cut, and the cut of what it leaves
+cut_first : (target : ℕ) (run : List ℕ) (runs : List (List ℕ)) (bytes : List ℕ) → IsCutBy target (run ∷ runs) bytes
+    → IsFirstRun target (length run) bytes × IsCutBy target runs (concat runs)
+cut_first target run runs bytes c =
+    let full = full_first target run runs c.full in (
+      first_is target run (concat runs) bytes c.cut.joined (c.cut.each 0 run (omega arith)) (c.shortest 0 run (omega arith)) (λ h. full.0 (some_runs runs h)),
+      record {
+        cut = record { each = All-tail IsRun run runs c.cut.each; joined = refl };
+        shortest = All-tail (HasNoShorter target) run runs c.shortest;
+        full = full.1;
+      },
+    )
+
+-- ---- one cut
+
+not_shorter : (target m n : ℕ) (bytes : List ℕ) → IsFirstRun target m bytes → IsFirstRun target n bytes → ¬ (m < n)
+not_shorter target m n bytes p q less =
+    let long : length (take n bytes) ≡ n = length-take-le n bytes q.within in
+    let same : take m (take n bytes) ≡ take m bytes = take-take m n bytes (omega (arith, less)) in
+    let below = q.shortest m (omega (arith, less, long)) (subst IsWhole (sym same) p.run.whole) in
+    omega (arith, below, p.full (omega (arith, less, q.within)))
+
+pub first_runs_are_one : (target m n : ℕ) (bytes : List ℕ) → IsFirstRun target m bytes → IsFirstRun target n bytes → m ≡ n
+first_runs_are_one target m n bytes p q =
+    let one : ¬ (m < n) = not_shorter target m n bytes p q in
+    let other : ¬ (n < m) = not_shorter target n m bytes q p in
+    omega (arith, one, other)
+
+pub cuts_are_one : (target : ℕ) (some others : List (List ℕ)) (bytes : List ℕ) → IsCutBy target some bytes → IsCutBy target others bytes → some ≡ others
+cuts_are_one target [] [] bytes p q = refl
+cuts_are_one target [] (y ∷ ys) bytes p q = absurd (omega (arith, some_bytes (y ∷ ys) q.cut.each (omega arith), ap length (sym q.cut.joined ∙ p.cut.joined)))
+cuts_are_one target (x ∷ xs) [] bytes p q = absurd (omega (arith, some_bytes (x ∷ xs) p.cut.each (omega arith), ap length (sym p.cut.joined ∙ q.cut.joined)))
+cuts_are_one target (x ∷ xs) (y ∷ ys) bytes p q =
+    let f = cut_first target x xs bytes p in
+    let g = cut_first target y ys bytes q in
+    let n = first_runs_are_one target (length x) (length y) bytes f.0 g.0 in
+    let same = two_fronts x y (concat xs) (concat ys) n (sym p.cut.joined ∙ q.cut.joined) in
+    ap₂ ◌∷◌ same.0 (cuts_are_one target xs ys (concat xs) f.1 (rw same.1 g.1))
+
+-- full runs with something behind them are fewer than the runs of the cut
+fewer : (target : ℕ) (full runs : List (List ℕ)) (bytes more : List ℕ) → All (IsFullRun target) full → bytes ≡ concat full ++ more → 0 < length more
+    → IsCutBy target runs bytes → length full < length runs
+fewer target full [] bytes more h e some c = absurd (omega (arith, ap length (sym e ∙ c.cut.joined), length-append (concat full) more, some))
+fewer target [] (y ∷ runs) bytes more h e some c = omega arith
+fewer target (x ∷ full) (y ∷ runs) bytes more h e some c =
+    let first : IsFullRun target x = h 0 x (omega arith) in
+    let e = e ∙ append_assoc x (concat full) more in
+    let g = cut_first target y runs bytes c in
+    let n = first_runs_are_one target (length x) (length y) bytes (first_is target x _ bytes e first.run first.shortest (λ _. first.full)) g.0 in
+    let same = two_fronts x y (concat full ++ more) (concat runs) n (sym e ∙ c.cut.joined) in
+    let later = fewer target full runs (concat runs) more (All-tail (IsFullRun target) x full h) (sym same.1) some g.1 in
+    omega (arith, later)
+
+-- ---- a cut as the loops make it
+
+-- these are the runs of the bytes before this place
+pub record Begun (target start : ℕ) (front : List (List ℕ)) (bytes : List ℕ) : Type 0 where
+  pub within : start ≤ length bytes
+  pub whole : IsWhole (take start bytes)
+  pub cut : IsCutBy target front (take start bytes)
+  pub full : start < length bytes → All (IsFull target) front
+
+pub Begun-none : (target : ℕ) (bytes : List ℕ) → Begun target 0 [] bytes
+Begun-none target bytes = record { within = omega arith; whole = IsWhole-nil; cut = cut_none target; full = λ _. All-nil _ }
+
+pub Begun-more : {target start n : ℕ} {front : List (List ℕ)} {bytes : List ℕ} (run : List ℕ) → Begun target start front bytes → start < length bytes
+    → IsFirstRun target n (drop start bytes) → run ≡ take n (drop start bytes) → Begun target (start + n) (front ++ run ∷ []) bytes
+Begun-more {target} {start} {n} {front} {bytes} run b h f r = record {
+  within = omega (arith, f.within, length-drop start bytes, b.within);
+  whole = IsWhole-further start n bytes b.whole f.run.whole;
+  cut = record {
+    cut = record {
+      each = All-push IsRun front run b.cut.cut.each (rw r f.run);
+      joined = take-add start n bytes ∙ (λ i. b.cut.cut.joined i ++ sym r i) ∙ sym (concat_push front run);
+    };
+    shortest = All-push (HasNoShorter target) front run b.cut.shortest (rw r f.shortest);
+    full = subst (All (IsFull target)) (sym (but_last_push front run)) (b.full h);
+  };
+  full = λ more. All-push (IsFull target) front run (b.full h)
+      (omega (arith, ap length r, length-take-le n (drop start bytes) f.within, f.full (omega (arith, more, length-drop start bytes))));
+}
+
+pub Begun-all : {target start : ℕ} {front : List (List ℕ)} {bytes : List ℕ} → Begun target start front bytes → length bytes ≤ start
+    → IsCutBy target front bytes
+Begun-all {target} {start} {front} {bytes} b h = subst (IsCutBy target front) (take_all start bytes h) b.cut
+
+-- where there is a cut of few runs, one more may be made
+pub room_for_one : {target start : ℕ} {made runs : List (List ℕ)} {bytes : List ℕ} → Begun target start made bytes → start < length bytes
+    → IsCutBy target runs bytes → length made < length runs
+room_for_one {target} {start} {made} {runs} {bytes} b h c =
+    let full : All (IsFullRun target) made =
+    λ k d l. record { run = b.cut.cut.each k d l; shortest = b.cut.shortest k d l; full = b.full h k d l } in
+    fewer target made runs bytes (drop start bytes) full (sym (take-append-drop start bytes) ∙ ap (λ l. l ++ drop start bytes) b.cut.cut.joined)
+    (omega (arith, h, length-drop start bytes)) c
+
+-- ---- how long a run is
+
+run_bound : (target : ℕ) (run : List ℕ) (frames : List PlacedBody) → AreShort frames → run ≡ spelling frames → 0 < length run → HasNoShorter target run
+    → length run < target + 65537
+run_bound target run [] short e some s = absurd (omega (arith, ap length e, some))
+run_bound target run (x ∷ xs) short e some s =
+    let front = take (length xs) (x ∷ xs) in
+    let last = get_or (x ∷ xs) (length xs) x in
+    let size : length (x ∷ xs) ≡ length xs + 1 = omega arith in
+    let parts : x ∷ xs ≡ front ++ last ∷ [] =
+    sym (take-length (x ∷ xs)) ∙ ap (λ k. take k (x ∷ xs)) size ∙ take_more (x ∷ xs) (length xs) x (omega arith) in
+    let split = e ∙ ap spelling parts ∙ spelling-append front (last ∷ []) in
+    let n = ap length split ∙ length-append (spelling front) (spelling (last ∷ [])) in
+    let before : take (length (spelling front)) run ≡ spelling front = rw split (take-append_seam (spelling front) (spelling (last ∷ []))) in
+    let whole = IsWhole-spelling front (All-take (λ frame. IsShort frame.body) (length xs) (x ∷ xs) short) in
+    let below = s (length (spelling front)) (omega (arith, n, length-spelling last [])) (rw before whole) in
+    omega (arith, below, n, length-spelling last [], short (length xs) x (omega arith))
+
+pub runs_bound : (target : ℕ) (runs : List (List ℕ)) (bytes : List ℕ) → IsCutBy target runs bytes → All (λ run. length run < target + 65537) runs
+runs_bound target runs bytes c = λ k d h. let r = c.cut.each k d h in run_bound target _ r.whole.0 r.whole.1.short r.whole.1.whole r.some (c.shortest k d h)
