@@ -17,8 +17,7 @@ use Rattle.probe.specs.Trades.{kept}
 use Rattle.row_types.specs.declared.trade.Execution.{Execution}
 use Rattle.row_types.specs.declared.trade.Sale.{Sale}
 use Rattle.probe.specs.declared.selection.Selection.{Selection}
-use Rattle.probe.proofs.KeptSales.{kept_have_shares, length-kept}
-use Rattle.probe.proofs.PricedSales.{length-priced}
+use Rattle.probe.proofs.KeptSales.{kept_have_shares, length-kept, length-priced}
 use Rattle.row_types.specs.SalesByPlace.{place_cmp}
 use Rattle.time_and_sales.specs.Names.{IsNamesOf, name_of, name_text}
 use Rattle.time_and_sales.specs.Texts.{listing_text, sale_line, sales_header}

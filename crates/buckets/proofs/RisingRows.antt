@@ -73,13 +73,6 @@ none_twice parts are = none_repeated (rows_of_lists parts) (all_rise parts are)
 
 -- ---- one list more
 
-pub rising_none : AreRising []
-rising_none = record {
-  rise = λ k d l. absurd (omega (arith, l));
-  within = λ k d l. absurd (omega (arith, l));
-  apart = λ i j d p q. absurd (omega (arith, q));
-}
-
 all_one : {X : Type 0} (P : X → Type 0) (x : X) → P x → All P (x ∷ [])
 all_one P x h zero d l = h
 all_one P x h (suc k) d l = absurd (omega (arith, l))

@@ -5,20 +5,15 @@ use Rattle.std.proofs.lemmas.List.{length-append}
 use Rattle.lists.specs.declared.limits.TheConstants.{TRADE_LIMIT}
 use Rattle.row_types.specs.declared.order.OrderRow.{OrderRow}
 use Rattle.probe.specs.Pricing.{priced}
-use Rattle.row_types.specs.declared.trade.Execution.{Execution}
 use Rattle.row_types.specs.declared.trade.Sale.{Sale}
-use Rattle.probe.proofs.KeptSales.{length-kept}
-use Rattle.probe.proofs.PricedSales.{length-priced}
-use Rattle.day_rows.proofs.RowsByPlace.{executions_distinct, kept_apart, orders_distinct}
+use Rattle.probe.proofs.KeptSales.{length-kept, length-priced}
+use Rattle.day_rows.proofs.RowsByPlace.{kept_apart, orders_distinct}
 use Rattle.morsel_rows.specs.Partitions.{AreRowsByPlace, PartitionView}
 use Rattle.buckets.specs.FoundRows.{sales_in, trades_in}
 
 module _ (rows : PartitionView) (are : AreRowsByPlace rows) where
   pub orders_apart : IsDistinct nat_eq (map (λ (row : OrderRow). row.place) rows.orders)
   orders_apart = rw are.orders (orders_distinct are.messages are.by_place)
-
-  pub executions_apart : IsDistinct nat_eq (map (λ (execution : Execution). execution.place) rows.executions)
-  executions_apart = rw are.executions (executions_distinct are.messages are.by_place)
 
   pub sales_apart : (breaks : List ℕ) (selection : Sale → Bool) → IsDistinct nat_eq (map (λ (sale : Sale). sale.place) (sales_in breaks selection rows))
   sales_apart breaks selection = rw (are.orders, are.executions, are.own_priced) (kept_apart breaks selection are.messages are.by_place)

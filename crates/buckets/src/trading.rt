@@ -5,13 +5,15 @@ ghost use Rattle.order_table.specs.Orders.{IsTableOf};
 ghost use Rattle.row_types.specs.declared.order.OrderRow.{OrderRow as TheRow};
 ghost use Rattle.probe.specs.PricedBefore.{IsPricingOf};
 ghost use Rattle.probe.specs.Pricing.{priced};
+ghost use Rattle.keyed_orders.specs.Joined.{rows_of_lists};
 ghost use Rattle.morsel_rows.specs.Partitions.{AreRowsByPlace};
 ghost use Rattle.buckets.specs.BucketRows.{rows_of_parts};
 ghost use Rattle.buckets.specs.FoundRows.{repeated_in, trades_in, unknown_in};
 
 use crate::OutOfMemory;
 use crate::rising::RisingOrders;
-use morsel_rows::Partition;
+use keyed_orders::KeyedOrders;
+use morsel_rows::{OrderList, Partition};
 use order_table::{Built, OrderRow, OrderTable, PricesExecutions, Repeated};
 use probe::{Priced, Sale, Unknown, price_into};
 use std::alloc::Global;
@@ -37,8 +39,8 @@ pub(crate) fn trade(alloc: Global, parts: &[&Partition]) -> Result<Traded, OutOf
     Ok(traded)
 }
 
-/// Prices the executions of the partitions by their orders: searched where they lie, where their
-/// references rise, and else in a table.
+/// Prices the executions of the partitions by their orders: searched where they lie, where their references rise, and
+/// else found by their keys; in a table, where keys don't tell them apart.
 fn price_executions(alloc: Global, parts: &[&Partition]) -> Result<Traded, OutOfMemory>
     requires { IsDistinct nat_eq (map (λ row. row.place) (rows_of_parts parts.now).orders) }
     ensures repeated { IfOk result (λ traded. traded.repeated ≡ repeated_in (rows_of_parts parts.now)) }
@@ -47,20 +49,45 @@ fn price_executions(alloc: Global, parts: &[&Partition]) -> Result<Traded, OutOf
         ≡ priced (rows_of_parts parts.now).orders (rows_of_parts parts.now).executions) }
 {
     if let Some(orders) = RisingOrders::of(alloc, parts)? {
-        let Priced { sales, unknown } = price(alloc, &orders, parts)?;
-        return Ok(Traded {
-            repeated: None,
-            unknown,
-            sales,
-        });
+        return price_by(alloc, &orders, None, parts);
+    }
+    let lists = lists_of(alloc, parts)?;
+    if let Some(orders) = KeyedOrders::of(alloc, &lists)? {
+        return price_by(alloc, &orders, None, parts);
     }
     let Built { table, repeated } = table_of(alloc, parts)?;
-    let Priced { sales, unknown } = price(alloc, &table, parts)?;
+    price_by(alloc, &table, repeated, parts)
+}
+
+/// What is traded at the prices of these orders, of which this is the first that repeats a reference.
+fn price_by<P: PricesExecutions>(
+    alloc: Global,
+    prices: &P,
+    repeated: Option<Repeated>,
+    parts: &[&Partition],
+) -> Result<Traded, OutOfMemory>
+    ensures repeated { IfOk result (λ traded. traded.repeated ≡ repeated) }
+    ensures pricing { IfOk result (λ traded. (rows : List TheRow) → P.PricesBy rows prices.now →
+        IsPricingOf rows (rows_of_parts parts.now).executions
+        (record { sales = traded.sales; unknown = traded.unknown })) }
+{
+    let Priced { sales, unknown } = price(alloc, prices, parts)?;
     Ok(Traded {
         repeated,
         unknown,
         sales,
     })
+}
+
+/// The order rows of the partitions, where they lie.
+fn lists_of<'a>(alloc: Global, parts: &[&'a Partition]) -> Result<Vec<&'a OrderList>, OutOfMemory>
+    ensures { IfOk result (λ lists. rows_of_lists lists.items ≡ (rows_of_parts parts.now).orders) }
+{
+    let mut lists = Vec::with_capacity(alloc, parts.len())?;
+    for part in parts {
+        lists.push(part.orders())?;
+    }
+    Ok(lists)
 }
 
 /// The table of the partitions' orders.

@@ -7,13 +7,10 @@ use Rattle.std.proofs.lemmas.List.{length-append, length-map, map-append}
 use Rattle.lists.proofs.Lists.{length-concat_push}
 use Rattle.std.proofs.lemmas.Option.{slice_get_read}
 use Rattle.std.proofs.Math.ListN.{get_or-map}
-use Rattle.std.proofs.lemmas.List.Elements.{All-nil, All-push}
+use Rattle.std.proofs.lemmas.List.Elements.{All-push}
 use Rattle.lists.specs.declared.limits.TheConstants.{LONGEST_FILE, MOST_MORSELS}
 use Rattle.day_file.specs.Cuts.{AreBytes, IsRun, MorselView, start_of}
 use Rattle.day_file.specs.Kept.{runs_of, numbered, AreMorsels}
-
-pub AreMorsels-none : AreMorsels [] 0
-AreMorsels-none = record { numbers = refl; runs = All-nil _; bytes = All-nil _; few = omega arith; length_is = refl; within = omega arith }
 
 pub numbered-last : (number start : ℕ) (runs : List (List ℕ)) (run : List ℕ) →
     numbered number start (runs ++ run ∷ []) ≡ numbered number start runs ++ record

@@ -1,32 +1,28 @@
 -- Each list of rows stands by place, since the messages do; so no place stands twice in it.
-use Rattle.std.proofs.Common.{◌≡◌, ℕ, Bool, true, List, [], ◌∷◌, ◌++◌, map, nat_eq, All, Less, arith, Option, Some, None, option_map, option_to_list, cond}
-use Rattle.std.proofs.Common.{◌==◌, false, filter_map, flat_map, IsPermutation, refl, sym, ap, ap₂, ◌∙◌, subst}
-use Rattle.std.specs.List.{AllByRecursion, IsDistinct, cons_option}
+use Rattle.std.proofs.Common.{◌≡◌, ℕ, Bool, List, [], ◌∷◌, ◌++◌, map, nat_eq, Less, arith, Some}
+use Rattle.std.proofs.Common.{false, sym, ap}
+use Rattle.std.specs.List.{AllByRecursion, IsDistinct}
 use Rattle.std.proofs.lemmas.Bool.Decides.{nat_tests}
-use Rattle.std.proofs.lemmas.List.Elements.{All-append, All-filter, All-from_recursion, recursion_from_All}
 use Rattle.std.proofs.lemmas.Map.Keys.{IsDistinct-IsPermutation}
 use Rattle.std.specs.List.Sorted.{IsStrictlySortedBy}
 use Rattle.std.specs.Ordering.{nat_cmp}
-use Rattle.std.proofs.lemmas.Cmp.{nat_cmp_total, on_total}
 use Rattle.std.proofs.lemmas.List.Kept.{IsStrictlySortedBy-filter}
-use Rattle.std.proofs.lemmas.List.Sorted.{All-permutation, IsPermutation-map, IsPermutation-sym, IsPermutation-trans}
+use Rattle.std.proofs.lemmas.List.Sorted.{IsPermutation-map}
 use Rattle.itch_messages.specs.declared.message.Message.{Message}
 use Rattle.itch_messages.specs.declared.message.Message.TheVariants.{Add, Executed, ExecutedAt, Replace, Trade, Cross, Broken, Directory, Skipped}
 use Rattle.row_types.specs.declared.order.OrderRow.{OrderRow}
-use Rattle.lists.proofs.Lists.{filter_map_as_flat_map, filter_map-flat_map, IsPermutation-filter, IsPermutation-both}
-use Rattle.lists.proofs.Order.{same_from_permutation, sorted-filter_map}
+use Rattle.lists.proofs.Lists.{IsPermutation-filter}
+use Rattle.lists.proofs.Order.{sorted-filter_map}
 use Rattle.row_types.specs.declared.trade.Execution.{Execution}
 use Rattle.row_types.specs.declared.trade.Sale.{Sale}
-use Rattle.probe.specs.Pricing.{price_of, sale_at, sale_of, priced}
+use Rattle.probe.specs.Pricing.{priced}
 use Rattle.probe.specs.Trades.{is_kept, kept}
-use Rattle.row_types.specs.declared.trade.Kind.TheVariants.{C}
 use Rattle.row_types.specs.SalesByPlace.{place_cmp}
 use Rattle.itch_messages.specs.Body.{message_of}
 use Rattle.day_file.specs.Frames.{PlacedBody}
-use Rattle.row_types.specs.declared.directory.DirectoryRow.{DirectoryRow}
-use Rattle.day_rows.specs.Messages.{Placed, placed_at, messages_of, order_row_at, execution_at, own_priced_at, directory_row_at, order_rows, executions}
-use Rattle.day_rows.specs.Messages.{own_priced_sales, break_numbers, directory_rows}
-use Rattle.day_rows.specs.Messages.{trade_at, trades}
+use Rattle.day_rows.specs.Messages.{Placed, placed_at, messages_of, order_row_at, execution_at, order_rows, executions}
+use Rattle.day_rows.specs.Messages.{own_priced_sales, break_numbers}
+use Rattle.day_rows.specs.Messages.{trades}
 use Rattle.day_rows.specs.DayRows.{AreByPlace}
 use Rattle.day_rows.proofs.TradesOfRows.{trades_are_both, trades_by_place}
 
@@ -76,19 +72,6 @@ execution_keeps_place place (Broken broken) row e = absurd (cc)
 execution_keeps_place place (Directory directory) row e = absurd (cc)
 execution_keeps_place place Skipped row e = absurd (cc)
 
-directory_keeps_place : (place : ℕ) (message : Message) (row : DirectoryRow) → directory_row_at place message ≡ Some row → row.place ≡ place
-directory_keeps_place place (Directory directory) row e =
-    let made : DirectoryRow = record { place = place; locate = directory.header.locate; stock = directory.stock } in
-    let same : made ≡ row = cc in sym (ap (λ (r : DirectoryRow). r.place) same)
-directory_keeps_place place (Add add) row e = absurd (cc)
-directory_keeps_place place (Executed executed) row e = absurd (cc)
-directory_keeps_place place (Replace replace) row e = absurd (cc)
-directory_keeps_place place (ExecutedAt executed) row e = absurd (cc)
-directory_keeps_place place (Trade trade) row e = absurd (cc)
-directory_keeps_place place (Cross cross) row e = absurd (cc)
-directory_keeps_place place (Broken broken) row e = absurd (cc)
-directory_keeps_place place Skipped row e = absurd (cc)
-
 pub orders_distinct : (messages : List Placed) → AreByPlace messages → IsDistinct nat_eq (map (λ row. row.place) (order_rows messages))
 orders_distinct messages up = distinct_places (λ (row : OrderRow). row.place) (order_rows messages)
     (sorted-filter_map (λ (m : Placed). m.place) (λ (row : OrderRow). row.place) (λ m. order_row_at m.place m.message)
@@ -98,11 +81,6 @@ pub executions_distinct : (messages : List Placed) → AreByPlace messages → I
 executions_distinct messages up = distinct_places (λ (row : Execution). row.place) (executions messages)
     (sorted-filter_map (λ (m : Placed). m.place) (λ (row : Execution). row.place) (λ m. execution_at m.place m.message)
     (λ m row e. execution_keeps_place m.place m.message row e) messages up)
-
-pub directory_distinct : (messages : List Placed) → AreByPlace messages → IsDistinct nat_eq (map (λ row. row.place) (directory_rows messages))
-directory_distinct messages up = distinct_places (λ (row : DirectoryRow). row.place) (directory_rows messages)
-    (sorted-filter_map (λ (m : Placed). m.place) (λ (row : DirectoryRow). row.place) (λ m. directory_row_at m.place m.message)
-    (λ m row e. directory_keeps_place m.place m.message row e) messages up)
 
 flips : (x y : ℕ) → nat_eq x y ≡ nat_eq y x
 flips x y = grind (arith, nat_tests)

@@ -24,9 +24,8 @@ use Rattle.probe.specs.Trades.{is_kept, kept}
 use Rattle.row_types.specs.declared.trade.Execution.{Execution}
 use Rattle.row_types.specs.declared.trade.Sale.{Sale}
 use Rattle.row_types.specs.declared.trade.Unknown.{Unknown}
-use Rattle.probe.proofs.KeptSales.{length-kept}
+use Rattle.probe.proofs.KeptSales.{length-kept, length-priced}
 use Rattle.probe.proofs.PartSales.{first_unknown_of_parts, priced_in_part}
-use Rattle.probe.proofs.PricedSales.{length-priced}
 use Rattle.bars.specs.Bars.{all_sales}
 use Rattle.meaning.specs.Meaning.{Meaning}
 use Rattle.answers.specs.Answers.{asks_for}

@@ -138,7 +138,7 @@ impl<A: Allocator> OrderList<A> {
 
     /// The row at this index.
     #[inline(always)]
-    fn at(&self, index: usize) -> OrderRow
+    pub fn at(&self, index: usize) -> OrderRow
         requires { index < length self.now }
         ensures { result ≡ slice_index_or self.now index result }
     {

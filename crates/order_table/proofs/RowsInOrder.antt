@@ -1,8 +1,8 @@
 -- Of rows in the order of their references: that a sort gives it, which row comes first, and what a search finds.
 use Rattle.std.proofs.Common.{◌≡◌, ℕ, zero, suc, ◌<◌, ◌≤◌, Bool, true, false, cond, eqb, ltb, List, [], ◌∷◌, length, get_or, Some, None, filter}
-use Rattle.std.proofs.Common.{Ordering, nat_cmp, IsPermutation, ◌-◌, refl, sym, ap, ◌∙◌, subst, arith, map, take, drop, ◌++◌, ◌≢◌, ◌⊎◌, inl, inr, ⊎_elim}
+use Rattle.std.proofs.Common.{Ordering, nat_cmp, IsPermutation, refl, sym, ap, ◌∙◌, subst, arith, map, ◌≢◌, ◌⊎◌, inl, ⊎_elim}
 use Rattle.std.specs.Cmp.{IsTotalOrder}
-use Rattle.std.specs.List.{All, AllPairs, AllAdjacentBelow, IsAllAdjacentAnswer, IsDistinct, ReversedBelow, find}
+use Rattle.std.specs.List.{All, AllPairs, AllAdjacentBelow, IsAllAdjacentAnswer, IsDistinct, find}
 use Rattle.std.specs.List.Sorted.{IsNonDecreasingBy, IsPartitionPoint, IsSortedByKey}
 use Rattle.std.specs.Ordering.{is_lt, ordering_then}
 use Rattle.std.proofs.lemmas.Bool.{cases_order, both_ways, eq-eqb, eqb-true, eqb-false, ltb-true, ltb-false, lt-ltb, le-ltb}
@@ -73,11 +73,6 @@ module _ {X : Type 0} (f : X → ℕ) (rows : List X) where
   rising_from_answer rises h e i j d p q =
       ltb-true _ _ (pairs_from_answer (λ x y. ltb (f x) (f y)) (below_on f) rows rises h e i j d p q)
 
-  pub falling_from_answer : (falls : Bool) → IsAllAdjacentAnswer (λ x y b. b ≡ ltb (f y) (f x)) rows falls
-      → falls ≡ true → AllPairs (λ x y. f y < f x) rows
-  falling_from_answer falls h e i j d p q =
-      ltb-true _ _ (pairs_from_answer (λ x y. ltb (f y) (f x)) (λ x y z a b. below_on f z y x b a) rows falls h e i j d p q)
-
   pairs_do_not_fall : (R : X → X → Type 0) → ((x y : X) → R x y → f x ≤ f y) → AllPairs R rows → IsNonDecreasingBy f rows
   pairs_do_not_fall R below up i j d p q =
       ⊎_elim
@@ -90,16 +85,6 @@ module _ {X : Type 0} (f : X → ℕ) (rows : List X) where
 
 pub in_order_from_rising : (rows : List OrderRow) → AllPairs (λ x y. x.order_no < y.order_no) rows → IsInOrder rows
 in_order_from_rising rows up i j d p q = inl (up i j d p q)
-
--- and where they fall, once they are turned over
-pub in_order_from_falling : (rows turned : List OrderRow) → ReversedBelow rows turned (length rows) → length turned ≡ length rows
-    → AllPairs (λ x y. y.order_no < x.order_no) rows → IsInOrder turned
-in_order_from_falling rows turned over len down i j d p q =
-    let n = length rows in
-    let high : j < n = omega (arith, q, len) in
-    let low : i < n = omega (arith, p, high) in
-    let less = down (n - 1 - j) (n - 1 - i) d (omega (arith, p, high)) (omega (arith, low)) in
-    inl (rw (over i d low) (rw (over j d high) less))
 
 pub references_do_not_fall : (rows : List OrderRow) → IsInOrder rows → IsNonDecreasingBy (λ row. row.order_no) rows
 references_do_not_fall rows =

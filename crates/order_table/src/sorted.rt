@@ -1,7 +1,7 @@
 //! Rows by their references, and a search in them.
-ghost use Rattle.std.specs.Prelude.{◌≡◌, ◌==◌, List};
+ghost use Rattle.std.specs.Prelude.{◌≡◌, ◌==◌, List, false, nat_lt, true};
 ghost use Rattle.std.specs.List.{find};
-ghost use Rattle.std.specs.List.Sorted.{IsNonDecreasingBy};
+ghost use Rattle.std.specs.List.Sorted.{IsNonDecreasingBy, IsPartitionPoint};
 ghost use Rattle.row_types.specs.declared.order.OrderRow.{OrderRow as TheRow};
 
 use row_types::OrderRow;
@@ -35,10 +35,20 @@ impl<A: Allocator> SortedRows<A> {
     pub(crate) fn first(&self, order_no: u64) -> Option<OrderRow>
         ensures { result ≡ find (λ row. row.order_no == order_no) self.now }
     {
-        let at = self.rows.partition_point(|row| row.order_no < order_no);
+        let at = point(&self.rows, order_no);
         match self.rows.get(at) {
             Some(row) if row.order_no == order_no => Some(*row),
             _ => None,
         }
     }
+}
+
+/// How many rows have a smaller reference.
+#[inline(always)]
+fn point(rows: &[OrderRow], order_no: u64) -> usize
+    requires { IsNonDecreasingBy (λ row. row.order_no) rows.now }
+    ensures { IsPartitionPoint (λ row. nat_lt row.order_no order_no ≡ true)
+        (λ row. nat_lt row.order_no order_no ≡ false) rows.now result }
+{
+    rows.partition_point(|row| row.order_no < order_no)
 }

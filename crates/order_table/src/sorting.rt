@@ -1,5 +1,5 @@
 //! Rows in the order of their references.
-ghost use Rattle.std.specs.Prelude.{◌≡◌, ◌<◌, IsTrue, length, map, nat_eq};
+ghost use Rattle.std.specs.Prelude.{◌≡◌, ◌<◌, IsTrue, map, nat_eq};
 ghost use Rattle.std.specs.List.{AllPairs, IsDistinct};
 ghost use Rattle.std.specs.List.Sorted.{IsPermutation};
 ghost use Rattle.order_table.specs.OneMoreRow.{earlier_row};
@@ -15,63 +15,12 @@ pub(crate) fn rises(rows: &[OrderRow]) -> bool
     rows.is_sorted_by(|row, next| row.order_no < next.order_no)
 }
 
-/// Whether each reference is below those before it.
-fn falls(rows: &[OrderRow]) -> bool
-    ensures { IsTrue result → AllPairs (λ x y. y.order_no < x.order_no) rows.now }
-{
-    rows.is_sorted_by(|row, next| next.order_no < row.order_no)
-}
-
-/// Puts the rows in order: by their references, and those of one reference by their places. It
-/// takes no memory. If they fall or nearly have that order already, it takes a few steps a row;
-/// else as many as a sort by the reference alone, and one by both after it only if a reference is
-/// repeated.
+/// Puts the rows in order: by their references, and those of one reference by their places. It takes no memory.
 pub(crate) fn put_in_order(rows: &mut [OrderRow])
     ensures permutation { IsPermutation rows.old rows.new }
     ensures in_order { IsInOrder rows.new }
 {
-    if falls(rows) {
-        rows.reverse();
-        return;
-    }
-    move_near(rows);
-    rows.sort_unstable_by_key(|row: &OrderRow| row.order_no);
-    if !rises(rows) {
-        rows.sort_unstable_by_key(|row: &OrderRow| (row.order_no, row.place));
-    }
-}
-
-/// How many rows before its own place a row of a list that nearly rises may belong.
-const NEAR: usize = 32;
-
-/// Moves each row before those just before it that have greater references, up to the first that
-/// belongs farther away.
-fn move_near(rows: &mut [OrderRow])
-    ensures { IsPermutation rows.old rows.new }
-{
-    for at in 1..rows.len() {
-        if !move_down(rows, at) {
-            return;
-        }
-    }
-}
-
-/// Moves the row before those just before it that have greater references, and gives whether it
-/// has come past all of them.
-#[inline(always)]
-fn move_down(rows: &mut [OrderRow], at: usize) -> bool
-    requires { at < length rows.old }
-    ensures { IsPermutation rows.old rows.new }
-{
-    let mut to = at;
-    for _ in 0..NEAR {
-        if to == 0 || rows[to - 1].order_no <= rows[to].order_no {
-            return true;
-        }
-        rows.swap(to - 1, to);
-        to -= 1;
-    }
-    false
+    rows.sort_unstable_by_key(|row: &OrderRow| (row.order_no, row.place));
 }
 
 /// Of rows in order, the one of least place that repeats a reference: each repeats that of the row

@@ -1,4 +1,3 @@
 mod OneMoreExecution
 pub mod KeptSales
-pub mod PricedSales
 pub mod PartSales

@@ -6,14 +6,9 @@ use Rattle.lists.proofs.Lists.{filters_commute, filter_map_on_filter}
 use Rattle.lists.proofs.Order.{TellsApart-filter}
 use Rattle.lists.proofs.Parts.{least_of_parts}
 use Rattle.order_table.specs.Parts.{part_rows}
-use Rattle.order_table.proofs.PartRows.{price_in_part, price_in_own_part}
+use Rattle.order_table.proofs.PartRows.{price_in_part}
 use Rattle.probe.specs.Parts.{part_executions}
-use Rattle.probe.specs.Pricing.{Execution, first_unknown, is_unknown, price_of, priced, sale_at, sale_of}
-
--- an execution has the price that it has in the whole
-pub execution_in_part : (n : ℕ) (rows : List OrderRow) (execution : Execution)
-    → price_of (part_rows n rows (execution.order_no % n)) execution ≡ price_of rows execution
-execution_in_part n rows execution = price_in_own_part n rows execution.order_no execution.place
+use Rattle.probe.specs.Pricing.{Execution, first_unknown, is_unknown, priced, sale_at, sale_of}
 
 -- so a part has the sales of its executions
 pub priced_in_part : (n b : ℕ) (rows : List OrderRow) (executions : List Execution)

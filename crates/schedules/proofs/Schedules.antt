@@ -76,22 +76,6 @@ module _ {A : Type 0} where
       let known = set_of_at gs i g within at in let test = lt_true t n task in
       let written = map-set (λ v. v.covered) gs i h in cc
 
-  -- an arrival at no gatherer, or of no task
-  pub arrive_nowhere : (gs : List (GatheringView A)) (i t n : ℕ) → length gs ≤ i
-      → covered_sets gs ≡ after n (Arrive i t) (covered_sets gs)
-  arrive_nowhere gs i t n past = by (nat_lt t n)
-    where
-      sets : Sets
-      sets = covered_sets gs
-
-      by : (b : Bool) → sets ≡ (if b then set sets i (insert (set_of sets i) t) else sets)
-      by true = sym (set_past sets i _ (omega (arith, length-map gs (λ v. v.covered))))
-      by false = refl
-
-  pub arrive_nothing : (gs : List (GatheringView A)) (i t n : ℕ) → n ≤ t
-      → covered_sets gs ≡ after n (Arrive i t) (covered_sets gs)
-  arrive_nothing gs i t n past = let test = lt_false t n past in cc
-
   -- a merge of two
   pub merge_step : (gs : List (GatheringView A)) (a b n : ℕ) (e f g h : GatheringView A) → a < length gs → b < length gs → a ≢ b
       → e.covered ≡ empty → f ≡ get_or gs b f → g ≡ get_or (set gs b e) a g → h.covered ≡ union g.covered f.covered
@@ -104,13 +88,6 @@ module _ {A : Type 0} where
       let here = set_of_at gs a g ha mine in
       let outer = map-set (λ v. v.covered) (set gs b e) a h in
       let inner = map-set (λ v. v.covered) gs b e in cc
-
-  -- a merge of others
-  pub merge_nothing : (gs : List (GatheringView A)) (a b n : ℕ) → are_two (length gs) a b ≡ false
-      → covered_sets gs ≡ after n (Merge a b) (covered_sets gs)
-  merge_nothing gs a b n none =
-      let long = length-map gs (λ v. v.covered) in
-      let test : are_two (length (covered_sets gs)) a b ≡ false = ap (λ m. are_two m a b) long ∙ none in cc
 
 or_false : (b : Bool) → (b || false) ≡ b
 or_false true = refl

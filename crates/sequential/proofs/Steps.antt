@@ -1,5 +1,5 @@
 -- What the steps of `plain` give each other makes the answer.
-use Rattle.std.proofs.Common.{◌≡◌, ℕ, List, Option, Some, None, Result, Ok, Err, IfOk, IfErr, MatchOption, ap, subst}
+use Rattle.std.proofs.Common.{◌≡◌, ℕ, List, Option, Some, None, Result, Ok, Err, IfOk, MatchOption, ap, subst}
 use Rattle.std.specs.Prelude.{IsSomeAnd}
 use Rattle.row_types.specs.declared.order.OrderRow.{OrderRow}
 use Rattle.order_table.specs.Orders.{first_repeated}
@@ -30,11 +30,6 @@ at_some o P Q x e m = subst (λ o. MatchOption o P Q) e m
 pub on_ok : {X E : Type 0} (r : Result X E) (P Q : X → Type 0) → ((x : X) → P x → Q x) → IfOk r P → IfOk r Q
 on_ok (Ok x) P Q follows p = follows x p
 on_ok (Err e) P Q follows p = tt
-
-pub on_refused : {X : Type 0} (r : Result X Refused) (P Q : DayFault → Type 0) → ((fault : DayFault) → P fault → Q fault)
-    → IfErr r (λ refused. IfDay refused P) → IfErr r (λ refused. IfDay refused Q)
-on_refused (Ok x) P Q follows p = tt
-on_refused (Err refused) P Q follows p = on_day refused P Q follows p
 
 -- what is told of a fault in the references answers to the messages that they are of
 pub fault_answers : (messages : List Placed) (query : Meaning) (fault : DayFault) → IsReferenceFault (order_rows messages) (executions messages) fault

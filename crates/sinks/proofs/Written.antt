@@ -2,7 +2,7 @@
 use Rattle.std.proofs.Common.{◌≡◌, ◌+◌, ◌-◌, ◌<◌, ◌≤◌, ℕ, List, [], ◌∷◌, ◌++◌, get_or, length, take, drop, Vec, sym, ap, ◌∙◌, subst, arith}
 use Rattle.std.specs.List.{flat_map}
 use Rattle.std.proofs.Math.Seq.{take-add, take-append-add, take-length}
-use Rattle.std.proofs.lemmas.List.{append-nil, append_assoc, length-append, length-drop, take_all, take_more, take-append-drop, take-append-le}
+use Rattle.std.proofs.lemmas.List.{append-nil, append_assoc, length-append, length-drop, take_more, take-append-drop, take-append-le}
 use Rattle.std.proofs.lemmas.List.Concat.{flat_map-append}
 
 -- all that stands from a place on
@@ -49,16 +49,6 @@ module _ {Z : Type 0} (pieces : List (Vec ℕ Z)) where
       ∙ ap (λ l. l ++ flat_map (λ (p : Vec ℕ Z). p.items) (drop (i + 1) pieces)) (front_more i d h)
       ∙ append_assoc (front i) (get_or pieces i d).items (flat_map (λ (p : Vec ℕ Z). p.items) (drop (i + 1) pieces))
 
-  pub pieces_written : (Took : List ℕ → Type 0) (i : ℕ) (piece : Vec ℕ Z) → i < length pieces → piece ≡ get_or pieces i piece → Took (front i ++ piece.items)
-      → Took (front (i + 1))
-  pieces_written Took i piece h at took = subst Took (ap (λ (p : Vec ℕ Z). front i ++ p.items) at ∙ sym (front_more i piece h)) took
-
-  pub count_more : (i written : ℕ) (piece : Vec ℕ Z) → i < length pieces → piece ≡ get_or pieces i piece → written ≡ length (front i)
-      → written + length piece.items ≡ length (front (i + 1))
-  count_more i written piece h at is =
-      let n = length-append (front i) (get_or pieces i piece).items in
-      omega (arith, is, n, ap (λ (p : Vec ℕ Z). length p.items) at, ap length (front_more i piece h))
-
   -- what is written stays within the whole
   pub count_within : (i written : ℕ) (piece : Vec ℕ Z) → i < length pieces → piece ≡ get_or pieces i piece → written ≡ length (front i)
       → written + length piece.items ≤ length whole
@@ -78,9 +68,3 @@ module _ {Z : Type 0} (pieces : List (Vec ℕ Z)) where
       ∙ take-append-add (front i) ((get_or pieces i piece).items ++ rest) part
       ∙ ap (λ (p : Vec ℕ Z). front i ++ take part (p.items ++ rest)) (sym at)
       ∙ ap (λ l. front i ++ l) (take-append-le part piece.items rest within))) took
-
-  pub all_written : (Took : List ℕ → Type 0) (i : ℕ) → length pieces ≤ i → Took (front i) → Took whole
-  all_written Took i h took = subst Took (ap (flat_map (λ (p : Vec ℕ Z). p.items)) (take_all i pieces h)) took
-
-  pub all_counted : (i written : ℕ) → length pieces ≤ i → written ≡ length (front i) → written ≡ length whole
-  all_counted i written h is = is ∙ ap (λ l. length (flat_map (λ (p : Vec ℕ Z). p.items) l)) (take_all i pieces h)

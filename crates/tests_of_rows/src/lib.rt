@@ -7,6 +7,8 @@ mod breaks;
 #[cfg(test)]
 mod far;
 #[cfg(test)]
+mod keyed;
+#[cfg(test)]
 mod order_lists;
 #[cfg(test)]
 mod orders;

@@ -1,0 +1,2 @@
+pub mod KeyedRows
+pub mod JoinedRows
