@@ -1,277 +1,176 @@
 -- Bars of one sale each: joined, they are the bars of all the sales.
-use Rattle.std.proofs.Common.{◌≡◌, ℕ, zero, suc, ◌+◌, ◌<◌, ◌≤◌, min, max, ltb, Bool, true, false, cond, All, List, [], ◌∷◌, ◌++◌, length, map}
-use Rattle.std.proofs.Common.{filter, get_or, Option, Some, None, Contains, IsPermutation, nat_eq, refl, sym, ap, ap₂, ◌∙◌, subst, arith, append_assoc}
-use Rattle.std.specs.List.{sum_by}
-use Rattle.std.specs.Ordering.{is_gt, is_lt, nat_cmp, ordering_then}
+use Rattle.std.proofs.Common.{◌≡◌, ℕ, ◌*◌, ◌+◌, ◌/◌, ◌<◌, ◌≤◌, true, false, cond, ltb, All, List, [], ◌∷◌, ◌++◌, length, map}
+use Rattle.std.proofs.Common.{filter, get_or, None, Some, IsPermutation, fold, nat_eq, Bor, nat_cmp, refl, sym, ap, ◌∙◌, arith}
+use Rattle.std.specs.Fn.{Mut, Called, ComputesKey}
+use Rattle.std.specs.Ordering.{is_lt, ordering_then}
 use Rattle.std.specs.List.{IsDistinct}
-use Rattle.std.specs.List.Sorted.{IsNonDecreasingBy, IsSorted, IsSortedByKey}
+use Rattle.std.specs.List.Sorted.{IsNonDecreasingBy, IsSorted, IsSortedByKey, IsStrictlySortedBy}
 use Rattle.std.proofs.lemmas.Bool.Decides.{nat_tests}
-use Rattle.std.proofs.lemmas.List.Sorted.{IsNonDecreasingBy-from_all_adjacent, IsPermutation-map, IsPermutation-sym}
-use Rattle.std.proofs.lemmas.Map.Keys.{IsDistinct-IsPermutation}
+use Rattle.std.proofs.lemmas.List.{get_or-map, length-map, map-append}
+use Rattle.std.proofs.lemmas.List.Elements.{All-head, All-map, filter_passes}
+use Rattle.std.proofs.lemmas.List.Sorted.{answers_always, IsNonDecreasingBy-from_all_adjacent, IsPermutation-sym}
+use Rattle.std.proofs.lemmas.Nat.{le-div}
+use Rattle.std.proofs.Math.Nat.{div-mul-le_self, mul-le-mul_right}
+use Rattle.lists.specs.Least.{greatest_of, least_of}
 use Rattle.lists.proofs.Least.{TellsApart-permutation}
 use Rattle.lists.proofs.Order.{TellsApart-from_distinct}
-use Rattle.std.proofs.lemmas.Bool.{and_from, and_parts, eq-eqb, eqb-true}
-use Rattle.std.proofs.lemmas.List.{append-nil, get_or-map, get_or_default, length-map}
-use Rattle.std.proofs.lemmas.List.Elements.{filter-append, filter_passes, All-contains_itself, All-filter, All-get_or, All-head, All-map, All-tail, All-weaker}
-use Rattle.row_types.specs.declared.trade.Kind.TheVariants.{E}
 use Rattle.row_types.specs.declared.trade.Sale.{Sale}
-use Rattle.bars.specs.Bars.{Key, Bar, has_key, bar_of, joined, joined_all, joined_bar, key_cmp, under, AllSumsFit, AreBarsOf, IsTraded, IsUnionOf}
+use Rattle.time_and_sales.proofs.SortedByPlace.{no_sale, place_of}
+use Rattle.bars.specs.Bars.{Key, Bar, all_bars, all_sales, has_key, bar_of, joined_all, joined_bar, key_cmp, start_of}
+use Rattle.bars.specs.Bars.{AreBarsOf, AreBarsOfEach, IsTraded, IsUnionOf}
 use Rattle.bars.specs.declared.form.Form.{Form}
 use Rattle.bars.specs.declared.form.Form.TheVariants.{Sales, Bars}
-use Rattle.bars.specs.Steps.{AreJoinedAlike, AreOfForm, bars_of_form, IsUpTo, bar_of_one, bars_of}
-use Rattle.bars.proofs.Bars.{AreBarsOf-none, AreBarsOf-permutation, AreBarsOf-unique, bar_of-append, found_itself}
-use Rattle.bars.proofs.JoinedTables.{has, joined_all-append, joined_none, next_is_up_to, of, sum_joined, under_table}
-use Rattle.bars.proofs.LastBar.{AreBarsOf-more, AreBarsOf-one, by_time, one_not_after}
-use Rattle.bars.proofs.MergedTables.{AreBarsOf-merged_tables}
+use Rattle.bars.specs.Steps.{AreJoinedAlike, AreOfForm, bars_of_form, bar_of_one, bars_of}
+use Rattle.bars.proofs.Bars.{AreBarsOf-permutation, AreBarsOf-unique, has, made}
+use Rattle.bars.proofs.JoinedTables.{alike_from, alike_parts, by_parts, filter-map, joined_traded, table_has, together, union_alike, union_itself}
+use Rattle.bars.proofs.MergedTables.{merged_union}
 
--- a sale where there is none
-abbrev pub no_sale : Sale
-no_sale = record { place = 0; time = 0; locate = 0; kind = E; price = 0; shares = 0; trade_no = 0 }
+-- ---- bars of one sale each
+
+module _ (width : ℕ) (key : Key) where
+  -- a bar of some sales, and that of one sale more
+  next_joined : (f l h w : Sale) (v n t : ℕ) (y : Sale)
+      → joined_bar (made key f l h.price w.price v n t) (bar_of_one width y)
+      ≡ made key (cond (ltb y.place f.place) y f) (cond (ltb l.place y.place) y l) (cond (ltb h.price y.price) y h).price
+      (cond (ltb y.price w.price) y w).price (v + y.shares) (n + y.shares * y.price) (t + 1)
+  next_joined f l h w v n t y = grind (arith, nat_tests)
+
+  all_joined : (ys : List Sale) (f l h w : Sale) (v n t k : ℕ) → t + length ys ≡ k
+      → joined_all (Some (made key f l h.price w.price v n t)) (map (bar_of_one width) ys)
+      ≡ Some (made key (least_of (λ s. s.place) f ys) (greatest_of (λ s. s.place) l ys) (greatest_of (λ s. s.price) h ys).price
+      (least_of (λ s. s.price) w ys).price (fold (λ a s. a + s.shares) v ys) (fold (λ a s. a + s.shares * s.price) n ys) k)
+  all_joined [] f l h w v n t k e = ap (λ m. Some (made key f l h.price w.price v n m)) (omega (arith, e))
+  all_joined (y ∷ ys) f l h w v n t k e =
+      ap (λ b. joined_all (Some b) (map (bar_of_one width) ys)) (next_joined f l h w v n t y)
+      ∙ all_joined ys (cond (ltb y.place f.place) y f) (cond (ltb l.place y.place) y l) (cond (ltb h.price y.price) y h) (cond (ltb y.price w.price) y w)
+      (v + y.shares) (n + y.shares * y.price) (t + 1) k (omega (arith, e))
+
+  ones_joined : (sales : List Sale) → All (λ s. has_key width key s ≡ true) sales → joined_all None (map (bar_of_one width) sales) ≡ bar_of key sales
+  ones_joined [] has = refl
+  ones_joined (x ∷ xs) has =
+      let passes = All-head (λ s. has_key width key s ≡ true) x xs has in
+      let one : bar_of_one width x ≡ made key x x x.price x.price (0 + x.shares) (0 + x.shares * x.price) 1 = grind (arith, nat_tests, passes) in
+      ap (λ b. joined_all (Some b) (map (bar_of_one width) xs)) one
+      ∙ all_joined xs x x x x (0 + x.shares) (0 + x.shares * x.price) 1 (length (x ∷ xs)) (omega arith)
+
+  pub together_ones : (sales : List Sale) → together key (map (bar_of_one width) sales) ≡ bar_of key (filter (has_key width key) sales)
+  together_ones sales =
+      ap (joined_all None) (filter-map (bar_of_one width) (λ b. has b key) sales)
+      ∙ ones_joined (filter (has_key width key) sales) (filter_passes (has_key width key) sales)
+
+-- so a table is that of the sales if their bars are joined to it
+pub ones_union : (width : ℕ) (sales : List Sale) (table : List Bar) → AreBarsOf width sales table → IsUnionOf (map (bar_of_one width) sales) table
+ones_union width sales table are = record { rise = are.rise; each = λ key. are.each key ∙ sym (together_ones width key sales) }
+
+pub bars_from_ones : (width : ℕ) (sales : List Sale) (table : List Bar) → IsUnionOf (map (bar_of_one width) sales) table → AreBarsOf width sales table
+bars_from_ones width sales table union = record { rise = union.rise; each = λ key. union.each key ∙ together_ones width key sales }
+
+-- the union of two tables is that of their sales together
+pub AreBarsOf-both : (width : ℕ) (xs ys : List Sale) (one other table : List Bar) → AreBarsOf width xs one → AreBarsOf width ys other
+    → IsUnionOf (one ++ other) table → AreBarsOf width (xs ++ ys) table
+AreBarsOf-both width xs ys one other table p q union =
+    bars_from_ones width (xs ++ ys) table (rw (map-append (bar_of_one width) xs ys)
+    (union_alike _ (one ++ other) table
+    (alike_parts (map (bar_of_one width) xs) one (map (bar_of_one width) ys) other (λ key. sym (alike_from (ones_union width xs one p) key))
+    (λ key. sym (alike_from (ones_union width ys other q) key))) union))
 
 -- ---- the table of some sales
 
 pub bars_of_are : (width : ℕ) (sales : List Sale) → AreBarsOf width sales (bars_of width sales)
-bars_of_are width [] = AreBarsOf-none width
+unfolding IsStrictlySortedBy
+bars_of_are width [] = record { rise = tt; each = λ key. refl }
 bars_of_are width (x ∷ xs) =
-    AreBarsOf-merged_tables (bar_of_one width x ∷ []) (bars_of width xs) _ refl width (x ∷ []) xs
-    (AreBarsOf-more width [] x [] (AreBarsOf-none width)) (bars_of_are width xs)
+    let one = bar_of_one width x ∷ [] in
+    let others = bars_of_are width xs in
+    AreBarsOf-both width (x ∷ []) xs one (bars_of width xs) _ (bars_from_ones width (x ∷ []) one (union_itself one (tt, tt))) others
+    (merged_union one (bars_of width xs) (tt, tt) others.rise)
 
 -- so a table of the sales is that one
 pub table_is : (width : ℕ) (sales : List Sale) (table : List Bar) → AreBarsOf width sales table → table ≡ bars_of width sales
 table_is width sales table are = AreBarsOf-unique width sales table (bars_of width sales) are (bars_of_are width sales)
 
--- ---- bars of one sale each, joined to the bar of what was told
-
-bar_alone : (width : ℕ) (key : Key) (sale : Sale) → has_key width key sale ≡ true → Some (bar_of_one width sale) ≡ bar_of key (sale ∷ [])
-bar_alone width key sale e =
-    sym (ap (λ c. cond c (Some (bar_of_one width sale)) None) e) ∙ (AreBarsOf-one width sale).each key
-    ∙ ap (λ c. bar_of key (cond c (sale ∷ []) [])) e
-
-ones_joined : (width : ℕ) (key : Key) (sales told : List Sale) (before : Option Bar) → before ≡ bar_of key told
-    → joined_all before (under key (map (bar_of_one width) sales)) ≡ bar_of key (told ++ filter (has_key width key) sales)
-ones_joined width key [] told before e = e ∙ ap (bar_of key) (sym (append-nil told))
-ones_joined width key (sale ∷ sales) told before e =
-    go (has_key width key sale) refl (λ more so_far is. ones_joined width key sales more so_far is)
-  where
-    rest : List Bar
-    rest = under key (map (bar_of_one width) sales)
-
-    others : List Sale
-    others = filter (has_key width key) sales
-
-    go : (t : Bool) → has_key width key sale ≡ t
-        → ((more : List Sale) (so_far : Option Bar) → so_far ≡ bar_of key more → joined_all so_far rest ≡ bar_of key (more ++ others))
-        → joined_all before (cond t (bar_of_one width sale ∷ rest) rest) ≡ bar_of key (told ++ cond t (sale ∷ others) others)
-    go true h next =
-        next (told ++ sale ∷ []) (joined before (Some (bar_of_one width sale)))
-        (ap₂ joined e (bar_alone width key sale h) ∙ sym (bar_of-append key told (sale ∷ [])))
-        ∙ ap (bar_of key) (append_assoc told (sale ∷ []) others)
-    go false h next = next told before e
-
-table_joined : (width : ℕ) (key : Key) (sales told : List Sale) (table : List Bar) (before : Option Bar) → AreBarsOf width sales table
-    → before ≡ bar_of key told → joined_all before (under key table) ≡ bar_of key (told ++ filter (has_key width key) sales)
-table_joined width key sales told table before are e =
-    under_table table key are.rise before ∙ ap₂ joined e (are.each key) ∙ sym (bar_of-append key told (filter (has_key width key) sales))
-
 -- the bars of one sale each, and the table of the sales, are joined alike
 pub ones_alike : (width : ℕ) (sales : List Sale) → AreJoinedAlike (map (bar_of_one width) sales) (bars_of width sales)
-ones_alike width sales key =
-    ones_joined width key sales [] None refl ∙ sym (table_joined width key sales [] (bars_of width sales) None (bars_of_are width sales) refl)
+ones_alike width sales key = sym (alike_from (ones_union width sales (bars_of width sales) (bars_of_are width sales)) key)
 
--- ---- lists of which both parts are joined alike
+-- ---- the tables of many lists of sales
 
-least_of_three : (a b c : ℕ) → min (min a b) c ≡ min a (min b c)
-least_of_three a b c = omega arith
+pub each_alike : (width : ℕ) (lists : List (List Sale)) (tables : List (List Bar)) → AreBarsOfEach width lists tables
+    → AreJoinedAlike (all_bars tables) (map (bar_of_one width) (all_sales lists))
+each_alike width [] [] are = λ key. refl
+each_alike width [] (table ∷ tables) are = absurd are
+each_alike width (sales ∷ lists) [] are = absurd are
+each_alike width (sales ∷ lists) (table ∷ tables) are =
+    rw (map-append (bar_of_one width) sales (all_sales lists))
+    (alike_parts table (map (bar_of_one width) sales) (all_bars tables) _ (alike_from (ones_union width sales table are.0))
+    (each_alike width lists tables are.1))
 
-greatest_of_three : (a b c : ℕ) → max (max a b) c ≡ max a (max b c)
-greatest_of_three a b c = omega arith
+-- the union of the tables of some lists of sales is the table of all these sales
+pub AreBarsOf-union : (width : ℕ) (lists : List (List Sale)) (tables : List (List Bar)) (table : List Bar) → AreBarsOfEach width lists tables
+    → IsUnionOf (all_bars tables) table → AreBarsOf width (all_sales lists) table
+AreBarsOf-union width lists tables table are union =
+    bars_from_ones width (all_sales lists) table
+    (union_alike _ (all_bars tables) table (λ key. sym (each_alike width lists tables are key)) union)
 
-first_of_three : (a b c p q r : ℕ) → cond (ltb c (min a b)) r (cond (ltb b a) q p) ≡ cond (ltb (min b c) a) (cond (ltb c b) r q) p
-first_of_three a b c p q r = grind (arith, nat_tests)
-
-last_of_three : (a b c p q r : ℕ) → cond (ltb (max a b) c) r (cond (ltb a b) q p) ≡ cond (ltb a (max b c)) (cond (ltb b c) r q) p
-last_of_three a b c p q r = grind (arith, nat_tests)
-
-sum_of_three : (a b c : ℕ) → (a + b) + c ≡ a + (b + c)
-sum_of_three a b c = omega arith
-
-joined_bars : (a b c : Bar) → joined_bar (joined_bar a b) c ≡ joined_bar a (joined_bar b c)
-joined_bars a b c = λ i. record {
-  locate = a.locate;
-  start = a.start;
-  first_place = least_of_three a.first_place b.first_place c.first_place i;
-  first = first_of_three a.first_place b.first_place c.first_place a.first b.first c.first i;
-  high = greatest_of_three a.high b.high c.high i;
-  low = least_of_three a.low b.low c.low i;
-  last_place = greatest_of_three a.last_place b.last_place c.last_place i;
-  last = last_of_three a.last_place b.last_place c.last_place a.last b.last c.last i;
-  volume = sum_of_three a.volume b.volume c.volume i;
-  notional = sum_of_three a.notional b.notional c.notional i;
-  trades = sum_of_three a.trades b.trades c.trades i;
-}
-
-joined_three : (a b c : Option Bar) → joined (joined a b) c ≡ joined a (joined b c)
-joined_three None b c = refl
-joined_three (Some a) None c = refl
-joined_three (Some a) (Some b) None = refl
-joined_three (Some a) (Some b) (Some c) = ap Some (joined_bars a b c)
-
--- what there was before is joined to all the others
-joined_before : (before : Option Bar) (bars : List Bar) → joined_all before bars ≡ joined before (joined_all None bars)
-joined_before before [] = sym (joined_none before)
-joined_before before (bar ∷ bars) =
-    joined_before (joined before (Some bar)) bars ∙ joined_three before (Some bar) (joined_all None bars)
-    ∙ ap (joined before) (sym (joined_before (Some bar) bars))
-
-joined_parts : (key : Key) (xs ys : List Bar)
-    → joined_all None (under key (xs ++ ys)) ≡ joined (joined_all None (under key xs)) (joined_all None (under key ys))
-joined_parts key xs ys =
-    ap (joined_all None) (filter-append (λ b. has b key) xs ys)
-    ∙ joined_all-append None (under key xs) (under key ys)
-    ∙ joined_before (joined_all None (under key xs)) (under key ys)
-
-pub alike_parts : (one other more others : List Bar) → AreJoinedAlike one other → AreJoinedAlike more others → AreJoinedAlike (one ++ more) (other ++ others)
-alike_parts one other more others h g key = joined_parts key one more ∙ ap₂ joined (h key) (g key) ∙ sym (joined_parts key other others)
-
--- ---- what is joined alike has one union, and fits alike
-
-pub union_alike : (one other table : List Bar) → AreJoinedAlike one other → IsUnionOf other table → IsUnionOf one table
-union_alike one other table alike union = record { rise = union.rise; each = λ key. union.each key ∙ sym (alike key) }
-
-same_sum : (f : Bar → ℕ) → ((a b : Bar) → f (joined_bar a b) ≡ f a + f b) → (one other : List Bar) → AreJoinedAlike one other → (key : Key)
-    → sum_by f (under key one) ≡ sum_by f (under key other)
-same_sum f h one other alike key =
-    let here = sum_joined f h None (under key one) in
-    let there = sum_joined f h None (under key other) in
-    let same = ap (of f) (alike key) in
-    omega (arith, here, there, same)
-
-pub sums_alike : (one other : List Bar) → AreJoinedAlike one other → AllSumsFit other → AllSumsFit one
-sums_alike one other alike fit = record {
-  volume = λ key. rw (same_sum (λ b. b.volume) (λ a b. refl) one other alike key) (fit.volume key);
-  notional = λ key. rw (same_sum (λ b. b.notional) (λ a b. refl) one other alike key) (fit.notional key);
-  trades = λ key. rw (same_sum (λ b. b.trades) (λ a b. refl) one other alike key) (fit.trades key);
-}
-
--- bars of a key, joined, are a bar
-some_bar : (bar : Bar) (bars : List Bar) → (b : Bar) × (joined_all (Some bar) bars ≡ Some b)
-some_bar bar [] = (bar, refl)
-some_bar bar (x ∷ xs) = some_bar (joined_bar bar x) xs
-
-some_there : (here there : List Bar) → 0 < length here → joined_all None here ≡ joined_all None there → 0 < length there
-some_there [] there some e = absurd (omega arith)
-some_there (x ∷ xs) (y ∷ ys) some e = omega arith
-some_there (x ∷ xs) [] some e = let is = (some_bar x xs).1 in absurd (cc)
-
--- the key of a bar
-abbrev key_of : Bar → Key
-key_of bar = record { locate = bar.locate; start = bar.start }
-
-has_itself : (bar : Bar) → has bar (key_of bar) ≡ true
-has_itself bar = and_from _ _ (eq-eqb bar.locate bar.locate refl) (eq-eqb bar.start bar.start refl)
-
-some_under : (bars : List Bar) (k : ℕ) (d : Bar) → k < length bars → 0 < length (under (key_of (get_or bars k d)) bars)
-some_under [] k d h = absurd (omega arith)
-some_under (bar ∷ bars) zero d h = rw (has_itself bar) (omega arith)
-some_under (bar ∷ bars) (suc k) d h = go (has bar (key_of (get_or bars k d))) (some_under bars k d (omega arith))
-  where
-    go : (t : Bool) → 0 < length (under (key_of (get_or bars k d)) bars)
-        → 0 < length (cond t (bar ∷ under (key_of (get_or bars k d)) bars) (under (key_of (get_or bars k d)) bars))
-    go true more = omega arith
-    go false more = more
-
-pub starts_alike : (limit : ℕ) (one other : List Bar) → AreJoinedAlike one other → All (λ bar. bar.start < limit) other → All (λ bar. bar.start < limit) one
-starts_alike limit one other alike fits k d h =
-    let bar = get_or one k d in
-    let key = key_of bar in
-    let some = some_there (under key one) (under key other) (some_under one k d h) (alike key) in
-    let there = get_or (under key other) 0 d in
-    let has_it = All-get_or (λ b. has b key ≡ true) (under key other) 0 d some (filter_passes (λ b. has b key) other) in
-    let low = All-get_or (λ (b : Bar). b.start < limit) (under key other) 0 d some (All-filter (λ b. has b key) (λ (b : Bar). b.start < limit) other fits) in
-    let same : there.start ≡ bar.start = eqb-true there.start bar.start (and_parts _ _ has_it).1 in
-    omega (arith, same, low)
+-- and the table of all these sales is the union of their tables
+pub union_of_bars : (width : ℕ) (lists : List (List Sale)) (tables : List (List Bar)) (table : List Bar) → AreBarsOfEach width lists tables
+    → AreBarsOf width (all_sales lists) table → IsUnionOf (all_bars tables) table
+union_of_bars width lists tables table are of =
+    union_alike (all_bars tables) _ table (each_alike width lists tables are) (ones_union width (all_sales lists) table of)
 
 -- ---- each bar of sales is traded
 
-joined_traded : (a b : Bar) → IsTraded a → IsTraded b → IsTraded (joined_bar a b)
-joined_traded a b p q = (omega (arith, p.0, q.0), omega (arith, p.1, q.1), omega (arith, p.2, q.2))
-
-all_traded : (bar : Bar) (bars : List Bar) (b : Bar) → IsTraded bar → All IsTraded bars → joined_all (Some bar) bars ≡ Some b → IsTraded b
-all_traded bar [] b one all e = let same : bar ≡ b = cc in subst IsTraded same one
-all_traded bar (x ∷ xs) b one all e =
-    all_traded (joined_bar bar x) xs b (joined_traded bar x one (All-head IsTraded x xs all)) (All-tail IsTraded x xs all) e
-
-traded_from : (bars : List Bar) (b : Bar) → All IsTraded bars → joined_all None bars ≡ Some b → IsTraded b
-traded_from [] b all e = absurd (cc)
-traded_from (x ∷ xs) b all e = all_traded x xs b (All-head IsTraded x xs all) (All-tail IsTraded x xs all) e
-
-pub table_traded : (width : ℕ) (sales : List Sale) → All (λ sale. IsTraded (bar_of_one width sale)) sales → All IsTraded (bars_of width sales)
-table_traded width sales traded =
-    let table = bars_of width sales in
-    let are = bars_of_are width sales in
-    let ones = map (bar_of_one width) sales in
-    All-weaker (Contains table) IsTraded
-    (λ bar c.
-    let key = key_of bar in
-    let is = ones_joined width key sales [] None refl ∙ sym (are.each key) ∙ found_itself table bar are.rise c in
-    traded_from (under key ones) bar (All-filter (λ b. has b key) IsTraded ones (All-map IsTraded (bar_of_one width) sales traded)) is)
-    table (All-contains_itself table)
+pub bars_traded : (width : ℕ) (sales : List Sale) (table : List Bar) → All (λ sale. IsTraded (bar_of_one width sale)) sales → AreBarsOf width sales table
+    → All IsTraded table
+bars_traded width sales table traded are =
+    table_has IsTraded joined_traded (map (bar_of_one width) sales) table (ones_union width sales table are) (All-map IsTraded (bar_of_one width) sales traded)
 
 -- so is each of the bars that are kept in a form
 pub form_traded : (form : Form) → AreOfForm form → All IsTraded (bars_of_form form)
-form_traded (Sales sales width) of = table_traded width sales.items of.traded
+form_traded (Sales sales width) of = bars_traded width sales.items (bars_of width sales.items) of.traded (bars_of_are width sales.items)
 form_traded (Bars table) of = of.1
 
 -- ---- sales by locate and time
 
-locate_rises : (l t m u : ℕ) → is_lt (ordering_then (nat_cmp m l) (nat_cmp u t)) ≡ false → l ≤ m
-locate_rises l t m u h = grind (arith, nat_tests)
+start_rises : (width a b : ℕ) → 0 < width → a ≤ b → start_of width a ≤ start_of width b
+start_rises width a b some h =
+    let k = width * 1000000000 in
+    let below = div-mul-le_self a k in
+    mul-le-mul_right k (le-div (a / k) b k (omega arith) (omega arith))
 
-pub locates_rise : (sales : List Sale) → IsSortedByKey (λ (s : Sale). (s.locate, s.time)) by_time sales → IsNonDecreasingBy (λ (s : Sale). s.locate) sales
-locates_rise sales up =
-    IsNonDecreasingBy-from_all_adjacent (λ (s : Sale). s.locate) sales
-    (λ k d h. locate_rises (get_or sales k d).locate (get_or sales k d).time (get_or sales (k + 1) d).locate (get_or sales (k + 1) d).time
-    (up k d (omega (arith, h)) h))
+-- the bars of two sales in order of time stand in order too
+in_order : (l t m u s v : ℕ) → is_lt (by_parts (m, u) (l, t)) ≡ false → (t ≤ u → s ≤ v) → is_lt (ordering_then (nat_cmp m l) (nat_cmp v s)) ≡ false
+in_order l t m u s v h up = grind (arith, nat_tests)
 
-flips : (a b : ℕ) → nat_eq a b ≡ nat_eq b a
-flips a b = grind (arith, nat_tests)
+pub ones_rise : {F : Type 0} {g : Mut F (Bor Sale × Unit {0}) (ℕ × ℕ)} {f : F} (width : ℕ) (sales : List Sale) → 0 < width
+    → ((key : Sale → ℕ × ℕ) → ComputesKey g key f → IsSortedByKey key by_parts sales)
+    → ((f : F) (a : Bor Sale × Unit {0}) (r : ℕ × ℕ) (f' : F) → Called g f a r f' → r ≡ (a.0.now.locate, a.0.now.time))
+    → IsSorted key_cmp (map (bar_of_one width) sales)
+ones_rise {g = g} {f = f} width sales some up h k d low within =
+    let n = length-map sales (bar_of_one width) in
+    let one = get_or sales k no_sale in
+    let next = get_or sales (k + 1) no_sale in
+    rw (get_or-map (bar_of_one width) sales k no_sale d (omega (arith, n)), get_or-map (bar_of_one width) sales (k + 1) no_sale d (omega (arith, n)))
+    (in_order one.locate one.time next.locate next.time (start_of width one.time) (start_of width next.time)
+    (up (λ s. (s.locate, s.time)) (answers_always g (λ a r. r ≡ (a.0.now.locate, a.0.now.time)) f h) k no_sale low (omega (arith, n)))
+    (start_rises width one.time next.time some))
 
-pub places_differ : (sales sorted : List Sale) → IsPermutation sales sorted → IsDistinct nat_eq (map (λ (s : Sale). s.place) sales)
-    → IsDistinct nat_eq (map (λ (s : Sale). s.place) sorted)
-places_differ sales sorted perm = IsDistinct-IsPermutation nat_eq flips _ _ (IsPermutation-map (λ (s : Sale). s.place) sales sorted perm)
+not_lower : (a b : Bar) → is_lt (key_cmp b a) ≡ false → a.locate ≤ b.locate
+not_lower a b h = grind (arith, nat_tests)
+
+pub locates_rise : (width : ℕ) (sales : List Sale) → IsSorted key_cmp (map (bar_of_one width) sales) → IsNonDecreasingBy (λ (s : Sale). s.locate) sales
+locates_rise width sales up = IsNonDecreasingBy-from_all_adjacent (λ (s : Sale). s.locate) sales (λ k d h. next k d (bar_of_one width d) h)
+  where
+    next : (k : ℕ) (d : Sale) (e : Bar) → k + 1 < length sales → (get_or sales k d).locate ≤ (get_or sales (k + 1) d).locate
+    next k d e h =
+        let one = bar_of_one width in
+        not_lower (one (get_or sales k d)) (one (get_or sales (k + 1) d))
+        (rw (get_or-map one sales k d e (omega (arith, h)), get_or-map one sales (k + 1) d e h) at
+        (up k e (omega arith) (omega (arith, h, length-map sales one))))
 
 -- the table of sales in another order is theirs
-pub bars_of_sorted : (width : ℕ) (sales sorted : List Sale) → IsPermutation sales sorted → IsDistinct nat_eq (map (λ (s : Sale). s.place) sales)
-    → AreBarsOf width sales (bars_of width sorted)
-bars_of_sorted width sales sorted perm apart =
-    AreBarsOf-permutation width sorted sales (bars_of width sorted)
-    (TellsApart-permutation (λ (s : Sale). s.place) sales sorted perm (TellsApart-from_distinct (λ (s : Sale). s.place) sales apart))
-    (IsPermutation-sym sales sorted perm) (bars_of_are width sorted)
-
--- so is the table of sorted sales that was made of them
-pub AreBarsOf-sorted : (width : ℕ) (sales sorted : List Sale) (table : List Bar) → IsPermutation sales sorted
-    → IsDistinct nat_eq (map (λ (s : Sale). s.place) sales) → AreBarsOf width sorted table → AreBarsOf width sales table
-AreBarsOf-sorted width sales sorted table perm apart are =
-    subst (AreBarsOf width sales) (sym (table_is width sorted table are)) (bars_of_sorted width sales sorted perm apart)
-
-not_before : (a b : Bar) → is_gt (key_cmp a b) ≡ false → is_lt (key_cmp b a) ≡ false
-not_before a b h = grind (arith, nat_tests)
-
--- the bars of one sale each stand in order of their keys
-pub ones_rise : (width : ℕ) (sales : List Sale) → 0 < width → IsSortedByKey (λ (s : Sale). (s.locate, s.time)) by_time sales
-    → IsSorted key_cmp (map (bar_of_one width) sales)
-ones_rise width sales some up k d low within =
-    let n = length-map sales (bar_of_one width) in
-    rw (get_or-map (bar_of_one width) sales k no_sale d (omega (arith, n)), get_or-map (bar_of_one width) sales (k + 1) no_sale d (omega (arith, n)))
-    (not_before (bar_of_one width (get_or sales k no_sale)) (bar_of_one width (get_or sales (k + 1) no_sale))
-    (one_not_after width (get_or sales k no_sale) (get_or sales (k + 1) no_sale) some (up k no_sale (omega (arith, n)) (omega (arith, n)))))
-
--- the next sale's bar isn't before those that are made
-pub next_up_to : (width : ℕ) (sales : List Sale) (i : ℕ) (d e : Sale) (new : List Bar) (bar : Bar) → IsSorted key_cmp (map (bar_of_one width) sales)
-    → i + 1 < length sales → bar ≡ bar_of_one width (get_or sales i e) → IsUpTo new bar → IsUpTo new (bar_of_one width (get_or sales (i + 1) d))
-next_up_to width sales i d e new bar rise within is to =
-    let one = bar_of_one width in
-    let n = length-map sales one in
-    subst (IsUpTo new) (get_or-map one sales (i + 1) d (one d) within)
-    (next_is_up_to (map one sales) new i (one d) bar rise (omega (arith, n, within))
-    (is ∙ ap one (get_or_default sales i e d (omega arith)) ∙ sym (get_or-map one sales i d (one d) (omega (arith, within)))) to)
+pub AreBarsOf-sorted : (width : ℕ) (sales sorted : List Sale) (table : List Bar) → IsPermutation sales sorted → IsDistinct nat_eq (map place_of sales)
+    → AreBarsOf width sorted table → AreBarsOf width sales table
+AreBarsOf-sorted width sales sorted table perm apart =
+    AreBarsOf-permutation width sorted sales table (TellsApart-permutation place_of sales sorted perm (TellsApart-from_distinct place_of sales apart))
+    (IsPermutation-sym sales sorted perm)

@@ -1,212 +1,131 @@
--- One more sale: the bar that goes to the end of a table.
-use Rattle.std.proofs.Common.{◌≡◌, ℕ, ◌+◌, ◌*◌, ◌/◌, ◌<◌, ◌≤◌, Bool, true, false, cond, All, List, [], ◌∷◌, ◌++◌, length, take, get_or, set, Some, None}
-use Rattle.std.proofs.Common.{Contains, Bor, Ordering, Less, Equal, Greater, nat_cmp, refl, sym, ap, ◌∙◌, subst, arith, ◌⊎◌, ⊎_elim}
-use Rattle.std.specs.List.Sorted.{IsStrictlySortedBy}
-use Rattle.std.specs.Ordering.{is_gt, is_lt, is_eq, ordering_then}
-use Rattle.std.proofs.lemmas.Bool.{and_parts, eqb-true}
+-- The last bar of a table, to which the next bar is joined, or behind which it comes.
+use Rattle.std.proofs.Common.{◌≡◌, ℕ, ◌+◌, ◌<◌, true, false, All, List, [], ◌∷◌, ◌++◌, length, map, take, get_or, Ordering, Less, Equal, Greater}
+use Rattle.std.proofs.Common.{refl, set, sym, ap, ◌∙◌, subst, arith, append_assoc}
+use Rattle.std.specs.List.Sorted.{IsSorted, IsStrictlySortedBy}
+use Rattle.std.specs.Ordering.{is_eq, is_gt, is_lt}
 use Rattle.std.proofs.lemmas.Bool.Decides.{nat_tests}
-use Rattle.std.proofs.lemmas.Cmp.{upto}
-use Rattle.std.proofs.lemmas.List.Sorted.{answers_always}
-use Rattle.std.specs.Fn.{Mut, Called, ComputesKey}
-use Rattle.std.specs.List.Sorted.{IsSortedByKey}
-use Rattle.std.proofs.lemmas.List.{take_more, take_all, set-get_or}
-use Rattle.std.proofs.lemmas.List.Elements.{All-nil, All-get_or, All-push, All-weaker, All-contains, All-from_recursion, Contains-push, Contains-push_cases}
-use Rattle.std.proofs.lemmas.Map.Keys.{sorted_head, sorted_tail}
-use Rattle.std.proofs.lemmas.Nat.{le-div}
-use Rattle.std.proofs.Math.Nat.{div-mul-le_self, mul-le-mul_right}
+use Rattle.std.proofs.lemmas.List.{get_or-map, get_or-take, get_or_append_left, get_or_at, get_or_default}
+use Rattle.std.proofs.lemmas.List.{length-map, length-take-le, length_push, take_all, take_more}
+use Rattle.std.proofs.lemmas.List.Elements.{All-from_recursion, All-get_or, All-head, All-push, All-tail, All-weaker, recursion_from_All}
+use Rattle.std.proofs.lemmas.List.Sorted.{ranks_by, sorted_far}
 use Rattle.std.proofs.Math.Seq.{set-append_seam}
-use Rattle.std.proofs.lemmas.List.{length-take-le}
-use Rattle.lists.proofs.Order.{Contains_cons, Contains_head, Contains_later}
-use Rattle.row_types.specs.declared.trade.Sale.{Sale}
-use Rattle.bars.specs.Bars.{Key, Bar, start_of, has_key, bar_of, key_cmp, found, joined_bar, IsByKey, IsTraded, AreBarsOf}
-use Rattle.bars.specs.Steps.{bar_of_one, by_order, put_before, merged_tables, IsUpTo}
-use Rattle.bars.proofs.Bars.{key_total, AreBarsOf-merged, AreBarsOf-none}
-use Rattle.bars.proofs.MergedTables.{merged_is}
+use Rattle.std.proofs.lemmas.Map.Keys.{Less-from_sorted, sorted_from_all_adjacent}
+use Rattle.bars.specs.Bars.{AllSumsFit, Bar, key_cmp, joined_bar, IsByKey, IsUnionOf}
+use Rattle.bars.specs.Steps.{CanAdd}
+use Rattle.bars.proofs.Bars.{key_total}
+use Rattle.bars.proofs.JoinedTables.{alike_parts, pair_alike, table_has, union_from, union_itself, union_more}
+use Rattle.bars.proofs.SumsAreBounded.{next_fits}
 
--- ---- the table of one more sale
+-- a bar where there is none
+abbrev pub no_bar : Bar
+no_bar = record { locate = 0; start = 0; first_place = 0; first = 0; high = 0; low = 0; last_place = 0; last = 0; volume = 0; notional = 0; trades = 0 }
 
-pub AreBarsOf-one : (width : ℕ) (sale : Sale) → AreBarsOf width (sale ∷ []) (bar_of_one width sale ∷ [])
+-- ---- a table and a bar above it
+
+rise_push : (table : List Bar) (bar : Bar) → IsByKey table → All (λ z. key_cmp z bar ≡ Less) table → IsByKey (table ++ bar ∷ [])
 unfolding IsStrictlySortedBy
-AreBarsOf-one width sale = record { rise = (tt, tt); each = λ key. go key (has_key width key sale) refl }
-  where
-    go : (key : Key) (b : Bool) → has_key width key sale ≡ b → found (bar_of_one width sale ∷ []) key ≡ bar_of key (cond b (sale ∷ []) [])
-    go key true e =
-        let parts = and_parts _ _ e in
-        let locate = eqb-true sale.locate key.locate parts.0 in
-        let start = eqb-true (start_of width sale.time) key.start parts.1 in
-        let volume : sale.shares ≡ 0 + sale.shares = omega arith in
-        let notional : sale.shares * sale.price ≡ 0 + sale.shares * sale.price = omega arith in
-        ap (λ c. cond c (Some (bar_of_one width sale)) None) e
-        ∙ (λ i. Some (record {
-          locate = locate i;
-          start = start i;
-          first_place = sale.place;
-          first = sale.price;
-          high = sale.price;
-          low = sale.price;
-          last_place = sale.place;
-          last = sale.price;
-          volume = volume i;
-          notional = notional i;
-          trades = 1;
-        }))
-    go key false e = ap (λ c. cond c (Some (bar_of_one width sale)) None) e
+rise_push [] bar up below = (tt, tt)
+rise_push (z ∷ table) bar up below = (
+  recursion_from_All (λ w. key_cmp z w ≡ Less) (table ++ bar ∷ []) (All-push (λ w. key_cmp z w ≡ Less) table bar (All-from_recursion _ table up.0)
+      (All-head (λ w. key_cmp w bar ≡ Less) z table below)),
+  rise_push table bar up.1 (All-tail (λ w. key_cmp w bar ≡ Less) z table below),
+)
 
-pub AreBarsOf-more : (width : ℕ) (xs : List Sale) (sale : Sale) (table : List Bar) → AreBarsOf width xs table
-    → AreBarsOf width (xs ++ sale ∷ []) (merged_tables table (bar_of_one width sale ∷ []))
-AreBarsOf-more width xs sale table h =
-    let one = AreBarsOf-one width sale in
-    AreBarsOf-merged width xs (sale ∷ []) table (bar_of_one width sale ∷ []) _ h one (merged_is table (bar_of_one width sale ∷ []) h.rise one.rise)
+front_rises : (front : List Bar) (last : Bar) → IsByKey (front ++ last ∷ []) → IsByKey front
+front_rises front last up =
+    sorted_from_all_adjacent key_total front no_bar (λ k h.
+    rw (get_or_append_left front (last ∷ []) no_bar k (omega (arith, h)), get_or_append_left front (last ∷ []) no_bar (k + 1) h) at
+    (Less-from_sorted key_cmp (front ++ last ∷ []) k (k + 1) no_bar up (omega arith) (omega (arith, length_push front last))))
 
--- ---- where the bar goes
+front_below : (front : List Bar) (last : Bar) → IsByKey (front ++ last ∷ []) → All (λ z. key_cmp z last ≡ Less) front
+front_below front last up k d h =
+    rw (get_or_append_left front (last ∷ []) d k h, get_or_at front last [] d (length front) refl) at
+    (Less-from_sorted key_cmp (front ++ last ∷ []) k (length front) d up h (omega (arith, length_push front last)))
 
--- behind a table whose bars all stand before it
-pub merged_after : (table : List Bar) (bar : Bar) → ((z : Bar) → Contains table z → key_cmp z bar ≡ Less) → merged_tables table (bar ∷ []) ≡ table ++ bar ∷ []
-merged_after [] bar h = refl
-merged_after (a ∷ table) bar h =
-    ap (λ o. by_order o (a ∷ merged_tables table (bar ∷ [])) (joined_bar a bar ∷ merged_tables table []) (bar ∷ put_before a (merged_tables table) []))
-    (h a (Contains_head a table))
-    ∙ ap (λ l. a ∷ l) (merged_after table bar (λ z c. h z (Contains_later a z table c)))
+-- ---- the next bar
 
--- into the last, which has its key
-pub merged_onto : (front : List Bar) (last bar : Bar) → ((z : Bar) → Contains front z → key_cmp z bar ≡ Less) → key_cmp last bar ≡ Equal
-    → merged_tables (front ++ last ∷ []) (bar ∷ []) ≡ front ++ joined_bar last bar ∷ []
-merged_onto [] last bar h e = ap (λ o. by_order o (last ∷ bar ∷ []) (joined_bar last bar ∷ []) (bar ∷ put_before last (merged_tables []) [])) e
-merged_onto (a ∷ front) last bar h e =
-    ap (λ o. by_order o (a ∷ merged_tables (front ++ last ∷ []) (bar ∷ [])) (joined_bar a bar ∷ merged_tables (front ++ last ∷ []) [])
-    (bar ∷ put_before a (merged_tables (front ++ last ∷ [])) [])) (h a (Contains_head a front))
-    ∙ ap (λ l. a ∷ l) (merged_onto front last bar (λ z c. h z (Contains_later a z front c)) e)
+-- it has the last one's key
+pub joined_to_last : (front : List Bar) (last bar : Bar) → IsByKey (front ++ last ∷ []) → key_cmp last bar ≡ Equal
+    → IsUnionOf ((front ++ last ∷ []) ++ bar ∷ []) (front ++ joined_bar last bar ∷ [])
+joined_to_last front last bar up same =
+    union_from _ (front ++ joined_bar last bar ∷ []) (rise_push front (joined_bar last bar) (front_rises front last up) (front_below front last up))
+    (rw append_assoc (alike_parts front front (joined_bar last bar ∷ []) (last ∷ bar ∷ []) (λ key. refl) (pair_alike last bar same)))
 
-pub below_last : (front : List Bar) (last : Bar) → IsByKey (front ++ last ∷ []) → (z : Bar) → Contains front z → key_cmp z last ≡ Less
-below_last [] last up z c = absurd (omega (arith, c.1))
-below_last (a ∷ front) last up z c =
-    let head = All-contains (λ w. key_cmp a w ≡ Less) (front ++ last ∷ []) last (All-from_recursion _ _ (sorted_head key_cmp a (front ++ last ∷ []) up))
-    (Contains-push front last) in
-    ⊎_elim (λ e. subst (λ w. key_cmp w last ≡ Less) e head) (λ d. below_last front last (sorted_tail key_cmp a (front ++ last ∷ []) up) z d)
-    (Contains_cons a z front c)
-
-pub below_more : (a b c : Bar) → key_cmp a b ≡ Less → is_gt (key_cmp b c) ≡ false → key_cmp a c ≡ Less
-below_more a b c p q = grind (arith, nat_tests)
-
-split_last : (table : List Bar) (n : ℕ) (d : Bar) → n + 1 ≡ length table → table ≡ take n table ++ get_or table n d ∷ []
-split_last table n d e = sym (take_all (n + 1) table (omega (arith, e))) ∙ take_more table n d (omega (arith, e))
-
--- the bar is joined to the last bar of a table
-pub joined_to_last : (table : List Bar) (n : ℕ) (last bar : Bar) → n + 1 ≡ length table → last ≡ get_or table n last → IsByKey table
-    → key_cmp last bar ≡ Equal → set table n (joined_bar last bar) ≡ merged_tables table (bar ∷ [])
-joined_to_last table n last bar e at up same =
-    let front = take n table in
-    let split : table ≡ front ++ last ∷ [] = split_last table n last e ∙ ap (λ z. front ++ z ∷ []) (sym at) in
-    let count : length front ≡ n = length-take-le n table (omega (arith, e)) in
-    let rises = subst IsByKey split up in
-    ap (λ t. set t n (joined_bar last bar)) split
-    ∙ ap (λ k. set (front ++ last ∷ []) k (joined_bar last bar)) (sym count)
-    ∙ set-append_seam front last [] (joined_bar last bar)
-    ∙ sym (merged_onto front last bar (λ z c. below_more z last bar (below_last front last rises z c) (ap is_gt same)) same)
-    ∙ ap (λ t. merged_tables t (bar ∷ [])) (sym split)
-
-pub less_from : (o : Ordering) → is_gt o ≡ false → is_eq o ≡ false → o ≡ Less
+less_from : (o : Ordering) → is_gt o ≡ false → is_eq o ≡ false → o ≡ Less
 less_from Less p q = refl
 less_from Equal p q = absurd (cc)
 less_from Greater p q = absurd (cc)
 
--- the bar is pushed behind the last bar of a table
-pub pushed_after_last : (table : List Bar) (n : ℕ) (last bar : Bar) → n + 1 ≡ length table → last ≡ get_or table n last → IsByKey table
-    → IsUpTo table bar → is_eq (key_cmp last bar) ≡ false → table ++ bar ∷ [] ≡ merged_tables table (bar ∷ [])
-pushed_after_last table n last bar e at up to differ =
-    let front = take n table in
-    let split : table ≡ front ++ last ∷ [] = split_last table n last e ∙ ap (λ z. front ++ z ∷ []) (sym at) in
-    let rises = subst IsByKey split up in
-    let here : is_gt (key_cmp last bar) ≡ false = subst (λ z. is_gt (key_cmp z bar) ≡ false) (sym at)
-    (All-get_or (λ z. is_gt (key_cmp z bar) ≡ false) table n last (omega (arith, e)) to) in
+-- it has a greater key
+pub put_behind_last : (front : List Bar) (last bar : Bar) → IsByKey (front ++ last ∷ []) → is_gt (key_cmp last bar) ≡ false → is_eq (key_cmp last bar) ≡ false
+    → IsUnionOf ((front ++ last ∷ []) ++ bar ∷ []) ((front ++ last ∷ []) ++ bar ∷ [])
+put_behind_last front last bar up here differ =
     let less = less_from (key_cmp last bar) here differ in
-    sym (merged_after table bar (λ z c.
-    ⊎_elim (λ d. below_more z last bar (below_last front last rises z d) here)
-    (λ d. subst (λ w. key_cmp w bar ≡ Less) d less)
-    (Contains-push_cases front last z (subst (λ t. Contains t z) split c))))
+    union_itself _ (rise_push (front ++ last ∷ []) bar up
+    (All-push (λ z. key_cmp z bar ≡ Less) front last
+    (All-weaker (λ z. key_cmp z last ≡ Less) (λ z. key_cmp z bar ≡ Less) (λ z h. key_total.trans z last bar h less) front (front_below front last up)) less))
 
--- a bar that is read and not changed leaves its table as it was
-pub set_same : (table : List Bar) (n : ℕ) (last : Bar) → last ≡ get_or table n last → set table n last ≡ table
-set_same table n last at = ap (set table n) at ∙ set-get_or table n last
-
--- ---- no bar stands after the bar
-
-not_after_itself : (bar : Bar) → is_gt (key_cmp bar bar) ≡ false
-not_after_itself bar = grind (arith, nat_tests)
-
-pub up_to_pushed : (table : List Bar) (bar : Bar) → IsUpTo table bar → IsUpTo (table ++ bar ∷ []) bar
-up_to_pushed table bar to = All-push (λ z. is_gt (key_cmp z bar) ≡ false) table bar to (not_after_itself bar)
-
--- a later bar
-pub up_to_later : (table : List Bar) (bar later : Bar) → is_gt (key_cmp bar later) ≡ false → IsUpTo table bar → IsUpTo table later
-up_to_later table bar later h to = All-weaker _ (λ z. is_gt (key_cmp z later) ≡ false) (λ z p. upto key_total z bar later p h) table to
-
--- ---- sales by locate and time
-
-abbrev pub by_time : ℕ × ℕ → ℕ × ℕ → Ordering
-by_time a b = ordering_then (nat_cmp a.0 b.0) (nat_cmp a.1 b.1)
-
-time_parts : (l t m u : ℕ) → is_lt (ordering_then (nat_cmp l m) (nat_cmp t u)) ≡ false → (m < l) ⊎ ((l ≡ m) × (u ≤ t))
-time_parts l t m u h = grind (arith, nat_tests)
-
-quotient_rises : (k a b : ℕ) → 0 < k → a ≤ b → a / k ≤ b / k
-quotient_rises k a b some h = let below = div-mul-le_self a k in le-div (a / k) b k some (omega arith)
-
-start_rises : (width a b : ℕ) → 0 < width → a ≤ b → start_of width a ≤ start_of width b
-start_rises width a b some h = mul-le-mul_right (width * 1000000000) (quotient_rises (width * 1000000000) a b (omega arith) h)
-
--- the bars of two sales in order of time stand in order too
-pub one_not_after : (width : ℕ) (a b : Sale) → 0 < width → is_lt (by_time (b.locate, b.time) (a.locate, a.time)) ≡ false
-    → is_gt (key_cmp (bar_of_one width a) (bar_of_one width b)) ≡ false
-one_not_after width a b some h =
-    let rises = start_rises width a.time b.time some in
-    ⊎_elim (λ less. grind (arith, nat_tests, less))
-    (λ same.
-    let up : start_of width a.time ≤ start_of width b.time = rises same.1 in
-    let locates = same.0 in
-    in_order a.locate b.locate (start_of width a.time) (start_of width b.time) (sym locates) up)
-    (time_parts b.locate b.time a.locate a.time h)
-  where
-    in_order : (l m s u : ℕ) → l ≡ m → s ≤ u → is_gt (ordering_then (nat_cmp l m) (nat_cmp s u)) ≡ false
-    in_order l m s u e h = grind (arith, nat_tests)
-
--- what a stable sort by locate and time ensures
-pub sorted_by_time : {F : Type 0} {g : Mut F (Bor Sale × Unit {0}) (ℕ × ℕ)} {f : F} (sales : List Sale)
-    → ((key : Sale → ℕ × ℕ) → ComputesKey g key f → IsSortedByKey key by_time sales)
-    → ((f : F) (a : Bor Sale × Unit {0}) (r : ℕ × ℕ) (f' : F) → Called g f a r f' → r ≡ (a.0.now.locate, a.0.now.time))
-    → IsSortedByKey (λ (s : Sale). (s.locate, s.time)) by_time sales
-sorted_by_time {g = g} {f = f} sales up h = up (λ s. (s.locate, s.time)) (answers_always g (λ a r. r ≡ (a.0.now.locate, a.0.now.time)) f h)
-
--- ---- no bars
-
-pub no_bars : (table : List Bar) → table ≡ [] → IsByKey table × All IsTraded table
+pub one_rises : (bar : Bar) → IsByKey (bar ∷ [])
 unfolding IsStrictlySortedBy
-no_bars table e = subst (λ t. IsByKey t × All IsTraded t) (sym e) (tt, All-nil IsTraded)
-
-pub AreBarsOf-no_bars : (width : ℕ) (table : List Bar) → table ≡ [] → AreBarsOf width [] table
-AreBarsOf-no_bars width table e = subst (AreBarsOf width []) (sym e) (AreBarsOf-none width)
-
-pub up_to_none : (table : List Bar) (bar : Bar) → table ≡ [] → IsUpTo table bar
-up_to_none table bar e = subst (λ t. IsUpTo t bar) (sym e) (All-nil (λ z. is_gt (key_cmp z bar) ≡ false))
+one_rises bar = (tt, tt)
 
 pub equal_from : (o : Ordering) → is_eq o ≡ true → o ≡ Equal
 equal_from Less e = absurd (cc)
 equal_from Equal e = refl
 equal_from Greater e = absurd (cc)
 
-pub turned : (a b : Bar) → key_cmp a b ≡ Equal → key_cmp b a ≡ Equal
-turned a b h = grind (arith, nat_tests)
+-- ---- the last bar of a vector, at n
 
-pub one_rises : (bar : Bar) → IsByKey (bar ∷ [])
-unfolding IsStrictlySortedBy
-one_rises bar = (tt, tt)
+split_last : (table : List Bar) (n : ℕ) (last : Bar) → n + 1 ≡ length table → last ≡ get_or table n last → table ≡ take n table ++ last ∷ []
+split_last table n last e at =
+    sym (take_all (n + 1) table (omega (arith, e))) ∙ take_more table n last (omega (arith, e)) ∙ ap (λ z. take n table ++ z ∷ []) (sym at)
 
--- ---- the steps of the loop over the sorted sales
+pub joined_at_end : (table : List Bar) (n : ℕ) (last bar : Bar) → n + 1 ≡ length table → last ≡ get_or table n last → IsByKey table
+    → key_cmp last bar ≡ Equal → IsUnionOf (table ++ bar ∷ []) (set table n (joined_bar last bar))
+joined_at_end table n last bar e at up same =
+    let front = take n table in
+    let split = split_last table n last e at in
+    let count : length front ≡ n = length-take-le n table (omega (arith, e)) in
+    subst (λ t. IsUnionOf (t ++ bar ∷ []) (set t n (joined_bar last bar))) (sym split)
+    (subst (λ k. IsUnionOf ((front ++ last ∷ []) ++ bar ∷ []) (set (front ++ last ∷ []) k (joined_bar last bar))) count
+    (rw (set-append_seam front last []) (joined_to_last front last bar (subst IsByKey split up) same)))
 
-pub told_one_more : (width : ℕ) (sales : List Sale) (i : ℕ) (d : Sale) (table new : List Bar) (bar : Bar) → i < length sales
-    → bar ≡ bar_of_one width (get_or sales i d)
-    → AreBarsOf width (take i sales) table → new ≡ merged_tables table (bar ∷ []) → AreBarsOf width (take (i + 1) sales) new
-told_one_more width sales i d table new bar within is are made =
-    subst (AreBarsOf width (take (i + 1) sales)) (sym (made ∙ ap (λ z. merged_tables table (z ∷ [])) is))
-    (subst (λ l. AreBarsOf width l (merged_tables table (bar_of_one width (get_or sales i d) ∷ []))) (sym (take_more sales i d within))
-    (AreBarsOf-more width (take i sales) (get_or sales i d) table are))
+pub pushed_at_end : (table : List Bar) (n : ℕ) (last bar : Bar) → n + 1 ≡ length table → last ≡ get_or table n last → IsByKey table
+    → All (λ z. is_gt (key_cmp z bar) ≡ false) table → is_eq (key_cmp last bar) ≡ false → IsUnionOf (table ++ bar ∷ []) (table ++ bar ∷ [])
+pushed_at_end table n last bar e at up to differ =
+    let split = split_last table n last e at in
+    subst (λ t. IsUnionOf (t ++ bar ∷ []) (t ++ bar ∷ [])) (sym split)
+    (put_behind_last (take n table) last bar (subst IsByKey split up)
+    (subst (λ z. is_gt (key_cmp z bar) ≡ false) (sym at) (All-get_or (λ z. is_gt (key_cmp z bar) ≡ false) table n last (omega (arith, e)) to)) differ)
+
+-- ---- sorted bars
+
+not_after : (a b : Bar) → is_lt (key_cmp b a) ≡ false → is_gt (key_cmp a b) ≡ false
+not_after a b h = grind (arith, nat_tests)
+
+-- the next of sorted bars can be put into the table that those before it are joined to
+next_can_add : (sorted table : List Bar) (i : ℕ) (d : Bar) → IsSorted key_cmp sorted → AllSumsFit sorted → i < length sorted → IsUnionOf (take i sorted) table
+    → CanAdd table (get_or sorted i d)
+next_can_add sorted table i d rise fit within union =
+    let bar = get_or sorted i d in
+    let n = length-take-le i sorted (omega (arith, within)) in
+    record {
+      by_key = union.rise;
+      up_to = table_has (λ z. is_gt (key_cmp z bar) ≡ false) (λ a b p q. p) (take i sorted) table union (λ k e h.
+          rw (get_or-take i sorted k e (omega (arith, n)))
+          (not_after (get_or sorted k e) bar
+          (rw (get_or_default sorted i e d within) at
+          (sorted_far (λ a b. is_lt (key_cmp a b)) (ranks_by key_total (λ b. b)) sorted rise k i e (omega (arith, n)) within))));
+      sums = λ kept there same. next_fits sorted table i d kept within union fit there same;
+    }
+
+-- so can that of the next of what has bars, and with it one bar more is joined
+pub next_bar : {X : Type 0} (f : X → Bar) (xs : List X) (i : ℕ) (d : X) (bar : Bar) (table : List Bar) → IsSorted key_cmp (map f xs) → AllSumsFit (map f xs)
+    → i < length xs → bar ≡ f (get_or xs i d) → IsUnionOf (take i (map f xs)) table
+    → CanAdd table bar × ((new : List Bar) → IsUnionOf (table ++ bar ∷ []) new → IsUnionOf (take (i + 1) (map f xs)) new)
+next_bar f xs i d bar table rise fit within is union =
+    let n = length-map xs f in
+    let here : get_or (map f xs) i no_bar ≡ bar = get_or-map f xs i d no_bar within ∙ sym is in (
+      rw here at (next_can_add (map f xs) table i no_bar rise fit (omega (arith, n)) union),
+      λ new made. union_more (map f xs) i no_bar table new (omega (arith, n)) union (rw here made),
+    )

@@ -1,6 +1,5 @@
 pub mod Bars
 pub mod BarsInRanges
-mod CurrentBar
 pub mod MergedTables
 pub mod JoinedTables
 pub mod LastBar

@@ -1,6 +1,6 @@
 -- What the steps of making tables compute: the bar of one sale, two tables in one, bars in order.
 -- To be believed of a crate used by itself: the table of a bucket is defined by them.
-use Rattle.std.specs.Prelude.{◌≡◌, ℕ, ◌*◌, ◌<◌, ◌≤◌, false, All, List, [], ◌∷◌, None, length, map, nat_eq}
+use Rattle.std.specs.Prelude.{◌≡◌, ℕ, ◌*◌, ◌<◌, ◌≤◌, false, All, Contains, List, [], ◌∷◌, None, length, map, nat_eq}
 use Rattle.std.specs.List.{IsDistinct}
 use Rattle.std.specs.declared.cmp.Ordering.{Ordering}
 use Rattle.std.specs.declared.cmp.Ordering.TheVariants.{Less, Equal, Greater}
@@ -13,7 +13,7 @@ use Rattle.bars.specs.declared.form.Form.{Form}
 use Rattle.bars.specs.declared.form.Form.TheVariants.{Sales, Bars}
 use Rattle.bars.specs.declared.keyed.Keyed.{Keyed}
 use Rattle.bars.specs.declared.keyed.Keyed.TheVariants.{OfSale, OfBar}
-use Rattle.bars.specs.Bars.{IsByKey, IsTraded, Key, start_of, key_cmp, joined_all, joined_bar, under}
+use Rattle.bars.specs.Bars.{CanJoin, IsByKey, IsTraded, Key, start_of, key_cmp, joined_all, joined_bar, under}
 
 -- the bar of one sale
 abbrev pub bar_of_one : ℕ → Sale → Bar
@@ -32,9 +32,11 @@ bar_of_one width sale =
       trades = 1;
     }
 
--- no bar of the table comes after the bar
-abbrev pub IsUpTo : List Bar → Bar → Type 0
-IsUpTo table bar = All (λ kept. is_gt (key_cmp kept bar) ≡ false) table
+-- a table that the bar is put into: none of its bars comes after that one, and the sums of one of its key fit
+pub record CanAdd (table : List Bar) (bar : Bar) : Type 0 where
+  pub by_key : IsByKey table
+  pub up_to : All (λ kept. is_gt (key_cmp kept bar) ≡ false) table
+  pub sums : (kept : Bar) → Contains table kept → key_cmp kept bar ≡ Equal → CanJoin kept bar
 
 -- one of three values, by how two things compare
 abbrev pub by_order : Ordering → List Bar → List Bar → List Bar → List Bar
@@ -89,20 +91,7 @@ AreOfForm (Bars table) = IsByKey table × All IsTraded table
 
 -- the bar of one sale that stands beside its key, or the bar that stands there
 abbrev pub bar_at : Keyed → Bar
-bar_at (OfSale locate start sale) =
-    record {
-      locate = locate;
-      start = start;
-      first_place = sale.now.place;
-      first = sale.now.price;
-      high = sale.now.price;
-      low = sale.now.price;
-      last_place = sale.now.place;
-      last = sale.now.price;
-      volume = sale.now.shares;
-      notional = sale.now.shares * sale.now.price;
-      trades = 1;
-    }
+bar_at (OfSale locate start sale) = record (bar_of_one 0 sale.now) { locate = locate; start = start }
 bar_at (OfBar locate start bar) = record bar.now { locate = locate; start = start }
 
 -- of each key the bars of two lists, joined, are one bar

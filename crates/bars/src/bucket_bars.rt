@@ -6,7 +6,7 @@ ghost use Rattle.bars.specs.Steps.{AreOfForm, bars_of_form};
 
 use crate::OutOfMemory;
 use crate::form::Form;
-use crate::table::{BarTable, count_bars_of};
+use crate::table::{BarTable, put_in_order};
 use lists::limits::{SECONDS_OF_DAY, TRADE_LIMIT};
 use row_types::Sale;
 use std::alloc::Global;
@@ -43,8 +43,7 @@ impl BucketBars {
         ensures bars { AreBarsOf width sales.items result }
         ensures traded { All IsTraded result }
     {
-        sales.sort_unstable_by_key(|sale| (sale.locate, sale.time));
-        let count = count_bars_of(sales.as_slice(), width);
+        let count = put_in_order(&mut sales, width);
         if count <= sales.len() / 2 {
             let alloc = *sales.allocator();
             if let Ok(bars) = BarTable::of_sorted(alloc, sales.as_slice(), width, count) {

@@ -25,9 +25,8 @@ pub(crate) fn joined_lines(
     names: &Names,
 ) -> Result<Vec<u8>, OutOfMemory>
     requires rise { IsSorted key_cmp (map bar_at sorted.now) }
-    requires traded { All IsTraded (map bar_at sorted.now) }
+    requires told { All (λ bar. IsTraded bar × (bar.start < TIME_LIMIT)) (map bar_at sorted.now) }
     requires sums { AllSumsFit (map bar_at sorted.now) }
-    requires starts { All (λ bar. bar.start < TIME_LIMIT) (map bar_at sorted.now) }
     ensures { IfOk result (λ text. (all : List TheBar) → IsUnionOf (map bar_at sorted.now) all →
         text.items ≡ lines_text (λ locate. name_text locate (last_row names.now locate)) all) }
 {

@@ -15,10 +15,10 @@ use crate::bucket_bars::BucketBars;
 use crate::form::Form;
 use crate::joined_lines::joined_lines;
 use crate::keyed::{Keyed, append_bars, append_sales};
-use crate::located::within;
+use crate::located::ByLocate;
 use std::alloc::Global;
 use std::thread::Threads;
-use time_and_sales::{Names, bounds_of, texts_of};
+use time_and_sales::{Names, bounds_of, texts_of, within};
 
 /// The lines of the bars of all tables, those of one locate and start joined, in pieces that are
 /// one text when they are put together. There are `ranges` pieces, or one: each is of the bars in a
@@ -169,9 +169,13 @@ fn append_within<'a>(
 {
     match table.form() {
         Form::Sales { sales, width } => {
-            append_sales(keyed, within(sales.as_slice(), bounds), *width)
+            append_sales(
+                keyed,
+                within::<ByLocate, _>(sales.as_slice(), bounds),
+                *width,
+            )
         }
-        Form::Bars(bars) => append_bars(keyed, within(bars.items(), bounds)),
+        Form::Bars(bars) => append_bars(keyed, within::<ByLocate, _>(bars.items(), bounds)),
     }
 }
 
@@ -180,8 +184,8 @@ fn count_within(tables: &[&BucketBars], bounds: &[u64]) -> usize {
     let mut count = 0usize;
     for table in tables {
         let more = match table.form() {
-            Form::Sales { sales, .. } => within(sales.as_slice(), bounds).len(),
-            Form::Bars(bars) => within(bars.items(), bounds).len(),
+            Form::Sales { sales, .. } => within::<ByLocate, _>(sales.as_slice(), bounds).len(),
+            Form::Bars(bars) => within::<ByLocate, _>(bars.items(), bounds).len(),
         };
         count = count.saturating_add(more);
     }

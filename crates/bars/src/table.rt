@@ -1,12 +1,12 @@
 //! A table of bars.
 ghost use Rattle.std.specs.Prelude.{◌≡◌, ℕ, ◌<◌, ◌≤◌, List, [], ◌∷◌, ◌++◌, length, map};
-ghost use Rattle.std.specs.Prelude.{All, IfOk, OnErr, OnOk, nat_eq, vec_len};
+ghost use Rattle.std.specs.Prelude.{All, IfOk, OnErr, OnOk, nat_eq};
 ghost use Rattle.std.specs.List.{IsDistinct};
 ghost use Rattle.row_types.specs.declared.trade.Sale.{Sale};
-ghost use Rattle.std.specs.List.Sorted.{IsSorted};
+ghost use Rattle.std.specs.List.Sorted.{IsPermutation, IsSorted};
 ghost use Rattle.bars.specs.Bars.{AllSumsFit, AreBarsOf, AreBarsOfEach, IsByKey, IsMergeOf};
 ghost use Rattle.bars.specs.Bars.{IsTraded, IsUnionOf, SumsFit, all_bars, all_sales, key_cmp};
-ghost use Rattle.bars.specs.Steps.{IsOrderOf, IsUpTo, bar_of_one, merged_tables};
+ghost use Rattle.bars.specs.Steps.{CanAdd, IsOrderOf, bar_of_one};
 
 use crate::OutOfMemory;
 use crate::bar::Bar;
@@ -95,8 +95,7 @@ impl<A: Allocator + Clone> BarTable<A> {
         ensures bars { IfOk result (λ table. AreBarsOf width sales.items table) }
         ensures traded { IfOk result (λ table. All IsTraded table) }
     {
-        sales.sort_unstable_by_key(|sale| (sale.locate, sale.time));
-        let count = count_bars_of(sales.as_slice(), width);
+        let count = put_in_order(&mut sales, width);
         BarTable::of_sorted(alloc, sales.as_slice(), width, count)
     }
 
@@ -109,7 +108,7 @@ impl<A: Allocator + Clone> BarTable<A> {
     ) -> Result<BarTable<A>, OutOfMemory>
         requires rise { IsSorted key_cmp (map (bar_of_one width) sales.now) }
         requires count { length sales.now < TRADE_LIMIT }
-        requires shares { All (λ sale. 0 < sale.shares) sales.now }
+        requires traded { All (λ sale. IsTraded (bar_of_one width sale)) sales.now }
         requires width { (1 ≤ width) × (width ≤ SECONDS_OF_DAY) }
         ensures bars { IfOk result (λ table. AreBarsOf width sales.now table) }
         ensures traded { IfOk result (λ table. All IsTraded table) }
@@ -170,8 +169,21 @@ impl<A: Allocator + Clone> BarTable<A> {
     }
 }
 
-/// How many bars there are of sales that are in order of the keys of their bars, for room for them.
-pub(crate) fn count_bars_of(sales: &[Sale], width: u32) -> usize
+/// Puts sales in order of the keys of their bars, and says how many bars there are, for room for
+/// them.
+pub(crate) fn put_in_order<A: Allocator>(sales: &mut Vec<Sale, A>, width: u32) -> usize
+    requires width { 0 < width }
+    requires shares { All (λ sale. 0 < sale.shares) sales.old.items }
+    ensures permutation { IsPermutation sales.old.items sales.new.items }
+    ensures rise { IsSorted key_cmp (map (bar_of_one width) sales.new.items) }
+    ensures traded { All (λ sale. IsTraded (bar_of_one width sale)) sales.new.items }
+{
+    sales.sort_unstable_by_key(|sale| (sale.locate, sale.time));
+    count_bars_of(sales.as_slice(), width)
+}
+
+/// How many bars there are of sales that are in order of the keys of their bars.
+fn count_bars_of(sales: &[Sale], width: u32) -> usize
     requires width { 0 < width }
     requires shares { All (λ sale. 0 < sale.shares) sales.now }
     ensures { All (λ sale. IsTraded (bar_of_one width sale)) sales.now }
@@ -192,13 +204,8 @@ pub(crate) fn count_bars_of(sales: &[Sale], width: u32) -> usize
 /// Puts in a bar that no bar of the table stands after.
 #[inline]
 fn add<A: Allocator>(bars: &mut Vec<Bar, A>, bar: Bar) -> Result<(), OutOfMemory>
-    requires by_key { IsByKey bars.old.items }
-    requires traded { All IsTraded bars.old.items × IsTraded bar }
-    requires up_to { IsUpTo bars.old.items bar }
-    requires sums { SumsFit bars.old.items (bar ∷ []) }
-    ensures merged { OnOk result (bars.new.items ≡ merged_tables bars.old.items (bar ∷ [])) }
-    ensures traded { OnOk result (All IsTraded bars.new.items) }
-    ensures up_to { OnOk result (IsUpTo bars.new.items bar) }
+    requires { CanAdd bars.old.items bar }
+    ensures { OnOk result (IsUnionOf (bars.old.items ++ bar ∷ []) bars.new.items) }
 {
     let Some(last) = bars.last_mut() else {
         bars.push(bar)?;
@@ -218,11 +225,10 @@ fn merge_bars<A: Allocator>(
     one: &[Bar],
     other: &[Bar],
 ) -> Result<Vec<Bar, A>, OutOfMemory>
-    requires one { IsByKey one.now × All IsTraded one.now }
-    requires other { IsByKey other.now × All IsTraded other.now }
+    requires one { IsByKey one.now }
+    requires other { IsByKey other.now }
     requires sums { SumsFit one.now other.now }
-    ensures value { IfOk result (λ bars. bars.items ≡ merged_tables one.now other.now) }
-    ensures traded { IfOk result (λ bars. All IsTraded bars.items) }
+    ensures { IfOk result (λ bars. IsUnionOf (one.now ++ other.now) bars.items) }
 {
     let mut bars = Vec::with_capacity(alloc, one.len().max(other.len()))?;
     let (mut i, mut j) = (0, 0);
@@ -250,11 +256,9 @@ fn merge_bars<A: Allocator>(
 
 /// One list of the bars of all parts, by key, those of one key made one.
 fn unite<A: Allocator + Clone>(alloc: A, parts: &[&[Bar]]) -> Result<Vec<Bar, A>, OutOfMemory>
-    requires traded { All IsTraded (all_bars (map (λ part. part.now) parts.now)) }
-    requires sums { AllSumsFit (all_bars (map (λ part. part.now) parts.now)) }
-    ensures union { IfOk result
+    requires { AllSumsFit (all_bars (map (λ part. part.now) parts.now)) }
+    ensures { IfOk result
         (λ bars. IsUnionOf (all_bars (map (λ part. part.now) parts.now)) bars.items) }
-    ensures traded { IfOk result (λ bars. All IsTraded bars.items) }
 {
     let sorted = in_order(alloc.clone()?, parts)?;
     join_all(alloc, sorted.as_slice())
@@ -287,10 +291,8 @@ fn count_bars(parts: &[&[Bar]]) -> usize {
 /// Sorted bars in one list, those of one key made one.
 fn join_all<A: Allocator>(alloc: A, sorted: &[&Bar]) -> Result<Vec<Bar, A>, OutOfMemory>
     requires rise { IsSorted key_cmp (map (λ bar. bar.now) sorted.now) }
-    requires traded { All IsTraded (map (λ bar. bar.now) sorted.now) }
     requires sums { AllSumsFit (map (λ bar. bar.now) sorted.now) }
-    ensures union { IfOk result (λ bars. IsUnionOf (map (λ bar. bar.now) sorted.now) bars.items) }
-    ensures traded { IfOk result (λ bars. All IsTraded bars.items) }
+    ensures { IfOk result (λ bars. IsUnionOf (map (λ bar. bar.now) sorted.now) bars.items) }
 {
     let mut bars = Vec::with_capacity(alloc, sorted.len())?;
     for bar in sorted {

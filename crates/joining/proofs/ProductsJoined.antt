@@ -12,8 +12,7 @@ use Rattle.bars.specs.Bars.{AllSumsFit, AreBarsOfEach, IsTraded, IsUnionOf, all_
 use Rattle.bars.specs.Texts.{IsWritable}
 use Rattle.bars.specs.declared.bar.Bar.{Bar}
 use Rattle.bars.specs.Steps.{bars_of}
-use Rattle.bars.proofs.JoinedTables.{union_of_bars}
-use Rattle.bars.proofs.BarsOfSales.{bars_of_are}
+use Rattle.bars.proofs.BarsOfSales.{bars_of_are, union_of_bars}
 use Rattle.bars.proofs.SumsAreBounded.{all_sums_fit, table_is_writable}
 use Rattle.row_types.specs.SalesByPlace.{IsByPlace}
 use Rattle.meaning.specs.Meaning.{Meaning}

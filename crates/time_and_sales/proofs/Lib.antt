@@ -1,4 +1,3 @@
-pub mod DigitsJoined
 pub mod LastRows
 pub mod MadeTexts
 pub mod MergedListings

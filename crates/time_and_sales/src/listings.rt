@@ -5,6 +5,7 @@ ghost use Rattle.std.specs.List.Sorted.{IsPermutation};
 ghost use Rattle.row_types.specs.SalesByPlace.{IsByPlace};
 
 use crate::OutOfMemory;
+use crate::numbered::Numbered;
 use itertools::{Itertools, MergePredicate};
 use row_types::Sale;
 use std::alloc::{Allocator, Global};
@@ -116,7 +117,16 @@ fn put_by_place<A: Allocator>(sales: &mut Vec<Sale, A>)
 
 /// The order of sales by place.
 #[derive(Clone, Copy)]
-struct ByPlace;
+pub(crate) struct ByPlace;
+
+impl Numbered<Sale> for ByPlace {
+    ghost number_of = { λ sale. sale.place };
+
+    #[inline]
+    fn number(sale: &Sale) -> u64 {
+        sale.place
+    }
+}
 
 impl MergePredicate<Sale> for ByPlace {
     ghost can_test = { λ _. ⊤ };
@@ -136,9 +146,8 @@ fn merged<A: Allocator + Clone>(
     requires by_place { All (λ part. IsByPlace part.items) parts.items }
     requires apart { IsDistinct nat_eq
         (map (λ sale. sale.place) (flat_map (λ part. part.items) parts.items)) }
-    ensures permutation { IfOk result (λ all.
-        IsPermutation (flat_map (λ part. part.items) parts.items) all.items) }
-    ensures by_place { IfOk result (λ all. IsByPlace all.items) }
+    ensures { IfOk result (λ all.
+        IsPermutation (flat_map (λ part. part.items) parts.items) all.items × IsByPlace all.items) }
 {
     let merge = parts.into_iter().kmerge_by(alloc.clone()?, ByPlace)?;
     merge.collect(alloc)

@@ -1,7 +1,7 @@
 //! The lines of many listings, of ranges of places by threads.
-ghost use Rattle.std.specs.Prelude.{◌≡◌, ◌<◌, ◌≤◌, ◌++◌, All, IfOk, OnOk, List, drop, filter, length, map, nat_eq, nat_lt, not, slice_index};
+ghost use Rattle.std.specs.Prelude.{◌≡◌, ◌<◌, ◌≤◌, ◌++◌, All, IfOk, OnOk, List, drop, filter, length, map, nat_eq, slice_index};
 ghost use Rattle.std.specs.List.{IsDistinct, flat_map};
-ghost use Rattle.std.specs.List.Sorted.{IsNonDecreasing, IsPermutation};
+ghost use Rattle.std.specs.List.Sorted.{IsNonDecreasing, IsNonDecreasingBy, IsPermutation};
 ghost use Rattle.lists.specs.declared.limits.TheConstants.{TIME_LIMIT};
 ghost use Rattle.row_types.specs.declared.trade.Sale.{Sale};
 ghost use Rattle.row_types.specs.SalesByPlace.{IsByPlace};
@@ -11,7 +11,8 @@ ghost use Rattle.time_and_sales.specs.Texts.{lines_text};
 
 use crate::OutOfMemory;
 use crate::directory::Names;
-use crate::listings::Listing;
+use crate::listings::{ByPlace, Listing};
+use crate::numbered::within;
 use crate::pieces::{bounds_of, texts_of};
 use crate::texts::write_sale;
 use row_types::Sale;
@@ -77,8 +78,6 @@ fn lines_from<R: Threads + Sync>(
     names: &Names,
     bounds: &[u64],
 ) -> Result<Vec<Vec<u8>>, OutOfMemory>
-    requires apart { IsDistinct nat_eq (map (λ sale. sale.place)
-        (flat_map (λ listing. listing) (map (λ listing. listing.now) listings.now))) }
     requires times { All (λ sale. sale.time < TIME_LIMIT)
         (flat_map (λ listing. listing) (map (λ listing. listing.now) listings.now)) }
     requires some { 0 < length bounds.now }
@@ -95,8 +94,6 @@ fn lines_from<R: Threads + Sync>(
         bounds.len(),
         &|i: usize| -> Result<Vec<u8>, OutOfMemory>
             requires { (i < length bounds.now)
-                × IsDistinct nat_eq (map (λ sale. sale.place)
-                (flat_map (λ listing. listing) (map (λ listing. listing.now) listings.now)))
                 × All (λ sale. sale.time < TIME_LIMIT)
                 (flat_map (λ listing. listing) (map (λ listing. listing.now) listings.now)) }
             ensures { IfOk result (λ text. (all : List Sale) → IsByPlace all →
@@ -114,8 +111,6 @@ fn range_lines(
     names: &Names,
     bounds: &[u64],
 ) -> Result<Vec<u8>, OutOfMemory>
-    requires apart { IsDistinct nat_eq (map (λ sale. sale.place)
-        (flat_map (λ listing. listing) (map (λ listing. listing.now) listings.now))) }
     requires times { All (λ sale. sale.time < TIME_LIMIT)
         (flat_map (λ listing. listing) (map (λ listing. listing.now) listings.now)) }
     ensures { IfOk result (λ text. (all : List Sale) → IsByPlace all →
@@ -133,17 +128,16 @@ fn range_of<'a>(
     listings: &[&'a Listing],
     bounds: &[u64],
 ) -> Result<Vec<&'a Sale>, OutOfMemory>
-    requires apart { IsDistinct nat_eq (map (λ sale. sale.place)
-        (flat_map (λ listing. listing) (map (λ listing. listing.now) listings.now))) }
     ensures permutation { IfOk result (λ sorted. IsPermutation
         (filter (is_in_first (λ sale. sale.place) bounds.now)
         (flat_map (λ listing. listing) (map (λ listing. listing.now) listings.now)))
         (map (λ sale. sale.now) sorted.items)) }
-    ensures by_place { IfOk result (λ sorted. IsByPlace (map (λ sale. sale.now) sorted.items)) }
+    ensures rise { IfOk result (λ sorted.
+        IsNonDecreasingBy (λ sale. sale.place) (map (λ sale. sale.now) sorted.items)) }
 {
     let mut sales = Vec::with_capacity(alloc, count_within(listings, bounds))?;
     for listing in listings {
-        append(&mut sales, within(listing.items(), bounds))?;
+        append(&mut sales, within::<ByPlace, _>(listing.items(), bounds))?;
     }
     sales.sort_by_key(|sale| sale.place)?;
     Ok(sales)
@@ -153,7 +147,7 @@ fn range_of<'a>(
 fn count_within(listings: &[&Listing], bounds: &[u64]) -> usize {
     let mut count = 0usize;
     for listing in listings {
-        count = count.saturating_add(within(listing.items(), bounds).len());
+        count = count.saturating_add(within::<ByPlace, _>(listing.items(), bounds).len());
     }
     count
 }
@@ -169,38 +163,9 @@ fn append<'a>(sales: &mut Vec<&'a Sale>, more: &'a [Sale]) -> Result<(), OutOfMe
     Ok(())
 }
 
-/// The sales that are in the first range.
-fn within<'a>(sales: &'a [Sale], bounds: &[u64]) -> &'a [Sale]
-    requires { IsByPlace sales.now }
-    ensures { result.now ≡ filter (is_in_first (λ sale. sale.place) bounds.now) sales.now }
-{
-    match bounds {
-        [] => &[],
-        [low] => from(sales, *low),
-        [low, high, ..] => from(below(sales, *high), *low),
-    }
-}
-
-/// The sales whose places are below this one.
-fn below(sales: &[Sale], place: u64) -> &[Sale]
-    requires { IsByPlace sales.now }
-    ensures value { result.now ≡ filter (λ sale. nat_lt sale.place place) sales.now }
-    ensures by_place { IsByPlace result.now }
-{
-    &sales[..sales.partition_point(|sale| sale.place < place)]
-}
-
-/// The sales whose places are this one or greater.
-fn from(sales: &[Sale], place: u64) -> &[Sale]
-    requires { IsByPlace sales.now }
-    ensures { result.now ≡ filter (λ sale. not (nat_lt sale.place place)) sales.now }
-{
-    &sales[sales.partition_point(|sale| sale.place < place)..]
-}
-
 /// The lines of sales, each under the name of its locate.
 fn lines(alloc: Global, sales: &[&Sale], names: &Names) -> Result<Vec<u8>, OutOfMemory>
-    requires { All (λ sale. sale.time < TIME_LIMIT) (map (λ sale. sale.now) sales.now) }
+    requires { All (λ sale. sale.now.time < TIME_LIMIT) sales.now }
     ensures { IfOk result (λ text. text.items
         ≡ lines_text (λ locate. name_text locate (last_row names.now locate)) (map (λ sale. sale.now) sales.now)) }
 {

@@ -1,13 +1,14 @@
-use Rattle.std.proofs.Common.{List, map, take, filter, Bor, All}
+use Rattle.std.proofs.Common.{List, map, take, filter, flat_map, Bor, All}
 use Rattle.time_and_sales.specs.Parted.{is_in_first}
-use Rattle.bars.specs.Bars.{Bar, IsTraded, all_bars}
+use Rattle.bars.specs.Bars.{Bar, IsTraded}
 use Rattle.bars.specs.Steps.{AreJoinedAlike, bar_at}
+use Rattle.bars.proofs.BarsInRanges.{locate_of}
 use Rattle.bars.proofs.ranges.gathered.Given as goal
 
 -- what there is so far is of the tables so far, as far as they are in the range
 abbrev pub invariant-loop-table : goal.invariant-loop-table
 invariant-loop-table l = record {
   alike : AreJoinedAlike (map bar_at l.keyed.items)
-      (filter (is_in_first (λ (b : Bar). b.locate) l.bounds) (all_bars (map (λ (t : Bor (List Bar)). t.now) (take l.table-index l.tables))));
+      (filter (is_in_first locate_of l.bounds) (flat_map (λ (t : Bor (List Bar)). t.now) (take l.table-index l.tables)));
   traded : All IsTraded (map bar_at l.keyed.items);
 }

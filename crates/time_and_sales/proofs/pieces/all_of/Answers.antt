@@ -1,20 +1,16 @@
-use Rattle.std.proofs.Common.{◌++◌, ◌∷◌, Ok, map, sym, ap, ◌∙◌}
+use Rattle.std.proofs.Common.{◌∷◌, Ok, map, ap, sym, ◌∙◌}
 use Rattle.std.specs.Vec.Iter.{into_iter_items}
 use Rattle.std.proofs.lemmas.List.{append-nil}
-use Rattle.time_and_sales.proofs.MadeTexts.{one_more, none_left}
+use Rattle.time_and_sales.proofs.MadeTexts.{moved, none_left}
 use Rattle.time_and_sales.proofs.pieces.all_of.Goals as goal
 
 pub loop-text-init : goal.loop-text-init
-loop-text-init c =
-    ap (λ l. map Ok l ++ into_iter_items c.into_iter-text-iterator.result) c.in_ok-texts.ensures.items ∙ c.into_iter-text-iterator.ensures.into_iter_gives.0
+loop-text-init c = rw c.in_ok-texts.ensures.items c.into_iter-text-iterator.ensures.into_iter_gives.0
 
 pub loop-text-preserved : goal.loop-text-preserved
 loop-text-preserved c =
-    one_more c.loop-text.texts.items c.push.new.self.items c.in_ok-text.field-0 _ _ _ c.loop-text.invariant
+    moved Ok c.loop-text.texts.items c.in_ok-text.field-0 c.loop-text.invariant
     (c.in-Some.ensures.steps.0 ∙ ap (λ p. p ∷ into_iter_items c.next.new.self) c.in_ok-text.was) c.in_ok-push.ensures.items
 
 pub returns : goal.returns
-returns c =
-    sym (append-nil (map Ok c.loop-text.texts.items))
-    ∙ ap (λ l. map Ok c.loop-text.texts.items ++ l) (sym (none_left c.loop-text.text-iterator c.in-None.ensures.steps.0))
-    ∙ c.loop-text.invariant
+returns c = sym (append-nil (map Ok c.loop-text.texts.items)) ∙ (rw (none_left c.loop-text.text-iterator c.in-None.ensures.steps.0) at c.loop-text.invariant)

@@ -1,32 +1,27 @@
-use Rattle.std.proofs.Common.{◌++◌, ◌∷◌, [], ◌-◌, get_or, length, ap, refl, rules, ◌∙◌, arith}
-use Rattle.std.proofs.lemmas.Grind.{common_steps}
-use Rattle.std.proofs.lemmas.List.{length_push}
-use Rattle.time_and_sales.proofs.MadeTexts.{bound_more, first_stays, last_is, next_more, one_bound}
+use Rattle.std.proofs.Common.{◌++◌, ◌∷◌, [], ap, refl, rules, sym, ◌∙◌, arith, append_assoc}
+use Rattle.std.proofs.Math.Numerals.{add-one}
+use Rattle.std.proofs.lemmas.List.{append-nil, at_drop_all, at_drop_more}
+use Rattle.time_and_sales.proofs.MadeTexts.{bounds_rise, greatest_so_far, length-greatest_so_far, next_bound}
 use Rattle.time_and_sales.proofs.pieces.bounds_of.Goals as goal
 
 pub loop-number-init : goal.loop-number-init
-loop-number-init c =
-    let made = c.in_ok-push.ensures.items ∙ ap (λ l. l ++ 0 ∷ []) c.new-bounds.ensures.items in
-    record {
-      some = omega (arith, ap length made);
-      first = ap (λ l. get_or l 0 0) made;
-      last = ap (λ l. get_or l (length l - 1) 0) made;
-      len = ap length made;
-      next = λ i h. absurd (omega (arith, h));
-      rise = one_bound _ made;
-    }
+loop-number-init c = ap (λ l. l ++ greatest_so_far 0 c.args.numbers.now) (c.in_ok-push.ensures.items ∙ ap (λ l. l ++ 0 ∷ []) c.new-bounds.ensures.items)
 
 pub loop-number-preserved : goal.loop-number-preserved
 loop-number-preserved c =
-    let before = c.loop-number.invariant in
     let old = c.loop-number.bounds.items in
-    let made = c.in_ok-push-2.ensures.items in
-    record {
-      some = omega (arith, ap length made, length_push old c.max-bound.result);
-      first = first_stays old _ _ before.some before.first made;
-      last = last_is old _ _ made;
-      len = omega (arith, ap length made, length_push old c.max-bound.result, before.len);
-      next = next_more old _ c.args.numbers.now c.loop-number.number-index c.loop-number.bound (get_or c.args.numbers.now c.loop-number.number-index 0)
-          before.len before.last refl (made ∙ ap (λ b. old ++ b ∷ []) (search rules)) before.next;
-      rise = bound_more old _ _ _ before.some before.last (grind (arith, common_steps)) before.rise made;
-    }
+    let next = at_drop_more (greatest_so_far c.loop-number.bound) c.args.numbers.now c.loop-number.number-index 0 c.loop-number-test.true in
+    rw (c.in_ok-push-2.ensures.items, append_assoc old) (ap (λ l. old ++ l) (sym (next ∙ search rules)) ∙ c.loop-number.invariant)
+
+pub returns : goal.returns
+returns c =
+    let numbers = c.args.numbers.now in
+    let none = at_drop_all (greatest_so_far c.loop-number.bound) numbers c.loop-number.number-index c.loop-number-test.false in
+    rw (sym (append-nil c.loop-number.bounds.items) ∙ ap (λ l. c.loop-number.bounds.items ++ l) (sym none) ∙ c.loop-number.invariant)
+    (record {
+      some = omega arith;
+      first = refl;
+      len = omega (arith, length-greatest_so_far 0 numbers);
+      next = λ i h. rw add-one (next_bound 0 numbers i h);
+      rise = bounds_rise numbers;
+    })

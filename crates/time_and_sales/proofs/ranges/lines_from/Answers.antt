@@ -5,7 +5,8 @@ use Rattle.time_and_sales.specs.Names.{last_row, name_text}
 use Rattle.time_and_sales.specs.Texts.{lines_text}
 use Rattle.time_and_sales.proofs.MadeTexts.{both_ok}
 use Rattle.time_and_sales.proofs.RangesJoined.{ranges_join, told}
-use Rattle.time_and_sales.proofs.SalesInRanges.{lines-append, places_rise}
+use Rattle.time_and_sales.proofs.SalesInRanges.{lines-append}
+use Rattle.time_and_sales.proofs.SortedByPlace.{places_rise}
 use Rattle.time_and_sales.proofs.ranges.lines_from.Goals as goal
 
 pub returns : goal.returns

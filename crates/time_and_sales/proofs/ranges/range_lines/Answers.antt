@@ -1,4 +1,4 @@
-use Rattle.std.proofs.Common.{ℕ, List, Bor, ◌<◌, ◌∙◌, All, ap, map, subst, sym}
+use Rattle.std.proofs.Common.{ℕ, List, ◌<◌, ◌∙◌, ap}
 use Rattle.std.proofs.lemmas.Result.{IfOk-weaker}
 use Rattle.lists.specs.declared.limits.TheConstants.{TIME_LIMIT}
 use Rattle.row_types.specs.declared.trade.Sale.{Sale}
@@ -6,22 +6,21 @@ use Rattle.time_and_sales.specs.Names.{last_row, name_text}
 use Rattle.time_and_sales.specs.Parted.{is_in_first}
 use Rattle.time_and_sales.specs.Texts.{lines_text}
 use Rattle.time_and_sales.proofs.SalesInRanges.{listed, range_has, range_is, seen}
+use Rattle.time_and_sales.proofs.SortedByPlace.{place_of}
 use Rattle.time_and_sales.proofs.ranges.range_lines.Goals as goal
 
 pub lines-requires : goal.lines-requires
 lines-requires c =
-    let p = is_in_first (λ (s : Sale). s.place) c.args.bounds.now in
-    subst (λ l. All (λ (s : Sale). s.time < TIME_LIMIT) (map (λ (s : Bor Sale). s.now) l)) (sym c.as_slice.ensures.value)
-    (range_has (λ (s : Sale). s.time < TIME_LIMIT) p (listed c.args.listings.now) (seen c.in_ok-sorted.sorted.items) c.requires.times
-    c.in_ok-sorted.ensures.permutation)
+    rw c.as_slice.ensures.value
+    (range_has (λ (s : Sale). s.time < TIME_LIMIT) (is_in_first place_of c.args.bounds.now) (listed c.args.listings.now) c.in_ok-sorted.sorted.items
+    c.requires.times c.in_ok-sorted.ensures.permutation)
 
 pub returns : goal.returns
 returns c =
-    let p = is_in_first (λ (s : Sale). s.place) c.args.bounds.now in
+    let p = is_in_first place_of c.args.bounds.now in
     let name : ℕ → List ℕ = λ locate. name_text locate (last_row c.args.names.now locate) in
     IfOk-weaker c.lines.result _ _ (λ text e all up perm.
     e ∙ ap (lines_text name)
-    (ap (map (λ (s : Bor Sale). s.now)) c.as_slice.ensures.value
-    ∙ range_is p (listed c.args.listings.now) all (seen c.in_ok-sorted.sorted.items) up perm c.in_ok-sorted.ensures.by_place
-    c.in_ok-sorted.ensures.permutation))
+    (ap seen c.as_slice.ensures.value
+    ∙ range_is p (listed c.args.listings.now) all (seen c.in_ok-sorted.sorted.items) up perm c.in_ok-sorted.ensures.rise c.in_ok-sorted.ensures.permutation))
     c.lines.ensures

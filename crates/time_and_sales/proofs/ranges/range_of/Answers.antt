@@ -1,32 +1,38 @@
-use Rattle.std.proofs.Common.{rules, ◌∙◌, filter, List, IsPermutation, ap, eqb, map, subst, sym, ◌++◌, Bor}
-use Rattle.std.specs.List.{IsDistinct}
+use Rattle.std.proofs.Common.{rules, ◌∙◌, filter, List, IsPermutation, ap, ap₂, sym, subst, ◌++◌, Bor}
+use Rattle.std.proofs.lemmas.List.{take_all}
+use Rattle.std.proofs.lemmas.List.Elements.{filter-append}
+use Rattle.std.proofs.lemmas.List.Folds.{flat_map-map}
 use Rattle.std.proofs.lemmas.List.Sorted.{IsNonDecreasingBy-from_sort_by_key, IsPermutation-map}
+use Rattle.std.specs.List.{flat_map}
 use Rattle.row_types.specs.declared.trade.Sale.{Sale}
 use Rattle.time_and_sales.specs.Parted.{is_in_first}
-use Rattle.time_and_sales.proofs.SalesInRanges.{listed, range_more, range_whole, seen, seen_rise, some_apart}
-use Rattle.time_and_sales.proofs.SortedByPlace.{sorted_by_place}
+use Rattle.time_and_sales.proofs.RangesJoined.{flat_map_next}
+use Rattle.time_and_sales.proofs.SalesInRanges.{seen, seen_rise}
+use Rattle.time_and_sales.proofs.SortedByPlace.{place_of, places_rise}
 use Rattle.time_and_sales.proofs.ranges.range_of.Goals as goal
+
+pub within-requires : goal.within-requires
+within-requires c = places_rise _ c.items.ensures.by_place
 
 pub loop-listing-preserved : goal.loop-listing-preserved
 loop-listing-preserved c =
-    let p = is_in_first (λ (s : Sale). s.place) c.args.bounds.now in
-    range_more p c.args.listings.now c.loop-listing.listing-index c.listing-item.result (seen c.loop-listing.sales.items) (seen c.append.new.sales.items)
-    c.loop-listing-test.true c.listing-item.is c.loop-listing.invariant
-    (c.in_ok-append.ensures ∙ ap (λ l. seen c.loop-listing.sales.items ++ l) (c.within.ensures ∙ ap (filter p) c.items.ensures.value))
+    let p = is_in_first place_of c.args.bounds.now in
+    c.in_ok-append.ensures
+    ∙ ap₂ ◌++◌ c.loop-listing.invariant (c.within.ensures ∙ ap (filter p) (c.items.ensures.value ∙ ap (λ (l : Bor (List Sale)). l.now) c.listing-item.is))
+    ∙ sym (ap (filter p) (flat_map_next (λ (l : Bor (List Sale)). l.now) c.args.listings.now c.loop-listing.listing-index _ c.loop-listing-test.true)
+    ∙ filter-append p _ _)
 
 pub returns-clause-permutation : goal.returns-clause-permutation
 returns-clause-permutation c =
-    let p = is_in_first (λ (s : Sale). s.place) c.args.bounds.now in
-    let all = range_whole p c.args.listings.now c.loop-listing.listing-index (seen c.loop-listing.sales.items) c.loop-listing-test.false c.loop-listing.invariant in
-    subst (λ (l : List Sale). IsPermutation l (seen c.sort_by_key.new.self.items)) all
+    let now = λ (l : Bor (List Sale)). l.now in
+    let p = is_in_first place_of c.args.bounds.now in
+    let all = c.loop-listing.invariant
+    ∙ ap (λ l. filter p (flat_map now l)) (take_all c.loop-listing.listing-index c.args.listings.now c.loop-listing-test.false)
+    ∙ ap (filter p) (sym (flat_map-map (λ (l : List Sale). l) now c.args.listings.now)) in
+    subst (λ l. IsPermutation l (seen c.sort_by_key.new.self.items)) all
     (IsPermutation-map (λ (s : Bor Sale). s.now) c.loop-listing.sales.items c.sort_by_key.new.self.items c.sort_by_key.ensures.permutation)
 
-pub returns-clause-by_place : goal.returns-clause-by_place
-returns-clause-by_place c =
-    let p = is_in_first (λ (s : Sale). s.place) c.args.bounds.now in
-    let all = range_whole p c.args.listings.now c.loop-listing.listing-index (seen c.loop-listing.sales.items) c.loop-listing-test.false c.loop-listing.invariant in
-    sorted_by_place (seen c.loop-listing.sales.items) (seen c.sort_by_key.new.self.items)
-    (subst (λ (l : List Sale). IsDistinct eqb (map (λ (s : Sale). s.place) l)) (sym all) (some_apart p (listed c.args.listings.now) c.requires.apart))
-    (IsPermutation-map (λ (s : Bor Sale). s.now) c.loop-listing.sales.items c.sort_by_key.new.self.items c.sort_by_key.ensures.permutation)
-    (seen_rise c.sort_by_key.new.self.items
-    (IsNonDecreasingBy-from_sort_by_key (λ (sale : Bor Sale). sale.now.place) _ c.in_ok-sort_by_key.ensures.sorted (λ a r q k. search rules)))
+pub returns-clause-rise : goal.returns-clause-rise
+returns-clause-rise c =
+    seen_rise c.sort_by_key.new.self.items
+    (IsNonDecreasingBy-from_sort_by_key (λ (sale : Bor Sale). sale.now.place) _ c.in_ok-sort_by_key.ensures.sorted (λ a r q k. search rules))

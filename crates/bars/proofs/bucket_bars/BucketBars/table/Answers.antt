@@ -1,12 +1,13 @@
-use Rattle.std.proofs.Common.{sym, ap, ◌∙◌}
+use Rattle.std.proofs.Common.{ap, ◌∙◌, subst}
 use Rattle.std.proofs.lemmas.Result.{IfOk-weaker}
-use Rattle.bars.specs.Steps.{bars_of, bars_of_form}
+use Rattle.bars.specs.Bars.{AreBarsOf}
+use Rattle.bars.specs.Steps.{bars_of_form}
 use Rattle.bars.proofs.BarsOfSales.{table_is}
 use Rattle.bars.proofs.bucket_bars.BucketBars.table.Goals as goal
 
 pub returns-in-Sales : goal.returns-in-Sales
 returns-in-Sales c =
-    let width = c.in-Sales.width in
-    IfOk-weaker c.of_sales.result _ _
-    (λ table are. table_is width c.as_slice.result.now table are ∙ ap (bars_of width) c.as_slice.ensures.value ∙ sym (c.form.ensures.value ∙ ap bars_of_form c.in-Sales.is))
+    IfOk-weaker c.of_sales.result _ _ (λ table are.
+    rw (c.form.ensures.value ∙ ap bars_of_form c.in-Sales.is)
+    (table_is c.in-Sales.width _ table (subst (λ l. AreBarsOf c.in-Sales.width l table) c.as_slice.ensures.value are)))
     c.of_sales.ensures.bars
