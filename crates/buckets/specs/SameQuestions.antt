@@ -121,7 +121,7 @@ module _ {X : Type 0} (test : X → X → Bool) (one : (x y : X) → test x y �
   turned x y true false e f = sym (subst (λ z. test z x ≡ true) (one x y e) (itself x)) ∙ f
   turned x y false true e f = sym (sym (subst (λ z. test z y ≡ true) (one y x f) (itself y)) ∙ e)
 
-  equiv_from_test : IsEquivalence test
+  pub equiv_from_test : IsEquivalence test
   equiv_from_test = record {
     refl = itself;
     symm = λ x y. turned x y (test x y) (test y x) refl refl;

@@ -1,6 +1,7 @@
 pub mod JoinedPartitions
 pub mod MessagesOfPartition
 pub mod JoinedInPartitions
+pub mod ClassesOfRows
 mod SearchedRows
 mod PointNearby
 mod TakenRows

@@ -5,7 +5,9 @@
 #![tactic(auto)]
 
 mod behind;
+mod classes;
 mod lean;
+mod modulus;
 mod narrow;
 mod numbers;
 mod offsets;

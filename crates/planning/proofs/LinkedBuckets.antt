@@ -1,13 +1,17 @@
 -- The buckets that a plan has are those that the total is linked to.
-use Rattle.std.proofs.Common.{◌≡◌, ℕ, ◌≤◌, All, arith, List, [], ◌∷◌, ◌++◌, Option, flat_map, map, refl, sym, ap, ap₂, ◌∙◌, subst, ⊎_elim}
+use Rattle.std.proofs.Common.{◌≡◌, ℕ, ◌<◌, ◌≤◌, ◌*◌, ◌%◌, All, arith, List, [], ◌∷◌, ◌++◌, Option, Some, None, flat_map, length, map, refl, sym, ap}
+use Rattle.std.proofs.Common.{ap₂, ◌∙◌, subst, ⊎_elim}
 use Rattle.std.specs.Arc.{arc_value}
 use Rattle.std.specs.List.{concat}
+use Rattle.std.specs.Option.{IfSome}
 use Rattle.std.specs.declared.alloc.Global.{Global}
 use Rattle.std.specs.declared.sync.Arc.{Arc}
 use Rattle.std.proofs.lemmas.Bool.{cases_lt}
 use Rattle.std.proofs.lemmas.List.Elements.{All-cons, All-nil}
 use Rattle.std.proofs.lemmas.List.FromFn.{length-map-range_with_len}
+use Rattle.std.proofs.lemmas.Nat.{mul-le}
 use Rattle.lists.specs.Least.{numbers_below}
+use Rattle.lists.specs.declared.limits.TheConstants.{MOST_PARTITIONS, MOST_TASKS}
 use Rattle.day_file.specs.Cuts.{MorselView}
 use Rattle.day_file.specs.Frames.{PlacedBody, StandsFrom}
 use Rattle.day_file.specs.Kept.{numbered}
@@ -29,7 +33,8 @@ use Rattle.links.specs.Totals.{IsTotal}
 use Rattle.buckets.specs.BucketRows.{BucketView, bucket_of, planned_rows, rows_at}
 use Rattle.buckets.specs.Buckets.{AreNumbered}
 use Rattle.buckets.specs.declared.plan.Plan.{Plan}
-use Rattle.planning.specs.Planned.{all_breaks, all_directory, planned_bucket}
+use Rattle.planning.specs.Planned.{all_breaks, all_directory, each_bucket, planned_bucket, planned_buckets}
+use Rattle.planning.specs.declared.pieces.TheConstants.{MOST_PIECES}
 use Rattle.buckets.specs.Plans.{rising, selection_of}
 use Rattle.planning.proofs.MorselsOfCuts.{counted_in, input_of, partition_is}
 
@@ -61,29 +66,60 @@ pub planned_rows_are : (query : Meaning) (morsels : List MorselRowsView) (plan :
     → planned_rows number plan ≡ map (partition_at number) morsels
 planned_rows_are query morsels plan number is = rows_at_is number plan.rows.items ∙ ap (map (partition_at number)) is.rows
 
-pub buckets_are : (query : Meaning) (morsels : List MorselRowsView) (plan : Plan) (numbers : List ℕ) → IsPlanOf query morsels plan
-    → map (λ number. bucket_of number plan) numbers ≡ map (planned_bucket query morsels) numbers
-buckets_are query morsels plan [] is = refl
-buckets_are query morsels plan (n ∷ ns) is =
-    let rows = planned_rows_are query morsels plan n is in
-    let one : bucket_of n plan ≡ planned_bucket query morsels n =
-    λ i. record { number = n; rows = rows i; breaks = is.breaks i; selection = is.selection i; what = is.what i } in
-    ap₂ ◌∷◌ one (buckets_are query morsels plan ns is)
+pub buckets_are : (query : Meaning) (morsels : List MorselRowsView) (plan : Plan) (parts : ℕ) (pieces : Option ℕ) → IsPlanOf query morsels plan
+    → each_bucket (bucket_of plan) parts pieces ≡ planned_buckets query morsels parts pieces
+buckets_are query morsels plan parts pieces is = go pieces
+  where
+    one : (partition : ℕ) (modulus : Option ℕ) (number : ℕ) → bucket_of plan partition modulus number ≡ planned_bucket query morsels partition modulus number
+    one partition modulus number =
+        let rows = planned_rows_are query morsels plan partition is in
+        λ i. record {
+          number = number;
+          partition = partition;
+          modulus = modulus;
+          rows = rows i;
+          breaks = is.breaks i;
+          selection = is.selection i;
+          what = is.what i;
+        }
 
-numbers_are : (plan : Plan) (ns : List ℕ) → map (λ (bucket : BucketView). bucket.number) (map (λ number. bucket_of number plan) ns) ≡ ns
-numbers_are plan [] = refl
-numbers_are plan (n ∷ ns) = ap (λ l. n ∷ l) (numbers_are plan ns)
+    go : (pieces : Option ℕ) → each_bucket (bucket_of plan) parts pieces ≡ planned_buckets query morsels parts pieces
+    go None = λ i. map (λ number. one number None number i) (numbers_below parts)
+    go (Some pieces) = λ i. map (λ number. one (number % parts) (Some (parts * pieces)) number i) (numbers_below (parts * pieces))
 
-one_what : (plan : Plan) (ns : List ℕ) → All (λ (bucket : BucketView). bucket.what ≡ plan.what) (map (λ number. bucket_of number plan) ns)
-one_what plan [] = All-nil _
-one_what plan (n ∷ ns) = All-cons (λ (bucket : BucketView). bucket.what ≡ plan.what) (bucket_of n plan) _ refl (one_what plan ns)
+module _ (plan : Plan) (partition : ℕ → ℕ) (modulus : Option ℕ) where
+  abbrev made : ℕ → BucketView
+  made number = bucket_of plan (partition number) modulus number
 
-pub buckets_numbered : (plan : Plan) (n : ℕ) → AreNumbered (map (λ number. bucket_of number plan) (numbers_below n))
-buckets_numbered plan n = record {
-  numbers = numbers_are plan (numbers_below n) ∙ ap numbers_below (sym (length-map-range_with_len (λ number. bucket_of number plan) 0 n));
-  what = plan.what;
-  one = one_what plan (numbers_below n);
-}
+  numbers_are : (ns : List ℕ) → map (λ (bucket : BucketView). bucket.number) (map made ns) ≡ ns
+  numbers_are [] = refl
+  numbers_are (n ∷ ns) = ap (λ l. n ∷ l) (numbers_are ns)
+
+  one_what : (ns : List ℕ) → All (λ (bucket : BucketView). bucket.what ≡ plan.what) (map made ns)
+  one_what [] = All-nil _
+  one_what (n ∷ ns) = All-cons (λ (bucket : BucketView). bucket.what ≡ plan.what) (made n) _ refl (one_what ns)
+
+  numbered_below : (n : ℕ) → AreNumbered (map made (numbers_below n))
+  numbered_below n = record {
+    numbers = numbers_are (numbers_below n) ∙ ap numbers_below (sym (length-map-range_with_len made 0 n));
+    what = plan.what;
+    one = one_what (numbers_below n);
+  }
+
+pub buckets_numbered : (plan : Plan) (parts : ℕ) (pieces : Option ℕ) → AreNumbered (each_bucket (bucket_of plan) parts pieces)
+buckets_numbered plan parts None = numbered_below plan (λ number. number) None parts
+buckets_numbered plan parts (Some pieces) = numbered_below plan (λ number. number % parts) (Some (parts * pieces)) (parts * pieces)
+
+-- there are no more of them than a pipeline may have tasks
+pub few_buckets : {X : Type 0} (make : ℕ → Option ℕ → ℕ → X) (parts : ℕ) (pieces : Option ℕ) → parts ≤ MOST_PARTITIONS
+    → IfSome pieces (λ pieces. (0 < parts) × (0 < pieces) × (pieces ≤ MOST_PIECES)) → length (each_bucket make parts pieces) ≤ MOST_TASKS
+few_buckets make parts None few some = omega (arith, few, length-map-range_with_len (λ number. make number None number) 0 parts)
+few_buckets make parts (Some pieces) few some =
+    omega (
+      arith,
+      mul-le parts pieces MOST_PARTITIONS MOST_PIECES few some.2,
+      length-map-range_with_len (λ number. make (number % parts) (Some (parts * pieces)) number) 0 (parts * pieces),
+    )
 
 -- ---- the rows of one cut are by place
 

@@ -2,6 +2,7 @@
 #![tactic(auto)]
 
 mod link;
+mod pieces;
 mod plan;
 
 pub use buckets::DayNames;

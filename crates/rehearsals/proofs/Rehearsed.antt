@@ -1,6 +1,7 @@
 -- What the two pipelines give by their schedules is what a rehearsal gives.
-use Rattle.std.proofs.Common.{◌≡◌, ℕ, ◌<◌, List, Option, Some, None, MatchOption, Err, length, refl, sym, ap, ◌∙◌, subst, ◌⊎◌, inl, inr}
+use Rattle.std.proofs.Common.{◌≡◌, ℕ, ◌<◌, false, List, Option, Some, None, MatchOption, Err, length, refl, sym, ap, ◌∙◌, subst, ◌⊎◌, inl, inr}
 use Rattle.std.specs.declared.alloc.Global.{Global}
+use Rattle.std.proofs.lemmas.Bool.{both_ways}
 use Rattle.std.proofs.lemmas.List.{length-map}
 use Rattle.std.proofs.lemmas.List.FromFn.{length-map-range_with_len}
 use Rattle.row_types.specs.declared.directory.DirectoryRow.{DirectoryRow}
@@ -22,11 +23,11 @@ use Rattle.buckets.specs.BucketRows.{BucketView}
 use Rattle.buckets.specs.Buckets.{total_found}
 use Rattle.buckets.specs.FoundRows.{TotalView}
 use Rattle.joining.specs.Gathered.{AreGatheredOf}
-use Rattle.planning.specs.Planned.{LinkView, ToBuckets, all_directory, linked_to, planned_bucket}
+use Rattle.planning.specs.Planned.{IsLinkedTo, LinkView, ToBuckets, all_directory, linked_to, planned_bucket}
 use Rattle.rehearsals.specs.Rehearsals.{IsRehearsed}
 use Rattle.runs.specs.FirstPipeline.{AreRuns, wrong_fault}
 use Rattle.rehearsals.specs.declared.rehearsing.Rehearsal.TheVariants as rehearsal
-use Rattle.runs.proofs.CutAnswers.{answered_by, buckets, frames, gathered_by, halted_by, link, messages, right_frames, scan, stands, wrong_frame}
+use Rattle.runs.proofs.CutAnswers.{answered_by, buckets, frames, gathered_by, halted_by, messages, right_frames, scan, stands, wrong_frame}
 
 abbrev Pair : Type 0
 Pair = Rehearsed TotalView (List DirectoryRow) WrongLength
@@ -88,6 +89,11 @@ missing None None None pipeline task u l e = absurd (cc)
 
 -- ---- over a cut
 
+-- a link that divides no partition has one bucket of each
+undivided : (to : LinkView) (total : ScanTotalView) (l : ToBuckets) → to.divides ≡ false → IsLinkedTo to total l → l ≡ linked_to to None total
+undivided to total l whole (None, may, is) = is
+undivided to total l whole (Some pieces, may, is) = absurd (both_ways _ whole may.0)
+
 at_none : {T : Type 0} (o : Option T) (P : Type 0) (Q : T → Type 0) → o ≡ None → P → MatchOption o P Q
 at_none o P Q e p = subst (λ o. MatchOption o P Q) (sym e) p
 
@@ -99,23 +105,26 @@ module _ (runs : List (List ℕ)) (query : Meaning) (parts gatherers : ℕ) (eve
   scanned = scan runs query parts
 
   abbrev all_buckets : List BucketView
-  all_buckets = buckets runs query parts
+  all_buckets = buckets runs query parts None
+
+  abbrev link : LinkView
+  link = record { query = query; parts = parts; divides = false }
 
   -- what the pair gives
   abbrev pub given : Pair
   given = unless_missing 1 (first_left gatherers (length (inputs_of query.as_of parts runs)) events1)
-      (after_link total_found gatherers events2 (linked_to (link runs query parts) (total_of (inputs_of query.as_of parts runs))))
+      (after_link total_found gatherers events2 (linked_to link None (total_of (inputs_of query.as_of parts runs))))
 
-  pub given_by : (inputs : List ScanInputView) (to : LinkView) (r : Pair) → inputs ≡ inputs_of query.as_of parts runs → to ≡ link runs query parts
+  pub given_by : (inputs : List ScanInputView) (to : LinkView) (r : Pair) → inputs ≡ inputs_of query.as_of parts runs → to ≡ link
       → IsRehearsedPair (length inputs) (λ (first : ScanTotalView). first ≡ total_of inputs)
-      (λ (first : ScanTotalView) (l : ToBuckets). l ≡ linked_to to first) (λ (seconds : List BucketView) (t : TotalView). t ≡ total_found seconds)
+      (IsLinkedTo to) (λ (seconds : List BucketView) (t : TotalView). t ≡ total_found seconds)
       gatherers events1 events2 r
       → r ≡ given
   given_by inputs to r same linked is =
-      one_rehearsed (length inputs) _ _ _ gatherers events1 events2 (total_of inputs) (linked_to to) total_found
-      (λ f e. e) (λ f l e. e) (λ seconds t e. e) r is
+      one_rehearsed (length inputs) _ _ _ gatherers events1 events2 (total_of inputs) (linked_to to None) total_found
+      (λ f e. e) (λ f l e. undivided to f l (ap (λ (v : LinkView). v.divides) linked) e) (λ seconds t e. e) r is
       ∙ (λ i. unless_missing 1 (first_left gatherers (length (same i)) events1)
-      (after_link total_found gatherers events2 (linked_to (linked i) (total_of (same i)))))
+      (after_link total_found gatherers events2 (linked_to (linked i) None (total_of (same i)))))
 
   tasks : length (inputs_of query.as_of parts runs) ≡ length runs
   tasks =
@@ -126,17 +135,17 @@ module _ (runs : List (List ℕ)) (query : Meaning) (parts gatherers : ℕ) (eve
   found = pair.Finished (total_found all_buckets) (all_directory scanned.morsels)
 
   after : (wrong : Option WrongLength) → scanned.wrong ≡ wrong
-      → after_link total_found gatherers events2 (linked_to (link runs query parts) scanned)
+      → after_link total_found gatherers events2 (linked_to link None scanned)
       ≡ stopped_or wrong (unless_missing 2 (first_left gatherers (length all_buckets) events2) found)
   after (Some w) e =
-      ap (λ o. after_link total_found gatherers events2 (linked_to (link runs query parts) (record { morsels = scanned.morsels; wrong = o }))) e
+      ap (λ o. after_link total_found gatherers events2 (linked_to link None (record { morsels = scanned.morsels; wrong = o }))) e
   after None e =
-      ap (λ o. after_link total_found gatherers events2 (linked_to (link runs query parts) (record { morsels = scanned.morsels; wrong = o }))) e
+      ap (λ o. after_link total_found gatherers events2 (linked_to link None (record { morsels = scanned.morsels; wrong = o }))) e
 
   given_is : given ≡ unless_missing 1 (first_left gatherers (length runs) events1)
       (stopped_or scanned.wrong (unless_missing 2 (first_left gatherers parts events2) found))
   given_is =
-      let n : length all_buckets ≡ parts = length-map-range_with_len (planned_bucket query scanned.morsels) 0 parts in
+      let n : length all_buckets ≡ parts = length-map-range_with_len (λ number. planned_bucket query scanned.morsels number None number) 0 parts in
       (λ i. unless_missing 1 (first_left gatherers (tasks i) events1) (after scanned.wrong refl i))
       ∙ ap (λ k. unless_missing 1 (first_left gatherers (length runs) events1)
       (stopped_or scanned.wrong (unless_missing 2 (first_left gatherers k events2) found))) n
@@ -146,7 +155,7 @@ module _ (runs : List (List ℕ)) (query : Meaning) (parts gatherers : ℕ) (eve
       → AreGatheredOf query total kept (messages runs query parts)
   gathered total kept some e =
       let is = done _ _ _ _ _ _ _ (e ∙ given_is) in
-      gathered_by runs query parts are total kept some is.total is.kept
+      gathered_by runs query parts are total kept link None some tt is.total is.kept
 
   pub finished : (total : TotalView) (kept : List DirectoryRow) (answer : Answer Global) → pair.Finished total kept ≡ given
       → IsAnswerToMessages (messages runs query parts) query (told_by answer)

@@ -1,5 +1,5 @@
 -- What the two pipelines give on threads makes the answer.
-use Rattle.std.proofs.Common.{◌≡◌, ℕ, ◌<◌, List, Option, Some, None, Result, Err, refl, sym, ap, ◌∙◌}
+use Rattle.std.proofs.Common.{◌≡◌, ℕ, ◌<◌, List, Option, Some, None, Result, Err, refl, sym, subst, ap, ◌∙◌}
 use Rattle.std.specs.List.{concat}
 use Rattle.row_types.specs.declared.directory.DirectoryRow.{DirectoryRow}
 use Rattle.meaning.specs.Meaning.{Meaning}
@@ -8,16 +8,15 @@ use Rattle.outcomes.specs.declared.day_fault.DayFault.{DayFault}
 use Rattle.pipelines.specs.Outcomes.{IsOutcome, outcome_of}
 use Rattle.pipelines.specs.declared.outcome.Outcome.{Outcome}
 use Rattle.pipelines.specs.declared.outcome.Outcome.TheVariants as pair
-use Rattle.pipelines.proofs.OneOutcome.{one_outcome}
 use Rattle.scanning.specs.Scans.{ScanInputView, ScanTotalView, inputs_of, total_of}
 use Rattle.scanning.specs.declared.wrong.WrongLength.{WrongLength}
 use Rattle.buckets.specs.BucketRows.{BucketView}
 use Rattle.buckets.specs.Buckets.{total_found}
 use Rattle.buckets.specs.FoundRows.{TotalView}
 use Rattle.joining.specs.Gathered.{AreGatheredOf}
-use Rattle.planning.specs.Planned.{LinkView, ToBuckets, all_directory, linked_to}
-use Rattle.runs.specs.FirstPipeline.{AreRuns, wrong_fault}
-use Rattle.runs.proofs.CutAnswers.{answered_by, buckets, gathered_by, halted_by, link, messages, scan}
+use Rattle.planning.specs.Planned.{IsLinkedTo, LinkView, MayDivide, all_directory, linked_to}
+use Rattle.runs.specs.FirstPipeline.{AreRuns, IsOutcomeOf, link_of, wrong_fault}
+use Rattle.runs.proofs.CutAnswers.{answered_by, buckets, gathered_by, halted_by, messages, scan}
 
 abbrev Pair : Type 0
 Pair = Outcome TotalView (List DirectoryRow) WrongLength
@@ -25,7 +24,7 @@ Pair = Outcome TotalView (List DirectoryRow) WrongLength
 -- by this link a pair may give this for this total
 abbrev pub IsGiven : LinkView → ScanTotalView → Pair → Type 0
 IsGiven to total =
-    IsOutcome (λ (first : ScanTotalView). first ≡ total) (λ (first : ScanTotalView) (l : ToBuckets). l ≡ linked_to to first)
+    IsOutcome (λ (first : ScanTotalView). first ≡ total) (IsLinkedTo to)
     (λ (inputs : List BucketView) (t : TotalView). t ≡ total_found inputs)
 
 -- what comes after the first pipeline: its stop, or the second
@@ -51,49 +50,58 @@ stopped : (wrong : Option WrongLength) (stop : WrongLength) (u : TotalView) (l :
 stopped (Some w) stop u l e = let same : stop ≡ w = cc in ap Some (sym same)
 stopped None stop u l e = absurd (cc)
 
-module _ (runs : List (List ℕ)) (query : Meaning) (parts : ℕ) (are : AreRuns runs) where
-  abbrev scanned : ScanTotalView
-  scanned = scan runs query parts
+-- what a pair gives is what comes of what its link gave
+pub given_to : (link : LinkView) (total : ScanTotalView) (r : Pair) → IsGiven link total r
+    → (pieces : Option ℕ) × MayDivide link pieces × (r ≡ outcome_of total_found (linked_to link pieces total))
+given_to link total (pair.Finished t kept) (first, inputs, same, (pieces, may, is), found) =
+    (pieces, may, ap (λ t. pair.Finished t kept) found ∙ ap (outcome_of total_found) (is ∙ ap (linked_to link pieces) same))
+given_to link total (pair.Stopped stop) (first, same, (pieces, may, is)) =
+    (pieces, may, ap (outcome_of total_found) (is ∙ ap (linked_to link pieces) same))
 
-  -- what the pair gives
-  abbrev pub given : Pair
-  given = outcome_of total_found (linked_to (link runs query parts) (total_of (inputs_of query.as_of parts runs)))
-
-  pub given_of : (total : ScanTotalView) (to : LinkView) (r : Pair) → total ≡ total_of (inputs_of query.as_of parts runs) → to ≡ link runs query parts
-      → IsGiven to total r → r ≡ given
+module _ (runs : List (List ℕ)) (query : Meaning) (parts : ℕ) (some : 0 < parts) (are : AreRuns runs) where
+  pub given_of : (total : ScanTotalView) (to : LinkView) (r : Pair) → total ≡ total_of (inputs_of query.as_of parts runs) → to ≡ link_of query parts
+      → IsGiven to total r → IsOutcomeOf query r runs
   given_of total to r same linked is =
-      one_outcome _ _ _ total (linked_to to) total_found (λ f e. e) (λ f l e. e) (λ inputs t e. e) r is
-      ∙ (λ i. outcome_of total_found (linked_to (linked i) (same i)))
+      let (pieces, may, comes) = given_to (link_of query parts) (total_of (inputs_of query.as_of parts runs)) r
+      (subst (λ (t : ScanTotalView). IsGiven (link_of query parts) t r) same (subst (λ (l : LinkView). IsGiven l total r) linked is)) in
+      record { parts = parts; some = some; pieces = pieces; may = may; cut = are; is = comes }
 
-  pub given_by : (inputs : List ScanInputView) (to : LinkView) (r : Pair) → inputs ≡ inputs_of query.as_of parts runs → to ≡ link runs query parts
-      → IsGiven to (total_of inputs) r → r ≡ given
+  pub given_by : (inputs : List ScanInputView) (to : LinkView) (r : Pair) → inputs ≡ inputs_of query.as_of parts runs → to ≡ link_of query parts
+      → IsGiven to (total_of inputs) r → IsOutcomeOf query r runs
   given_by inputs to r same linked is = given_of (total_of inputs) to r (ap total_of same) linked is
 
-  abbrev found : Pair
-  found = pair.Finished (total_found (buckets runs query parts)) (all_directory scanned.morsels)
+module _ (runs : List (List ℕ)) (query : Meaning) (r : Pair) (of : IsOutcomeOf query r runs) where
+  abbrev scanned : ScanTotalView
+  scanned = scan runs query of.parts
 
-  given_is : given ≡ stopped_or scanned.wrong found
-  given_is = go scanned.wrong refl
+  abbrev found : Pair
+  found = pair.Finished (total_found (buckets runs query of.parts of.pieces)) (all_directory scanned.morsels)
+
+  -- what comes of a total
+  abbrev to : ScanTotalView → Pair
+  to total = outcome_of total_found (linked_to (link_of query of.parts) of.pieces total)
+
+  given_is : r ≡ stopped_or scanned.wrong found
+  given_is = of.is ∙ go scanned.wrong refl
     where
-      go : (wrong : Option WrongLength) → scanned.wrong ≡ wrong
-          → outcome_of total_found (linked_to (link runs query parts) scanned) ≡ stopped_or wrong found
-      go (Some w) e = ap (λ o. outcome_of total_found (linked_to (link runs query parts) (record { morsels = scanned.morsels; wrong = o }))) e
-      go None e = ap (λ o. outcome_of total_found (linked_to (link runs query parts) (record { morsels = scanned.morsels; wrong = o }))) e
+      go : (wrong : Option WrongLength) → scanned.wrong ≡ wrong → to scanned ≡ stopped_or wrong found
+      go (Some w) e = ap (λ o. to (record { morsels = scanned.morsels; wrong = o })) e
+      go None e = ap (λ o. to (record { morsels = scanned.morsels; wrong = o })) e
 
   -- no length is wrong
-  pub gathered : (total : TotalView) (kept : List DirectoryRow) → 0 < parts → pair.Finished total kept ≡ given
-      → AreGatheredOf query total kept (messages runs query parts)
-  gathered total kept some e =
-      let is = done _ _ _ _ _ (e ∙ given_is) in
-      gathered_by runs query parts are total kept some is.total is.kept
+  pub gathered : (total : TotalView) (kept : List DirectoryRow) → r ≡ pair.Finished total kept
+      → AreGatheredOf query total kept (messages runs query of.parts)
+  gathered total kept e =
+      let is = done _ _ _ _ _ (sym e ∙ given_is) in
+      gathered_by runs query of.parts of.cut total kept (link_of query of.parts) of.pieces of.some of.may is.total is.kept
 
-  pub finished : (total : TotalView) (kept : List DirectoryRow) (told : Result (List ℕ) DayFault) → pair.Finished total kept ≡ given
-      → IsAnswerToMessages (messages runs query parts) query told → IsAnswer (concat runs) query told
+  pub finished : (total : TotalView) (kept : List DirectoryRow) (told : Result (List ℕ) DayFault) → r ≡ pair.Finished total kept
+      → IsAnswerToMessages (messages runs query of.parts) query told → IsAnswer (concat runs) query told
   finished total kept told e answers =
-      let is = done _ _ _ _ _ (e ∙ given_is) in
-      answered_by runs query parts are told is.right answers
+      let is = done _ _ _ _ _ (sym e ∙ given_is) in
+      answered_by runs query of.parts of.cut told is.right answers
 
   -- a length is wrong
-  pub halted : (stop : WrongLength) (told : Result (List ℕ) DayFault) → pair.Stopped stop ≡ given → told ≡ Err (wrong_fault stop)
+  pub halted : (stop : WrongLength) (told : Result (List ℕ) DayFault) → r ≡ pair.Stopped stop → told ≡ Err (wrong_fault stop)
       → IsAnswer (concat runs) query told
-  halted stop told e is = halted_by runs query parts are stop told (stopped _ _ _ _ (e ∙ given_is)) is
+  halted stop told e is = halted_by runs query of.parts of.cut stop told (stopped _ _ _ _ (sym e ∙ given_is)) is

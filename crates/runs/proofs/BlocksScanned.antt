@@ -18,7 +18,7 @@ use Rattle.block_scan.specs.Pieces.{IsAskable}
 use Rattle.block_scan.specs.ScannedBlocks.{IsScannedWhole}
 use Rattle.block_scan.specs.declared.request.Request.{Request}
 use Rattle.block_scan.proofs.BlocksAndAttempts.{attempts_of_blocks}
-use Rattle.runs.specs.FirstPipeline.{AreRuns}
+use Rattle.runs.specs.FirstPipeline.{AreRuns, link_of}
 use Rattle.runs.specs.LinkedBlocks.{IsLinkedWhole, IsOutcomeOfBlocks, IsOutcomeOfWhole, LinksAttempts}
 use Rattle.runs.specs.declared.calls.block_link.BlocksStop.{BlocksStop}
 use Rattle.runs.specs.declared.calls.block_link.BlocksStop.TheVariants.{Refused, WrongLength}
@@ -33,23 +33,26 @@ module _ {S : Type 0} (GaveAt : S → ℕ → List ℕ → Type 0) (EndsAt : S �
       (asks : IsAskable request) where
     -- what a total of all that the source gave is linked to, and what comes of that
     whole : (linked : ToBuckets) (outcome : Outcome TotalView (List DirectoryRow) FoundWrong)
-        → IsLinkedWhole GaveAt EndsAt FailsAt source request (record { query = query; parts = request.parts }) linked
+        → IsLinkedWhole GaveAt EndsAt FailsAt source request (link_of query request.parts) linked
         → outcome ≡ outcome_of total_found linked → IsOutcomeOfWhole GaveAt EndsAt FailsAt source request.limit query outcome
     whole linked outcome w is =
-        let to = linked_to (record { query = query; parts = request.parts }) in
+        let (pieces, may, linked_is) = w.is in
+        let to = linked_to (link_of query request.parts) pieces in
         record {
           runs = w.whole.runs;
           gave = w.whole.gave;
           is = record {
             parts = request.parts;
             some = asks.some;
+            pieces = pieces;
+            may = may;
             cut = are_runs source request.limit request.as_of request.parts w.total w.whole asks.limit;
-            is = is ∙ ap (outcome_of total_found) (w.is ∙ ap to (rw (← same) w.whole.are));
+            is = is ∙ ap (outcome_of total_found) (linked_is ∙ ap to (rw (← same) w.whole.are));
           };
         }
 
     pub outcome_is : (count : ℕ) → 0 < count → (outcome : Outcome TotalView (List DirectoryRow) BlocksStop)
-        → IsOutcome (AreOf (blocks_of source request count)) (LinksAttempts GaveAt EndsAt FailsAt (record { query = query; parts = request.parts }))
+        → IsOutcome (AreOf (blocks_of source request count)) (LinksAttempts GaveAt EndsAt FailsAt (link_of query request.parts))
         (λ inputs total. total ≡ total_found inputs) outcome
         → IsOutcomeOfBlocks GaveAt EndsAt FailsAt source request.limit query outcome
     outcome_is count n (pair.Finished total kept) (first, inputs, are, links, found) =

@@ -1,8 +1,8 @@
 -- What both pipelines find over a cut makes the answer to the query over its file.
-use Rattle.std.proofs.Common.{◌≡◌, ℕ, ◌<◌, List, [], ◌∷◌, Option, Some, None, option_map, Result, Err, map, flat_map, refl, sym, ap, ◌∙◌, subst}
+use Rattle.std.proofs.Common.{◌≡◌, ℕ, ◌<◌, ◌*◌, List, [], ◌∷◌, Option, Some, None, option_map, Result, Err, map, flat_map, refl, sym, ap, ◌∙◌, subst}
 use Rattle.std.specs.List.{AllByRecursion, concat}
 use Rattle.std.proofs.lemmas.List.Elements.{All-append, All-nil, recursion_from_All}
-use Rattle.lists.specs.Least.{numbers_below}
+use Rattle.std.proofs.lemmas.Nat.{mul-lt}
 use Rattle.row_types.specs.declared.directory.DirectoryRow.{DirectoryRow}
 use Rattle.day_file.specs.Cuts.{AreBytes, MorselView}
 use Rattle.day_file.specs.Frames.{PlacedBody, StandsFor}
@@ -25,9 +25,9 @@ use Rattle.buckets.specs.BucketRows.{BucketView}
 use Rattle.buckets.specs.Buckets.{total_found}
 use Rattle.buckets.specs.FoundRows.{TotalView}
 use Rattle.joining.specs.Gathered.{AreGatheredOf}
-use Rattle.planning.specs.Planned.{LinkView, all_directory, planned_bucket}
+use Rattle.planning.specs.Planned.{LinkView, MayDivide, all_directory, planned_buckets}
 use Rattle.planning.proofs.MorselsOfCuts.{counted_in, directory_is, input_of, told_of, wrong_is}
-use Rattle.runs.proofs.TotalsOfCuts.{linked_total}
+use Rattle.runs.proofs.TotalsOfCuts.{linked_total, tasks_of}
 use Rattle.runs.specs.FirstPipeline.{AreRuns, wrong_fault}
 
 -- the bytes of runs joined
@@ -49,12 +49,9 @@ module _ (runs : List (List ℕ)) (query : Meaning) (parts : ℕ) where
   abbrev pub scan : ScanTotalView
   scan = total_of (map (input_of query.as_of parts) morsels)
 
-  -- the inputs of the second
-  abbrev pub buckets : List BucketView
-  buckets = map (planned_bucket query scan.morsels) (numbers_below parts)
-
-  abbrev pub link : LinkView
-  link = record { query = query; parts = parts }
+  -- the inputs of the second, if partitions are divided like this
+  abbrev pub buckets : Option ℕ → List BucketView
+  buckets pieces = planned_buckets query scan.morsels parts pieces
 
   pub right_frames : scan.wrong ≡ None → first_wrong frames ≡ None
   right_frames e = go (first_wrong frames) (sym (wrong_is query.as_of parts morsels) ∙ e)
@@ -76,17 +73,21 @@ module _ (runs : List (List ℕ)) (query : Meaning) (parts : ℕ) where
     stands = frames_of_cut runs are.each
 
     -- what all buckets found is what those of the messages have, and the names are those of their directory
-    pub gathered_by : (total : TotalView) (kept : List DirectoryRow) → 0 < parts → total ≡ total_found buckets → kept ≡ all_directory scan.morsels
-        → AreGatheredOf query total kept messages
-    gathered_by total kept some found names = record {
-      parts = parts;
-      some = some;
+    pub gathered_by : (total : TotalView) (kept : List DirectoryRow) (link : LinkView) (pieces : Option ℕ) → 0 < parts → MayDivide link pieces
+        → total ≡ total_found (buckets pieces) → kept ≡ all_directory scan.morsels → AreGatheredOf query total kept messages
+    gathered_by total kept link pieces some may found names = record {
+      parts = tasks_of parts pieces;
+      some = some_tasks pieces may;
       by_place = counted_by_place query.as_of (messages_of frames) (messages_by_place frames (places_rise 0 frames stands.places));
       few = few_trades query.as_of (concat runs) frames stands are.within;
       stamped = stamped_rows query.as_of (concat runs) frames (bytes_joined runs (recursion_from_All AreBytes runs are.bytes)) stands;
-      total_is = found ∙ linked_total query parts morsels;
+      total_is = found ∙ linked_total query parts morsels some pieces;
       names_are = names ∙ directory_is query.as_of parts morsels;
     }
+      where
+        some_tasks : (pieces : Option ℕ) → MayDivide link pieces → 0 < tasks_of parts pieces
+        some_tasks None may = some
+        some_tasks (Some pieces) may = mul-lt 0 0 parts pieces some may.1
 
     -- no length is wrong
     pub answered_by : (told : Result (List ℕ) DayFault) → scan.wrong ≡ None → IsAnswerToMessages messages query told → IsAnswer (concat runs) query told

@@ -16,7 +16,7 @@ use Rattle.scanning.specs.Scans.{ScanTotalView}
 use Rattle.scanning.specs.declared.wrong.WrongLength.{WrongLength as FoundWrong}
 use Rattle.buckets.specs.BucketRows.{BucketView}
 use Rattle.buckets.specs.FoundRows.{TotalView}
-use Rattle.planning.specs.Planned.{LinkView, linked_to}
+use Rattle.planning.specs.Planned.{IsLinkedTo, LinkView}
 use Rattle.block_scan.specs.Attempts.{AreAttemptsOf, AttemptView}
 use Rattle.block_scan.specs.Blocks.{GaveWhole, IsBlocksFault}
 use Rattle.block_scan.specs.ScannedBlocks.{IsScannedWhole}
@@ -34,7 +34,7 @@ module _ {S : Type 0} (GaveAt : S → ℕ → List ℕ → Type 0) (EndsAt : S �
       (linked : Linked (List BucketView) (List DirectoryRow) FoundWrong) : Type 0 where
     pub total : ScanTotalView
     pub whole : IsScannedWhole GaveAt EndsAt source request.limit request.as_of request.parts total
-    pub is : linked ≡ linked_to link total
+    pub is : IsLinkedTo link total linked
 
   -- what the attempts at all blocks are linked to: why the source gives no rows, or what a total of all it gave is
   abbrev pub IsLinked : S → Request → LinkView → Linked (List BucketView) (List DirectoryRow) BlocksStop → Type 0

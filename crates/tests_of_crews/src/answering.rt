@@ -19,7 +19,8 @@ pub const HEADER: &str = "time,symbol,kind,price,shares,number\n";
 /// The text, or the fault.
 pub type Told = Result<Vec<u8>, DayFault>;
 
-fn told_of(alloc: Global, answer: Answer) -> Result<Told, OutOfMemory> {
+/// What an answer tells.
+pub fn told_of(alloc: Global, answer: Answer) -> Result<Told, OutOfMemory> {
     match answer {
         Answer::Printed(text) => Ok(Ok(text.joined(alloc)?)),
         Answer::Faulty(fault) => Ok(Err(fault)),
@@ -49,7 +50,7 @@ pub enum Way {
 pub const WAYS: [Way; 2] = [Way::Morsels, Way::Blocks];
 
 /// A source of these bytes, to be shared.
-fn shared(alloc: Global, bytes: &[u8]) -> Result<Arc<Memory<'_>, Global>, OutOfMemory> {
+pub fn shared(alloc: Global, bytes: &[u8]) -> Result<Arc<Memory<'_>, Global>, OutOfMemory> {
     Ok(Arc::new(alloc, Memory { bytes })?)
 }
 

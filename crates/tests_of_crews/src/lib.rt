@@ -7,6 +7,8 @@ mod answering;
 #[cfg(test)]
 mod blocks;
 #[cfg(test)]
+mod divided;
+#[cfg(test)]
 mod gatherers;
 #[cfg(test)]
 mod refusals;

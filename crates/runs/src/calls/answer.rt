@@ -21,8 +21,8 @@ use std::thread::Threads;
 
 /// Answers a query over a cut day file on threads: by two pipelines, each with the crew's workers.
 /// The first has a task for each morsel; the second, which doesn't run if a wrong length was found,
-/// has one for each of `parts` partitions, from 1 to 256. Neither the crew nor the gate, the cut or
-/// the partitions change the answer.
+/// has one for each of `parts` partitions, from 1 to 256, or several for each if one is much larger than
+/// the others. Neither the crew nor the gate, the cut or the partitions change the answer.
 ///
 /// It waits for its threads. It is refused if memory was refused to the caller's thread.
 pub fn answer<G: Gate, R: Threads + Wait + Sync>(
@@ -39,7 +39,7 @@ pub fn answer<G: Gate, R: Threads + Wait + Sync>(
 {
     let scans = scan_inputs(alloc, cut, query.as_of, parts)?;
     let inputs = Arc::new(alloc, scans)?;
-    let link = PlanLink::new(query, parts);
+    let link = PlanLink::dividing(query, parts);
     let held = run_pair_holding(rt, alloc, inputs, &link, crew, gate)?;
     answer_of_held(rt, alloc, query, held, crew)
 }
@@ -59,7 +59,7 @@ pub(crate) fn answer_scans<R: Threads + Wait + Sync>(
         IsScanOf query.now.as_of parts total runs →
         IsAnswer (concat runs) query.now (told_by answer)) }
 {
-    let link = PlanLink::new(query, parts);
+    let link = PlanLink::dividing(query, parts);
     let held = run_second_holding(rt, alloc, total, &link, crew, &FreeGate)?;
     answer_of_held(rt, alloc, query, held, crew)
 }

@@ -1,6 +1,7 @@
 //! From what came of the blocks of a source to the buckets.
 ghost use Rattle.std.specs.Prelude.{◌≡◌, ◌<◌, ◌≤◌};
 ghost use Rattle.lists.specs.declared.limits.TheConstants.{MOST_PARTITIONS};
+ghost use Rattle.runs.specs.FirstPipeline.{link_of};
 ghost use Rattle.runs.specs.LinkedBlocks.{LinksAttempts};
 
 use crate::OutOfMemory;
@@ -38,13 +39,13 @@ impl<'a> Model for BlockLink<'a> {
 }
 
 impl<'a> BlockLink<'a> {
-    /// The link of a query to `parts` buckets.
+    /// The link of a query to `parts` buckets, or several times as many.
     pub fn new(query: &'a Query, parts: u32) -> Self
         requires { parts ≤ MOST_PARTITIONS }
-        ensures { result ≡ record { query = query.now; parts = parts } }
+        ensures { result ≡ link_of query.now parts }
     {
         BlockLink {
-            plan: PlanLink::new(query, parts),
+            plan: PlanLink::dividing(query, parts),
         }
     }
 }

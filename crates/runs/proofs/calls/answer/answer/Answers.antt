@@ -17,13 +17,8 @@ answer_of_held-requires-clause-outcome g c lifetimes within =
     } in
     let are = c.in_ok-scans.ensures.inputs ∙ ap (λ (m : Meaning). inputs_of m.as_of c.args.parts runs) c.query.view_is in (
       runs,
-      record {
-        parts = c.args.parts;
-        some = c.requires.parts.0;
-        cut = cut;
-        is = given_by runs c.args.query.now c.args.parts cut (arc_value c.in_ok-inputs.inputs) c.new-link.result c.in_ok-held.held.outcome
-            (c.in_ok-inputs.ensures.ok ∙ are) c.new-link.ensures c.in_ok-held.ensures;
-      },
+      given_by runs c.args.query.now c.args.parts c.requires.parts.0 cut (arc_value c.in_ok-inputs.inputs) c.dividing-link.result
+          c.in_ok-held.held.outcome (c.in_ok-inputs.ensures.ok ∙ are) c.dividing-link.ensures c.in_ok-held.ensures,
     )
 
 pub returns : goal.returns
@@ -37,11 +32,6 @@ returns g c =
     let are = c.in_ok-scans.ensures.inputs ∙ ap (λ (m : Meaning). inputs_of m.as_of c.args.parts runs) c.query.view_is in
     on_ok c.answer_of_held.result _ _
     (λ answer is.
-    is runs (record {
-      parts = c.args.parts;
-      some = c.requires.parts.0;
-      cut = cut;
-      is = given_by runs c.args.query.now c.args.parts cut (arc_value c.in_ok-inputs.inputs) c.new-link.result c.in_ok-held.held.outcome
-          (c.in_ok-inputs.ensures.ok ∙ are) c.new-link.ensures c.in_ok-held.ensures;
-    }))
+    is runs (given_by runs c.args.query.now c.args.parts c.requires.parts.0 cut (arc_value c.in_ok-inputs.inputs) c.dividing-link.result
+    c.in_ok-held.held.outcome (c.in_ok-inputs.ensures.ok ∙ are) c.dividing-link.ensures c.in_ok-held.ensures))
     c.answer_of_held.ensures

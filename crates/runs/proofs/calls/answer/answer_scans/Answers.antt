@@ -28,24 +28,14 @@ answer_of_held-requires-clause-outcome g c lifetimes within =
     let runs = c.requires.total.0 in
     let of = c.requires.total.1 in (
       runs,
-      record {
-        parts = c.args.parts;
-        some = c.requires.parts.0;
-        cut = of.cut;
-        is = given_of runs c.args.query.now c.args.parts of.cut c.args.total c.new-link.result c.in_ok-held.held.outcome of.is c.new-link.ensures
-            c.in_ok-held.ensures;
-      },
+      given_of runs c.args.query.now c.args.parts c.requires.parts.0 of.cut c.args.total c.dividing-link.result c.in_ok-held.held.outcome of.is
+          c.dividing-link.ensures c.in_ok-held.ensures,
     )
 
 pub returns : goal.returns
 returns g c =
     on_ok c.answer_of_held.result _ _
     (λ answer is runs of.
-    is runs (record {
-      parts = c.args.parts;
-      some = c.requires.parts.0;
-      cut = of.cut;
-      is = given_of runs c.args.query.now c.args.parts of.cut c.args.total c.new-link.result c.in_ok-held.held.outcome of.is c.new-link.ensures
-          c.in_ok-held.ensures;
-    }))
+    is runs (given_of runs c.args.query.now c.args.parts c.requires.parts.0 of.cut c.args.total c.dividing-link.result c.in_ok-held.held.outcome of.is
+    c.dividing-link.ensures c.in_ok-held.ensures))
     c.answer_of_held.ensures

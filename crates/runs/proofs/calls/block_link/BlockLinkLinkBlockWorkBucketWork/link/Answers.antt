@@ -1,5 +1,5 @@
-use Rattle.std.proofs.Common.{◌∙◌, ap, sym}
-use Rattle.planning.specs.Planned.{linked_to}
+use Rattle.std.proofs.Common.{subst}
+use Rattle.planning.specs.Planned.{IsLinkedTo}
 use Rattle.block_scan.proofs.BlocksAndAttempts.{attempts_of}
 use Rattle.runs.proofs.BlocksScanned.{of_one_cut}
 use Rattle.runs.proofs.calls.block_link.BlockLinkLinkBlockWorkBucketWork.link.Goals as goal
@@ -19,5 +19,5 @@ pub returns-in-Next : goal.returns-in-Next
 returns-in-Next g c source request are = record {
   total = c.in-Ok.scans;
   whole = c.in-Ok.ensures.scanned source request are;
-  is = sym c.in-Next.is ∙ c.in_ok-inputs.ensures ∙ ap (λ to. linked_to to c.in-Ok.scans) c.self.view_is;
+  is = subst (IsLinkedTo c.args.self.now c.in-Ok.scans) c.in-Next.is (subst (λ to. IsLinkedTo to c.in-Ok.scans c.in_ok-inputs.field-0) c.self.view_is c.in_ok-inputs.ensures);
 }

@@ -1,0 +1,163 @@
+//! A day whose orders are all in one partition, so that several tasks share its work.
+ghost use Rattle.std.specs.Prelude.{◌<◌, ◌≤◌};
+ghost use Rattle.lists.specs.declared.limits.TheConstants.{MOST_PARTITIONS};
+
+use crate::answering::{Told, shared, told_of};
+use day_file::{Cut, cut};
+use executor::{
+    Crew, DayFile, Division, FreeGate, Gate, LONGEST_FILE, OutOfMemory, Query, Settings, answer,
+    answer_blocks, parse, plain,
+};
+use std::alloc::Global;
+use std::process::Abort;
+use std::sync::Wait;
+use std::test::Fail;
+use std::thread::Threads;
+use tests_gates::Counter;
+use tests_support::{Day, Form, file_of};
+
+/// How many orders the day has: a partition of fewer isn't divided.
+const ORDERS: u64 = 66_000;
+
+/// What its references are multiples of, to be in one of 64 partitions, and in one of 256.
+const ONE_PARTITION: u64 = 256;
+
+/// The same, and what leaves no remainder by 7, 11 and 13 either.
+const ONE_CLASS: u64 = 256 * 7 * 11 * 13;
+
+/// A reference of the day.
+fn reference(number: u64, apart: u64) -> u64 {
+    (number.wrapping_mul(7_919) % ORDERS).wrapping_mul(apart)
+}
+
+/// Orders whose references are multiples of a number, in no order; executions of some, and sales with a price of
+/// their own.
+fn frames(alloc: Global, apart: u64) -> Result<Vec<Form>, OutOfMemory> {
+    let mut forms = Vec::new(alloc);
+    for number in 0..ORDERS {
+        forms.push(Form::A(reference(number, apart), 4_000_000 + number as u32 % 500))?;
+    }
+    for number in 0..500u64 {
+        forms.push(Form::E(reference(number * 131, apart), 100, 2 * number))?;
+        forms.push(Form::P(40, 4_100_000 + number as u32, 2 * number + 1))?;
+    }
+    forms.push(Form::B(262))?;
+    Ok(forms)
+}
+
+/// The day of these frames.
+fn day_of(alloc: Global, forms: &[Form]) -> Result<DayFile, Fail> {
+    file_of(Day::of(alloc, forms)?.bytes)
+}
+
+/// One worker, or several.
+fn crew_of(workers: u32) -> Crew {
+    Crew {
+        workers: workers.clamp(1, 64),
+        gatherers: 1,
+    }
+}
+
+/// What two pipelines over a cut tell.
+fn told_by_cut<G: Gate, R: Threads + Wait + Sync>(
+    rt: &R,
+    alloc: Global,
+    cut: &Cut,
+    query: &Query,
+    parts: u32,
+    workers: u32,
+    gate: &G,
+) -> Result<Told, OutOfMemory>
+    requires { (0 < parts) × (parts ≤ MOST_PARTITIONS) }
+{
+    let found = answer(rt, alloc, cut, query, parts, crew_of(workers), gate)?;
+    told_of(alloc, found)
+}
+
+/// What two pipelines over a source that is read at places tell.
+fn told_by_blocks<R: Threads + Wait + Sync>(
+    rt: &R,
+    alloc: Global,
+    bytes: &[u8],
+    query: &Query,
+    parts: u32,
+    workers: u32,
+) -> Result<Told, Fail>
+    requires { (0 < parts) × (parts ≤ MOST_PARTITIONS) }
+{
+    let source = shared(alloc, bytes)?;
+    let crew = crew_of(workers);
+    let division = Division::of(bytes.len() as u64, crew.workers);
+    let settings = Settings {
+        crew,
+        morsel: 1,
+        parts,
+        limit: LONGEST_FILE,
+    };
+    let found = answer_blocks(rt, alloc, &source, division, query, settings, &FreeGate)?;
+    Ok(told_of(alloc, found)?)
+}
+
+/// Each way, with each number of partitions and of workers, tells of a day what `plain` tells.
+fn is_told_alike<R: Threads + Wait + Abort + Sync>(
+    rt: &R,
+    alloc: Global,
+    text: &str,
+    forms: &[Form],
+) -> Result<(), Fail> {
+    let query = parse(alloc, text)?;
+    let day = day_of(alloc, forms)?;
+    let want = told_of(alloc, plain(alloc, &day, &query)?)?;
+    let cut = cut(alloc, &day, 500_000)?;
+    for (parts, workers) in [(1, 2), (64, 1), (64, 4), (256, 2)] {
+        let told = told_by_cut(rt, alloc, &cut, &query, parts, workers, &FreeGate)?;
+        assert!(rt; told == want, "{text} {parts} {workers}");
+        let told = told_by_blocks(rt, alloc, day.bytes(), &query, parts, workers)?;
+        assert!(rt; told == want, "{text} {parts} {workers}");
+    }
+    Ok(())
+}
+
+#[test]
+fn divided_partitions_are_answered_as_one(rt: HostRuntime) -> Result<(), Fail> {
+    for (apart, query) in [
+        (ONE_PARTITION, "sales"),
+        (ONE_PARTITION, "bars 1 m"),
+        (ONE_CLASS, "sales"),
+    ] {
+        is_told_alike(&rt, rt.alloc(), query, &frames(rt.alloc(), apart)?)?;
+    }
+    Ok(())
+}
+
+#[test]
+fn faults_of_divided_partitions_are_told(rt: HostRuntime) -> Result<(), Fail> {
+    let mut forms = frames(rt.alloc(), ONE_PARTITION)?;
+    forms.push(Form::E(ORDERS * ONE_PARTITION, 100, 4_000))?;
+    forms.push(Form::E((ORDERS + 1) * ONE_PARTITION, 100, 4_002))?;
+    is_told_alike(&rt, rt.alloc(), "bars 1 m", &forms)?;
+    forms.push(Form::A(9 * ONE_PARTITION, 4_000_000))?;
+    forms.push(Form::A(8 * ONE_PARTITION, 4_000_000))?;
+    is_told_alike(&rt, rt.alloc(), "sales", &forms)
+}
+
+/// How many tasks there are, each of which one worker runs once.
+#[test]
+fn a_large_partition_is_divided(rt: HostRuntime) -> Result<(), Fail> {
+    let query = parse(rt.alloc(), "bars 1 m")?;
+    for (apart, parts, tasks) in [
+        (ONE_PARTITION, 64, 64 * 7),
+        (ONE_PARTITION, 256, 256 * 7),
+        (ONE_CLASS, 64, 64 * 9),
+        (ONE_CLASS, 256, 256 * 9),
+        (ONE_PARTITION, 1, 1),
+        (1, 64, 64),
+    ] {
+        let day = day_of(rt.alloc(), &frames(rt.alloc(), apart)?)?;
+        let cut = cut(rt.alloc(), &day, 500_000)?;
+        let gate = Counter::new(rt.alloc(), cut.count(), tasks)?;
+        let told = told_by_cut(&rt, rt.alloc(), &cut, &query, parts, 1, &gate)?;
+        assert!(rt; told.is_ok() && gate.is_each_run_once(), "{apart} {parts}");
+    }
+    Ok(())
+}
