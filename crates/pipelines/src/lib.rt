@@ -13,5 +13,5 @@ pub use crew_threads::{Crew, FreeGate, Gate, Port, work};
 pub use dispatcher::{Dispatcher, Seat};
 pub use gathering::{Gathering, Inputs, OutOfMemory, Piece, Work};
 pub use links::{Link, Linked};
-pub use outcome::{Held, Outcome};
-pub use pair::{run_first, run_pair, run_pair_holding, run_second, run_second_holding};
+pub use outcome::Outcome;
+pub use pair::{run_first, run_pair, run_second};

@@ -4,7 +4,7 @@ ghost use Rattle.std.specs.Arc.{arc_value};
 ghost use Rattle.links.specs.Totals.{IsTotal};
 ghost use Rattle.pipelines.specs.Outcomes.{IsOutcome};
 
-use crate::outcome::{Held, Outcome};
+use crate::outcome::Outcome;
 use crew_threads::{Crew, Gate, run_pipeline};
 use gathering::{Inputs, OutOfMemory, Work};
 use links::{Link, Linked};
@@ -35,34 +35,15 @@ pub fn run_pair<A: Work, B: Work, L: Link<A, B>, G: Gate, R: Threads + Wait + Sy
 ) -> Result<Outcome<B::Total, L::Kept, L::Stop>, OutOfMemory>
     ensures { IfOk result (IsOutcome (A.IsTotalOf (arc_value inputs)) (L.Links link.now) B.IsTotalOf) }
 {
-    let held: Held<B, L::Kept, L::Stop> = run_pair_holding(rt, alloc, inputs, link, crew, gate)?;
-    Ok(held.outcome)
-}
-
-/// Runs both pipelines as `run_pair` does. The inputs of the second one, if it runs, aren't let go with its
-/// total, so that the caller can have them freed by another thread.
-pub fn run_pair_holding<A: Work, B: Work, L: Link<A, B>, G: Gate, R: Threads + Wait + Sync>(
-    rt: &R,
-    alloc: Global,
-    inputs: Arc<Inputs<A>, Global>,
-    link: &L,
-    crew: Crew,
-    gate: &G,
-) -> Result<Held<B, L::Kept, L::Stop>, OutOfMemory>
-    ensures { IfOk result (λ held.
-        IsOutcome (A.IsTotalOf (arc_value inputs)) (L.Links link.now) B.IsTotalOf held.outcome) }
-{
-    // (of a scope's closure what it captures has to name the types that it gives)
-    let none: Option<Arc<Inputs<B>, Global>> = None;
     thread::scope(
         thread::scope_env(),
         rt,
-        move |scope| -> Result<Held<B, L::Kept, L::Stop>, OutOfMemory>
-            ensures { IfOk result (λ held.
-                IsOutcome (A.IsTotalOf (arc_value inputs)) (L.Links link.entry.now) B.IsTotalOf held.outcome) }
+        move |scope| -> Result<Outcome<B::Total, L::Kept, L::Stop>, OutOfMemory>
+            ensures { IfOk result
+                (IsOutcome (A.IsTotalOf (arc_value inputs)) (L.Links link.entry.now) B.IsTotalOf) }
         {
             let total = run_pipeline(scope, rt, alloc, inputs, crew, gate, 1)?;
-            go_on(scope, rt, alloc, total, link, crew, gate, none)
+            go_on(scope, rt, alloc, total, link, crew, gate)
         },
     )
 }
@@ -104,32 +85,13 @@ pub fn run_second<A: Work, B: Work, L: Link<A, B>, G: Gate, R: Threads + Wait + 
     requires total { IsTotal A.IsTotalOf A.IsAdmissible total }
     ensures outcome { IfOk result (IsOutcome (λ first. first ≡ total) (L.Links link.now) B.IsTotalOf) }
 {
-    let held: Held<B, L::Kept, L::Stop> = run_second_holding(rt, alloc, total, link, crew, gate)?;
-    Ok(held.outcome)
-}
-
-/// Runs the second pipeline alone as `run_second` does, and holds its inputs as `run_pair_holding` does.
-pub fn run_second_holding<A: Work, B: Work, L: Link<A, B>, G: Gate, R: Threads + Wait + Sync>(
-    rt: &R,
-    alloc: Global,
-    total: A::Total,
-    link: &L,
-    crew: Crew,
-    gate: &G,
-) -> Result<Held<B, L::Kept, L::Stop>, OutOfMemory>
-    requires total { IsTotal A.IsTotalOf A.IsAdmissible total }
-    ensures { IfOk result (λ held. IsOutcome (λ first. first ≡ total) (L.Links link.now) B.IsTotalOf held.outcome) }
-{
-    // (of a scope's closure what it captures has to name the types that it gives)
-    let none: Option<Arc<Inputs<B>, Global>> = None;
     thread::scope(
         thread::scope_env(),
         rt,
-        move |scope| -> Result<Held<B, L::Kept, L::Stop>, OutOfMemory>
+        move |scope| -> Result<Outcome<B::Total, L::Kept, L::Stop>, OutOfMemory>
             requires { IsTotal A.IsTotalOf A.IsAdmissible total }
-            ensures { IfOk result (λ held.
-                IsOutcome (λ first. first ≡ total) (L.Links link.entry.now) B.IsTotalOf held.outcome) }
-        { go_on(scope, rt, alloc, total, link, crew, gate, none) },
+            ensures { IfOk result (IsOutcome (λ first. first ≡ total) (L.Links link.entry.now) B.IsTotalOf) }
+        { go_on(scope, rt, alloc, total, link, crew, gate) },
     )
 }
 
@@ -142,24 +104,16 @@ fn go_on<'s, E, A: Work, B: Work + 's, L: Link<A, B>, G: Gate, R: Threads + Wait
     link: &L,
     crew: Crew,
     gate: &'s G,
-    none: Option<Arc<Inputs<B>, Global>>,
-) -> Result<Held<B, L::Kept, L::Stop>, OutOfMemory>
+) -> Result<Outcome<B::Total, L::Kept, L::Stop>, OutOfMemory>
     requires { IsTotal A.IsTotalOf A.IsAdmissible total }
-    ensures { IfOk result (λ held. IsOutcome (λ first. first ≡ total) (L.Links link.now) B.IsTotalOf held.outcome) }
+    ensures { IfOk result (IsOutcome (λ first. first ≡ total) (L.Links link.now) B.IsTotalOf) }
 {
     match link.link(alloc, total)? {
-        Linked::Halt { stop } => Ok(Held {
-            outcome: Outcome::Stopped { stop },
-            inputs: none,
-        }),
+        Linked::Halt { stop } => Ok(Outcome::Stopped { stop }),
         Linked::Next { inputs, kept } => {
             let inputs = Arc::new(alloc, inputs)?;
-            let shared = Arc::try_clone(&inputs)?;
-            let total = run_pipeline(scope, rt, alloc, shared, crew, gate, 2)?;
-            Ok(Held {
-                outcome: Outcome::Finished { total, kept },
-                inputs: Some(inputs),
-            })
+            let total = run_pipeline(scope, rt, alloc, inputs, crew, gate, 2)?;
+            Ok(Outcome::Finished { total, kept })
         }
     }
 }

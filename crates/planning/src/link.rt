@@ -8,6 +8,7 @@ ghost use Rattle.planning.specs.declared.pieces.TheConstants.{MOST_PIECES};
 ghost use Rattle.planning.specs.Planned.{IsLinkedTo, IsNext, MayDivide};
 
 use crate::OutOfMemory;
+use crate::kept::DayPlan;
 use crate::pieces::pieces_of;
 use crate::plan::{buckets_of, directory_of, plan};
 use buckets::{BucketWork, DayNames};
@@ -86,12 +87,12 @@ impl<'a> PlanLink<'a> {
         }
     }
 
-    /// The buckets of the rows of all morsels, and the names.
+    /// The buckets of the rows of all morsels, and the names and the plan.
     fn go_on(
         &self,
         alloc: Global,
         morsels: Vec<Arc<MorselRows, Global>>,
-    ) -> Result<Linked<Inputs<BucketWork>, DayNames, WrongLength>, OutOfMemory>
+    ) -> Result<Linked<Inputs<BucketWork>, DayPlan, WrongLength>, OutOfMemory>
         requires { (number : ℕ) → AreRowsByPlace
             (joined_partitions (map (partition_at number) (map arc_value morsels.items))) }
         ensures { IfOk result (IsNext self.now (map arc_value morsels.items)) }
@@ -102,13 +103,13 @@ impl<'a> PlanLink<'a> {
         let inputs = Inputs::of(buckets_of(alloc, &plan, self.parts, pieces)?);
         Ok(Linked::Next {
             inputs,
-            kept: names,
+            kept: DayPlan { names, plan },
         })
     }
 }
 
 impl<'a> Link<ScanWork, BucketWork> for PlanLink<'a> {
-    type Kept = DayNames;
+    type Kept = DayPlan;
 
     type Stop = WrongLength;
 
@@ -118,7 +119,7 @@ impl<'a> Link<ScanWork, BucketWork> for PlanLink<'a> {
         &self,
         alloc: Global,
         total: ScanTotal,
-    ) -> Result<Linked<Inputs<BucketWork>, DayNames, WrongLength>, OutOfMemory> {
+    ) -> Result<Linked<Inputs<BucketWork>, DayPlan, WrongLength>, OutOfMemory> {
         match total.wrong() {
             Some(stop) => Ok(Linked::Halt { stop }),
             None => self.go_on(alloc, total.into_rows()),

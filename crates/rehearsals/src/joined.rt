@@ -12,9 +12,10 @@ ghost use Rattle.joining.specs.Gathered.{AreGatheredOf, AreProductsOf, IsTextOfA
 use crate::OutOfMemory;
 use answers::{Answer, Text, text_of_bars, text_of_sales};
 use bars::{BarTable, BucketBars};
-use buckets::{BucketTotal, DayNames, Product};
+use buckets::{BucketTotal, Product};
 use joining::{fault_of, tables};
 use meaning::{Query, What};
+use planning::DayPlan;
 use std::alloc::Global;
 use std::sync::Arc;
 use time_and_sales::{Listing, Names};
@@ -25,16 +26,16 @@ pub(crate) fn answer_of(
     alloc: Global,
     query: &Query,
     total: BucketTotal,
-    names: &DayNames,
+    kept: &DayPlan,
 ) -> Result<Answer, OutOfMemory>
-    requires { (messages : List Placed) × AreGatheredOf query.now total names.now messages }
-    ensures { IfOk result (λ answer. (messages : List Placed) → AreGatheredOf query.now total names.now messages →
+    requires { (messages : List Placed) × AreGatheredOf query.now total kept.now messages }
+    ensures { IfOk result (λ answer. (messages : List Placed) → AreGatheredOf query.now total kept.now messages →
         IsAnswerToMessages messages query.now (told_by answer)) }
 {
     match fault_of(&total) {
         Some(fault) => Ok(Answer::Faulty(fault)),
         None => {
-            let text = text_of(alloc, query.what, total.into_products(), names.names())?;
+            let text = text_of(alloc, query.what, total.into_products(), kept.names.names())?;
             Ok(Answer::Printed(text))
         }
     }

@@ -1,17 +1,19 @@
 ghost use Rattle.std.specs.Prelude.{ℕ, List, ◌<◌, ◌≤◌, IfOk};
 ghost use Rattle.std.specs.List.{concat};
 ghost use Rattle.lists.specs.declared.limits.TheConstants.{MOST_PARTITIONS};
-ghost use Rattle.answers.specs.Answers.{IsAnswer, told_by};
+ghost use Rattle.answers.specs.Answers.{IsAnswer, IsAnswerToMessages, told_by};
+ghost use Rattle.day_rows.specs.Messages.{Placed};
+ghost use Rattle.joining.specs.Gathered.{AreGatheredOf};
 ghost use Rattle.runs.specs.FirstPipeline.{IsOutcomeOf, IsScanOf};
 
 use crate::OutOfMemory;
 use crate::calls::first_pipeline::told_of;
 use answers::Answer;
-use buckets::{BucketWork, DayNames};
+use buckets::BucketTotal;
 use day_file::Cut;
 use joining::answer_in_ranges;
-use pipelines::{Crew, FreeGate, Gate, Held, Outcome, run_pair_holding, run_second_holding};
-use planning::PlanLink;
+use pipelines::{Crew, FreeGate, Gate, Outcome, run_pair, run_second};
+use planning::{DayPlan, PlanLink};
 use query::Query;
 use scanning::{ScanTotal, WrongLength, scan_inputs};
 use std::alloc::Global;
@@ -40,8 +42,8 @@ pub fn answer<G: Gate, R: Threads + Wait + Sync>(
     let scans = scan_inputs(alloc, cut, query.as_of, parts)?;
     let inputs = Arc::new(alloc, scans)?;
     let link = PlanLink::dividing(query, parts);
-    let held = run_pair_holding(rt, alloc, inputs, &link, crew, gate)?;
-    answer_of_held(rt, alloc, query, held, crew)
+    let outcome = run_pair(rt, alloc, inputs, &link, crew, gate)?;
+    answer_of_outcome(rt, alloc, query, outcome, crew)
 }
 
 /// The answer that the total of the scans of a whole file gives. The second pipeline runs alone.
@@ -60,34 +62,48 @@ pub(crate) fn answer_scans<R: Threads + Wait + Sync>(
         IsAnswer (concat runs) query.now (told_by answer)) }
 {
     let link = PlanLink::dividing(query, parts);
-    let held = run_second_holding(rt, alloc, total, &link, crew, &FreeGate)?;
-    answer_of_held(rt, alloc, query, held, crew)
+    let outcome = run_second(rt, alloc, total, &link, crew, &FreeGate)?;
+    answer_of_outcome(rt, alloc, query, outcome, crew)
 }
 
-/// The answer that the outcome of both pipelines gives. As many threads as the crew has workers make its
-/// text. Meanwhile another one frees what the scans found, or the caller does first if none can be made.
-pub(crate) fn answer_of_held<R: Threads + Sync>(
+/// The answer that the outcome of both pipelines gives.
+pub(crate) fn answer_of_outcome<R: Threads + Sync>(
     rt: &R,
     alloc: Global,
     query: &Query,
-    held: Held<BucketWork, DayNames, WrongLength>,
+    outcome: Outcome<BucketTotal, DayPlan, WrongLength>,
     crew: Crew,
 ) -> Result<Answer, OutOfMemory>
-    requires outcome { (runs : List (List ℕ)) × IsOutcomeOf query.now held.outcome runs }
-    ensures { IfOk result (λ answer. (runs : List (List ℕ)) → IsOutcomeOf query.now held.outcome runs →
+    requires outcome { (runs : List (List ℕ)) × IsOutcomeOf query.now outcome runs }
+    ensures { IfOk result (λ answer. (runs : List (List ℕ)) → IsOutcomeOf query.now outcome runs →
         IsAnswer (concat runs) query.now (told_by answer)) }
 {
-    let Held { outcome, inputs } = held;
     match outcome {
-        Outcome::Finished { total, kept } => {
-            // (without a thread, what it was to free is let go with the error)
-            let freeing = thread::spawn(rt, move || drop(inputs)).ok();
-            let answer = answer_in_ranges(rt, alloc, query, total, &kept, crew.workers);
-            if let Some(freeing) = freeing {
-                freeing.join(rt);
-            }
-            answer
-        }
+        Outcome::Finished { total, kept } => answer_of_total(rt, alloc, query, total, kept, crew),
         Outcome::Stopped { stop } => Ok(told_of(stop)),
     }
+}
+
+/// The answer that the total of all buckets gives. As many threads as the crew has workers make its text.
+/// Meanwhile another one frees what the scans found, or the caller does first if none can be made.
+fn answer_of_total<R: Threads + Sync>(
+    rt: &R,
+    alloc: Global,
+    query: &Query,
+    total: BucketTotal,
+    kept: DayPlan,
+    crew: Crew,
+) -> Result<Answer, OutOfMemory>
+    requires gathered { (messages : List Placed) × AreGatheredOf query.now total kept messages }
+    ensures { IfOk result (λ answer. (messages : List Placed) → AreGatheredOf query.now total kept messages →
+        IsAnswerToMessages messages query.now (told_by answer)) }
+{
+    let DayPlan { names, plan } = kept;
+    // (without a thread, what it was to free is let go with the error)
+    let freeing = thread::spawn(rt, move || drop(plan)).ok();
+    let answer = answer_in_ranges(rt, alloc, query, total, &names, crew.workers);
+    if let Some(freeing) = freeing {
+        freeing.join(rt);
+    }
+    answer
 }

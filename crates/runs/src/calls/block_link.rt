@@ -6,10 +6,10 @@ ghost use Rattle.runs.specs.LinkedBlocks.{LinksAttempts};
 
 use crate::OutOfMemory;
 use block_scan::{Attempts, BlockSource, BlockWork, BlocksFault};
-use buckets::{BucketWork, DayNames};
+use buckets::BucketWork;
 use gathering::Inputs;
 use links::{Link, Linked};
-use planning::PlanLink;
+use planning::{DayPlan, PlanLink};
 use query::Query;
 use scanning::WrongLength;
 use std::alloc::{AllocError, Global};
@@ -51,7 +51,7 @@ impl<'a> BlockLink<'a> {
 }
 
 impl<'a, S: BlockSource + Send + Sync> Link<BlockWork<S>, BucketWork> for BlockLink<'a> {
-    type Kept = DayNames;
+    type Kept = DayPlan;
 
     type Stop = BlocksStop;
 
@@ -61,7 +61,7 @@ impl<'a, S: BlockSource + Send + Sync> Link<BlockWork<S>, BucketWork> for BlockL
         &self,
         alloc: Global,
         total: Attempts<S>,
-    ) -> Result<Linked<Inputs<BucketWork>, DayNames, BlocksStop>, OutOfMemory> {
+    ) -> Result<Linked<Inputs<BucketWork>, DayPlan, BlocksStop>, OutOfMemory> {
         let scans = match total.join(alloc) {
             Ok(scans) => scans,
             Err(BlocksFault::OutOfMemory) => return Err(AllocError),

@@ -9,14 +9,15 @@ ghost use Rattle.runs.specs.Readings.{of_blocks};
 ghost use Rattle.runs.specs.Runs.{Ran, is_write_failed};
 ghost use Rattle.runs.specs.Sources.{IsAnswered, IsSourceRefusal};
 
-use crate::calls::answer::answer_of_held;
+use crate::calls::answer::answer_of_outcome;
 use crate::calls::block_link::{BlockLink, BlocksStop};
 use crate::calls::ends::{hand_over, query_of};
 use answers::{Answer, DayFault};
 use block_scan::{BlockSource, BlocksFault, Division, block_inputs};
-use buckets::{BucketWork, DayNames};
+use buckets::BucketTotal;
 use outcomes::{RunFault, Settings};
-use pipelines::{Crew, FreeGate, Gate, Held, Outcome, run_pair_holding};
+use pipelines::{Crew, FreeGate, Gate, Outcome, run_pair};
+use planning::DayPlan;
 use query::Query;
 use scanning::WrongLength;
 use sinks::Sink;
@@ -75,21 +76,17 @@ pub fn answer_blocks<G: Gate, R: Threads + Wait + Sync, S: BlockSource + Send + 
         (of_blocks S.GaveAt S.EndsAt S.FailsAt settings.limit (arc_value source.now)) settings.limit) }
 {
     let Settings { crew, limit, .. } = settings;
-    let Held { outcome, inputs } = match held_of_blocks(
-        rt, alloc, source, division, query, settings, gate,
-    ) {
-        Ok(held) => held,
+    let outcome = match outcome_of_blocks(rt, alloc, source, division, query, settings, gate) {
+        Ok(outcome) => outcome,
         Err(fault) => return answer_of_fault(fault, limit),
     };
     match outcome {
         Outcome::Finished { total, kept } => {
-            let outcome = Outcome::Finished { total, kept };
-            answer_whole(rt, alloc, query, Held { outcome, inputs }, crew)
+            answer_whole(rt, alloc, query, Outcome::Finished { total, kept }, crew)
         }
         Outcome::Stopped { stop } => match stop {
             BlocksStop::WrongLength { wrong } => {
-                let outcome = Outcome::Stopped { stop: wrong };
-                answer_whole(rt, alloc, query, Held { outcome, inputs }, crew)
+                answer_whole(rt, alloc, query, Outcome::Stopped { stop: wrong }, crew)
             }
             BlocksStop::Refused { fault } => answer_of_fault(fault, limit),
         },
@@ -101,22 +98,22 @@ fn answer_whole<R: Threads + Sync>(
     rt: &R,
     alloc: Global,
     query: &Query,
-    held: Held<BucketWork, DayNames, WrongLength>,
+    outcome: Outcome<BucketTotal, DayPlan, WrongLength>,
     crew: Crew,
 ) -> Result<Answer, RunFault>
-    requires outcome { (runs : List (List ℕ)) × IsOutcomeOf query.now held.outcome runs }
-    ensures answers { IfOk result (λ answer. (runs : List (List ℕ)) → IsOutcomeOf query.now held.outcome runs →
+    requires outcome { (runs : List (List ℕ)) × IsOutcomeOf query.now outcome runs }
+    ensures answers { IfOk result (λ answer. (runs : List (List ℕ)) → IsOutcomeOf query.now outcome runs →
         IsAnswer (concat runs) query.now (told_by answer)) }
     ensures refused { IfErr result (λ refusal. refusal ≡ RunFault.OutOfMemory) }
 {
-    match answer_of_held(rt, alloc, query, held, crew) {
+    match answer_of_outcome(rt, alloc, query, outcome, crew) {
         Ok(answer) => Ok(answer),
         Err(AllocError) => Err(RunFault::OutOfMemory),
     }
 }
 
 /// What both pipelines give over the blocks of a source.
-fn held_of_blocks<G: Gate, R: Threads + Wait + Sync, S: BlockSource + Send + Sync>(
+fn outcome_of_blocks<G: Gate, R: Threads + Wait + Sync, S: BlockSource + Send + Sync>(
     rt: &R,
     alloc: Global,
     source: &Arc<S, Global>,
@@ -124,9 +121,9 @@ fn held_of_blocks<G: Gate, R: Threads + Wait + Sync, S: BlockSource + Send + Syn
     query: &Query,
     settings: Settings,
     gate: &G,
-) -> Result<Held<BucketWork, DayNames, BlocksStop>, BlocksFault>
-    ensures outcome { IfOk result (λ held. IsOutcomeOfBlocks S.GaveAt S.EndsAt S.FailsAt
-        (arc_value source.now) settings.limit query.now held.outcome) }
+) -> Result<Outcome<BucketTotal, DayPlan, BlocksStop>, BlocksFault>
+    ensures outcome { IfOk result
+        (IsOutcomeOfBlocks S.GaveAt S.EndsAt S.FailsAt (arc_value source.now) settings.limit query.now) }
     ensures fault { IfErr result (IsBlocksFault S.GaveAt S.EndsAt S.FailsAt (arc_value source.now) settings.limit) }
 {
     let Settings {
@@ -140,7 +137,7 @@ fn held_of_blocks<G: Gate, R: Threads + Wait + Sync, S: BlockSource + Send + Syn
         return Err(BlocksFault::OutOfMemory);
     };
     let link = BlockLink::new(query, parts);
-    Ok(run_pair_holding(rt, alloc, inputs, &link, crew, gate)?)
+    Ok(run_pair(rt, alloc, inputs, &link, crew, gate)?)
 }
 
 /// What is reported if a source gives no rows: the place where it is truncated, or a refusal.

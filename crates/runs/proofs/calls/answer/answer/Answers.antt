@@ -7,8 +7,8 @@ use Rattle.runs.specs.FirstPipeline.{AreRuns}
 use Rattle.runs.proofs.Answered.{given_by}
 use Rattle.runs.proofs.calls.answer.answer.Goals as goal
 
-pub answer_of_held-requires-clause-outcome : goal.answer_of_held-requires-clause-outcome
-answer_of_held-requires-clause-outcome g c lifetimes within =
+pub answer_of_outcome-requires-clause-outcome : goal.answer_of_outcome-requires-clause-outcome
+answer_of_outcome-requires-clause-outcome g c lifetimes within =
     let runs = c.args.cut.now in
     let cut : AreRuns runs = record {
       each = c.in_ok-scans.ensures.runs;
@@ -18,7 +18,7 @@ answer_of_held-requires-clause-outcome g c lifetimes within =
     let are = c.in_ok-scans.ensures.inputs ∙ ap (λ (m : Meaning). inputs_of m.as_of c.args.parts runs) c.query.view_is in (
       runs,
       given_by runs c.args.query.now c.args.parts c.requires.parts.0 cut (arc_value c.in_ok-inputs.inputs) c.dividing-link.result
-          c.in_ok-held.held.outcome (c.in_ok-inputs.ensures.ok ∙ are) c.dividing-link.ensures c.in_ok-held.ensures,
+          c.in_ok-outcome.outcome (c.in_ok-inputs.ensures.ok ∙ are) c.dividing-link.ensures c.in_ok-outcome.ensures,
     )
 
 pub returns : goal.returns
@@ -30,8 +30,8 @@ returns g c =
       within = c.in_ok-scans.ensures.within;
     } in
     let are = c.in_ok-scans.ensures.inputs ∙ ap (λ (m : Meaning). inputs_of m.as_of c.args.parts runs) c.query.view_is in
-    on_ok c.answer_of_held.result _ _
+    on_ok c.answer_of_outcome.result _ _
     (λ answer is.
     is runs (given_by runs c.args.query.now c.args.parts c.requires.parts.0 cut (arc_value c.in_ok-inputs.inputs) c.dividing-link.result
-    c.in_ok-held.held.outcome (c.in_ok-inputs.ensures.ok ∙ are) c.dividing-link.ensures c.in_ok-held.ensures))
-    c.answer_of_held.ensures
+    c.in_ok-outcome.outcome (c.in_ok-inputs.ensures.ok ∙ are) c.dividing-link.ensures c.in_ok-outcome.ensures))
+    c.answer_of_outcome.ensures

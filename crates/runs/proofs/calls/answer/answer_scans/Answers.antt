@@ -4,8 +4,8 @@ use Rattle.joining.proofs.ProductsJoined.{on_ok}
 use Rattle.runs.proofs.Answered.{given_of}
 use Rattle.runs.proofs.calls.answer.answer_scans.Goals as goal
 
-pub run_second_holding-requires-clause-total : goal.run_second_holding-requires-clause-total
-run_second_holding-requires-clause-total g c lifetimes within =
+pub run_second-requires-clause-total : goal.run_second-requires-clause-total
+run_second-requires-clause-total g c lifetimes within =
     let runs = c.requires.total.0 in
     let of = c.requires.total.1 in (
       inputs_of c.args.query.now.as_of c.args.parts runs,
@@ -23,19 +23,19 @@ run_second_holding-requires-clause-total g c lifetimes within =
       of.is,
     )
 
-pub answer_of_held-requires-clause-outcome : goal.answer_of_held-requires-clause-outcome
-answer_of_held-requires-clause-outcome g c lifetimes within =
+pub answer_of_outcome-requires-clause-outcome : goal.answer_of_outcome-requires-clause-outcome
+answer_of_outcome-requires-clause-outcome g c lifetimes within =
     let runs = c.requires.total.0 in
     let of = c.requires.total.1 in (
       runs,
-      given_of runs c.args.query.now c.args.parts c.requires.parts.0 of.cut c.args.total c.dividing-link.result c.in_ok-held.held.outcome of.is
-          c.dividing-link.ensures c.in_ok-held.ensures,
+      given_of runs c.args.query.now c.args.parts c.requires.parts.0 of.cut c.args.total c.dividing-link.result c.in_ok-outcome.outcome of.is
+          c.dividing-link.ensures c.in_ok-outcome.ensures.outcome,
     )
 
 pub returns : goal.returns
 returns g c =
-    on_ok c.answer_of_held.result _ _
+    on_ok c.answer_of_outcome.result _ _
     (λ answer is runs of.
-    is runs (given_of runs c.args.query.now c.args.parts c.requires.parts.0 of.cut c.args.total c.dividing-link.result c.in_ok-held.held.outcome of.is
-    c.dividing-link.ensures c.in_ok-held.ensures))
-    c.answer_of_held.ensures
+    is runs (given_of runs c.args.query.now c.args.parts c.requires.parts.0 of.cut c.args.total c.dividing-link.result c.in_ok-outcome.outcome of.is
+    c.dividing-link.ensures c.in_ok-outcome.ensures.outcome))
+    c.answer_of_outcome.ensures
