@@ -7,13 +7,14 @@ use crate::told::{append_answer, append_fault, append_rehearsal, append_text};
 use crate::written::{tell_repeated, tell_written};
 use day_file::{CutFault, cut};
 use executor::{
-    Counted, CountedSink, DayFault, DayFile, Division, FreeGate, LONGEST_FILE, Memory, Query,
-    RunFault, Settings, answer, answer_blocks, parse, plain, run, run_blocks,
+    Counted, CountedSink, DayFault, DayFile, Division, FreeGate, LONGEST_FILE, Query, RunFault,
+    Settings, answer, answer_blocks, parse, plain, run, run_blocks,
 };
 use std::alloc::Global;
 use std::io;
 use std::sync::{Arc, Wait};
 use std::thread::Threads;
+use tests_support::in_memory;
 
 /// Adds what a case gives in one way.
 pub(crate) fn tell<R: Threads + Wait + Sync>(
@@ -169,7 +170,7 @@ fn by_blocks<R: Threads + Wait + Sync>(
     settings: Settings,
     out: &mut Vec<u8>,
 ) -> io::Result<()> {
-    let source = Arc::new(alloc, Memory { bytes: case.file })?;
+    let source = Arc::new(alloc, in_memory(case.file))?;
     let bytes = settings.morsel.max(1);
     let blocks = (case.file.len() as u64 / bytes).clamp(1, 65_536) as u32;
     let division = Division { bytes, blocks };
@@ -189,7 +190,7 @@ fn by_length<R: Threads + Wait + Sync>(
     out: &mut Vec<u8>,
 ) -> io::Result<()> {
     let mut written = Vec::new(alloc);
-    let source = Memory { bytes: case.file };
+    let source = in_memory(case.file);
     let mut sink = CountedSink::of(&mut written);
     let told = run_blocks(rt, alloc, source, length, case.query, settings, &mut sink);
     append_told(alloc, out, told, written.as_slice())

@@ -1,22 +1,12 @@
 -- What the steps of an answer have found makes it the answer.
-use Rattle.std.proofs.Common.{◌≡◌, ℕ, List, Option, Some, None, Result, Ok, Err, MatchOption, inl, inr, refl, subst, sym}
+use Rattle.std.proofs.Common.{◌≡◌, ℕ, List, Some, None, Result, Ok, Err, inl, inr, refl, subst}
 use Rattle.day_file.specs.Frames.{IsTruncatedAt, PlacedBody, StandsFor}
 use Rattle.order_table.specs.Orders.{first_repeated}
-use Rattle.probe.specs.Pricing.{first_unknown}
-use Rattle.row_types.specs.declared.trade.Sale.{Sale}
+use Rattle.probe.specs.Pricing.{Sale, first_unknown}
 use Rattle.meaning.specs.Meaning.{Meaning}
 use Rattle.time_and_sales.specs.Names.{name_of}
 use Rattle.day_rows.specs.Messages.{Placed, counted, directory_rows, executions, first_wrong, messages_of, order_rows}
-use Rattle.answers.specs.Answers.{IsAnswer, IsAnswerToMessages, IsTextOfMessages, IsTextOfSales, selected_sales, wrong_length_at}
-use Rattle.outcomes.specs.declared.day_fault.DayFault.{DayFault}
-use Rattle.outcomes.specs.declared.day_fault.DayFault.TheVariants.{Truncated}
-
-match_none : {T : Type 0} (o : Option T) (P : Type 0) (Q : T → Type 0) → o ≡ None → P → MatchOption o P Q
-match_none None P Q e p = p
-match_none (Some x) P Q e p = absurd (cc)
-
-match_some : {T : Type 0} (o : Option T) (P : Type 0) (Q : T → Type 0) (x : T) → o ≡ Some x → Q x → MatchOption o P Q
-match_some o P Q x e q = subst (λ o. MatchOption o P Q) (sym e) q
+use Rattle.answers.specs.Answers.{DayFault, IsAnswer, IsAnswerToMessages, IsTextOfMessages, IsTextOfSales, Truncated, selected_sales, wrong_length_at}
 
 -- the text of the sales that a query asks for is the text that it asks for
 pub text_asked : (messages : List Placed) (query : Meaning) (listing : List Sale) (names : ℕ → List ℕ) (text : List ℕ) → listing ≡ selected_sales query messages
@@ -30,8 +20,7 @@ text_asked messages query listing names text same named is =
 pub text_answers : (messages : List Placed) (query : Meaning) (text : List ℕ) → first_repeated (order_rows messages) ≡ None
     → first_unknown (order_rows messages) (executions messages) ≡ None → IsTextOfMessages query messages text → IsAnswerToMessages messages query (Ok text)
 text_answers messages query text no_repeated no_unknown is =
-    match_none (first_repeated (order_rows messages)) _ _ no_repeated
-    (match_none (first_unknown (order_rows messages) (executions messages)) _ _ no_unknown (text, is, refl))
+    rw (no_repeated, no_unknown) (text, is, refl)
 
 -- a truncated file
 pub truncation_answers : (file : List ℕ) (query : Meaning) (place : ℕ) → IsTruncatedAt file place → IsAnswer file query (Err (Truncated place))
@@ -41,10 +30,9 @@ truncation_answers file query place truncated = inl (place, truncated, refl)
 pub wrong_length_answers : (file : List ℕ) (query : Meaning) (frames : List PlacedBody) (wrong : PlacedBody) → StandsFor frames file
     → first_wrong frames ≡ Some wrong → IsAnswer file query (Err (wrong_length_at wrong))
 wrong_length_answers file query frames wrong stands is =
-    inr (frames, stands, match_some (first_wrong frames) _ _ wrong is refl)
+    inr (frames, stands, rw is refl)
 
 -- no wrong length
 pub messages_answer : (file : List ℕ) (query : Meaning) (frames : List PlacedBody) (answer : Result (List ℕ) DayFault) → StandsFor frames file
     → first_wrong frames ≡ None → IsAnswerToMessages (counted query.as_of (messages_of frames)) query answer → IsAnswer file query answer
-messages_answer file query frames answer stands right is =
-    inr (frames, stands, match_none (first_wrong frames) _ _ right is)
+messages_answer file query frames answer stands right is = inr (frames, stands, rw right is)

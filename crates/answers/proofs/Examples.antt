@@ -2,13 +2,10 @@
 use Rattle.std.proofs.Common.{◌≡◌, ℕ, List, [], ◌∷◌, Some, None, refl, true}
 use Rattle.bars.specs.Bars.{bar_of, start_of}
 use Rattle.itch_messages.specs.HeaderFields.{HeaderFields}
-use Rattle.itch_messages.specs.declared.message.Message.{Message}
-use Rattle.itch_messages.specs.declared.message.Message.TheVariants.{Add, Executed, Trade, Broken}
-use Rattle.order_table.specs.Orders.{first_repeated, price_before}
-use Rattle.row_types.specs.declared.order.OrderRow.{OrderRow}
-use Rattle.probe.specs.Pricing.{first_unknown}
+use Rattle.itch_messages.specs.declared.message.Message.TheVariants.{Add, Executed, Broken}
+use Rattle.order_table.specs.Orders.{first_repeated}
+use Rattle.probe.specs.Pricing.{Sale, first_unknown}
 use Rattle.row_types.specs.declared.trade.Kind.TheVariants.{E, P}
-use Rattle.row_types.specs.declared.trade.Sale.{Sale}
 use Rattle.meaning.specs.Meaning.{Meaning}
 use Rattle.meaning.specs.declared.query.What.TheVariants.{Sales}
 use Rattle.answers.specs.Answers.{selected_sales}
@@ -23,57 +20,27 @@ at time = record { locate = 7; tracking = 0; time = time }
 abbrev order : ℕ → ℕ → Placed
 order place reference = record {
   place = place;
-  message = Add (record {
-    header = at 1000000000;
-    order_no = reference;
-    side = 66;
-    shares = 100;
-    stock = [];
-    price = 100000;
-    attribution = None;
-  });
+  message = Add (record { header = at 1000000000; order_no = reference; side = 66; shares = 100; stock = []; price = 100000; attribution = None });
 }
 
 -- 30 shares of an order are executed, a second later
 abbrev execution : ℕ → ℕ → ℕ → Placed
 execution place reference trade_no = record {
   place = place;
-  message = Executed (record {
-    header = at 2000000000;
-    order_no = reference;
-    shares = 30;
-    trade_no = trade_no;
-  });
+  message = Executed (record { header = at 2000000000; order_no = reference; shares = 30; trade_no = trade_no });
 }
 
 -- a trade is broken, another second later
 abbrev break : ℕ → ℕ → Placed
-break place trade_no = record {
-  place = place;
-  message = Broken (record { header = at 3000000000; trade_no = trade_no });
-}
+break place trade_no = record { place = place; message = Broken (record { header = at 3000000000; trade_no = trade_no }) }
 
 -- the sale of an execution of 30 shares at 10 dollars
 abbrev sale : ℕ → ℕ → Sale
-sale place trade_no = record {
-  place = place;
-  time = 2000000000;
-  locate = 7;
-  kind = E;
-  price = 100000;
-  shares = 30;
-  trade_no = trade_no;
-}
+sale place trade_no = record { place = place; time = 2000000000; locate = 7; kind = E; price = 100000; shares = 30; trade_no = trade_no }
 
 -- a query for all sales, up to this moment
 abbrev all_sales : Meaning
-all_sales = record {
-  what = Sales;
-  as_of = None;
-  symbols = None;
-  span = None;
-  kinds = record { e = true; c = true; p = true; q = true };
-}
+all_sales = record { what = Sales; as_of = None; symbols = None; span = None; kinds = record { e = true; c = true; p = true; q = true } }
 
 -- an order, two executions of it, and the break of the first of them
 abbrev day : List Placed
@@ -94,14 +61,8 @@ both_are_listed = refl
 abbrev early : List Placed
 early = execution 0 1 501 ∷ order 33 1 ∷ []
 
-none_is_known : first_unknown (order_rows early) (executions early) ≡ Some (record {
-  place = 0;
-  time = 2000000000;
-  locate = 7;
-  order_no = 1;
-  shares = 30;
-  trade_no = 501;
-})
+none_is_known : first_unknown (order_rows early) (executions early)
+    ≡ Some (record { place = 0; time = 2000000000; locate = 7; order_no = 1; shares = 30; trade_no = 501 })
 none_is_known = refl
 
 -- a reference that two orders have is repeated at the second of them
@@ -117,15 +78,7 @@ in_its_minute = refl
 
 -- so many shares at a price, sold at a place
 abbrev sold : ℕ → ℕ → ℕ → Sale
-sold place price shares = record {
-  place = place;
-  time = 2000000000;
-  locate = 7;
-  kind = P;
-  price = price;
-  shares = shares;
-  trade_no = 0;
-}
+sold place price shares = record { place = place; time = 2000000000; locate = 7; kind = P; price = price; shares = shares; trade_no = 0 }
 
 -- the first and the last sale of a bar are those of least and greatest place, in whichever order they are listed; its
 -- average is 3,400,000 / 40, so 8 dollars and 50 cents

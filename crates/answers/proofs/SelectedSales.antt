@@ -1,99 +1,71 @@
 -- What is listed is what the query asks for.
-use Rattle.std.proofs.Common.{◌≡◌, ◌<◌, ◌+◌, ◌^◌, ℕ, Bool, ◌&&◌, not, cond, ltb, List, [], ◌∷◌, ◌++◌, All, None, Result, Ok, Err, IfOk, inr, IsPermutation}
-use Rattle.std.proofs.Common.{get_or, length, map, nat_eq, take, flat_map, refl, sym, ap, ap₂, ◌∙◌, subst, arith}
-use Rattle.std.specs.List.{AllByRecursion, IsDistinct}
+use Rattle.std.proofs.Common.{◌≡◌, ◌<◌, ◌+◌, ◌^◌, ℕ, Bool, ◌&&◌, not, cond, ltb, List, [], ◌∷◌, ◌++◌, All, IsPermutation, length, map, nat_eq, refl, ap, ap₂}
+use Rattle.std.proofs.Common.{◌∙◌, arith, length-append}
+use Rattle.std.specs.List.{IsDistinct}
 use Rattle.std.specs.List.Sorted.{IsStrictlySortedBy}
-use Rattle.std.proofs.lemmas.List.{append-nil, append_assoc, length-append, take_more}
-use Rattle.std.proofs.lemmas.List.Concat.{flat_map-append}
-use Rattle.std.proofs.lemmas.List.Elements.{recursion_from_All}
+use Rattle.std.proofs.lemmas.List.Elements.{All-head, All-tail, All-weaker}
 use Rattle.std.proofs.lemmas.List.Sorted.{All-permutation, length_permutation}
 use Rattle.lists.specs.Among.{is_among}
-use Rattle.day_file.specs.Frames.{PlacedBody, StandsFor}
-use Rattle.order_table.specs.Orders.{first_repeated}
+use Rattle.lists.specs.declared.limits.TheConstants.{TIME_LIMIT}
 use Rattle.row_types.specs.declared.order.OrderRow.{OrderRow}
-use Rattle.probe.specs.Pricing.{first_unknown, priced}
-use Rattle.probe.specs.Selection.{admits, has_kind, has_time}
+use Rattle.probe.specs.Pricing.{Execution, Sale, priced}
+use Rattle.probe.specs.Selection.{admits, has_kind, has_locate, has_time}
 use Rattle.probe.specs.Trades.{kept}
-use Rattle.row_types.specs.declared.trade.Execution.{Execution}
-use Rattle.row_types.specs.declared.trade.Sale.{Sale}
+use Rattle.probe.specs.declared.selection.Locates.{Locates}
 use Rattle.probe.specs.declared.selection.Selection.{Selection}
 use Rattle.probe.proofs.KeptSales.{kept_have_shares, length-kept, length-priced}
 use Rattle.row_types.specs.SalesByPlace.{place_cmp}
-use Rattle.time_and_sales.specs.Names.{IsNamesOf, name_of, name_text}
-use Rattle.time_and_sales.specs.Texts.{listing_text, sale_line, sales_header}
-use Rattle.row_types.specs.declared.directory.DirectoryRow.{DirectoryRow}
+use Rattle.time_and_sales.specs.Names.{DirectoryRow, IsNamesOf, last_row, name_text}
 use Rattle.time_and_sales.specs.declared.directory.Names.{Names}
-use Rattle.bars.specs.Bars.{AreBarsOf}
-use Rattle.bars.specs.Texts.{bar_line, bars_header, bars_text}
-use Rattle.bars.specs.declared.bar.Bar.{Bar}
 use Rattle.meaning.specs.Meaning.{Meaning}
-use Rattle.meaning.specs.Selected.{has_name}
-use Rattle.meaning.specs.declared.query.What.TheVariants.{Sales, Bars}
-use Rattle.meaning.proofs.ListedLocates.{AreLocatesOf}
+use Rattle.meaning.specs.Selected.{has_name, locates_of}
+use Rattle.meaning.proofs.ListedLocates.{locates_agree}
 use Rattle.answers.specs.Answers.{asks_for, selected_sales}
 use Rattle.day_rows.specs.Messages.{Placed, order_rows, executions, own_priced_sales, break_numbers, directory_rows}
 use Rattle.day_rows.specs.DayRows.{AreByPlace, IsStamped}
-use Rattle.outcomes.specs.declared.day_fault.DayFault.{DayFault}
-use Rattle.day_rows.proofs.RowsByPlace.{distinct_places, kept_distinct}
+use Rattle.day_rows.proofs.RowsByPlace.{distinct_places}
 use Rattle.day_rows.proofs.TradesOfRows.{listing_is}
 
 -- ---- a selection with the query's locates admits what the query asks for
 
 pub agrees : {A B : Type 0} (query : Meaning) (rows : List DirectoryRow) (names : Names A) (selection : Selection B) → IsNamesOf rows names
-    → AreLocatesOf query.symbols names selection.locates → selection.span ≡ query.span → selection.kinds ≡ query.kinds
-    → (sale : Sale) → sale.locate < 2 ^ 16 → admits selection sale ≡ asks_for query rows sale
-agrees query rows names selection are locates span kinds sale small =
+    → selection.locates ≡ locates_of query.symbols (λ locate. name_text locate (last_row names locate)) → selection.span ≡ query.span
+    → selection.kinds ≡ query.kinds → (sale : Sale) → sale.locate < 2 ^ 16 → admits selection sale ≡ asks_for query rows sale
+agrees {A} {B} query rows names selection are locates span kinds sale small =
     ap₂ ◌&&◌
-    (locates sale.locate small ∙ ap (λ row. has_name query.symbols (name_text sale.locate row)) (are sale.locate))
+    (ap (λ (l : Locates B). has_locate l sale.locate) locates
+    ∙ locates_agree B query.symbols (λ locate. name_text locate (last_row names locate)) sale.locate small
+    ∙ ap (λ row. has_name query.symbols (name_text sale.locate row)) (are sale.locate))
     (ap₂ ◌&&◌ (ap (λ s. has_time s sale.time) span) (ap (λ k. has_kind k sale.kind) kinds))
-
-kept_alike : (breaks : List ℕ) (p q : Sale → Bool) (sales : List Sale) → AllByRecursion (λ s. p s ≡ q s) sales → kept breaks p sales ≡ kept breaks q sales
-kept_alike breaks p q [] all = refl
-kept_alike breaks p q (x ∷ xs) all =
-    (λ i. cond (not (is_among breaks x.trade_no) && (all.0 i && ltb 0 x.shares)) (x ∷ kept_alike breaks p q xs all.1 i) (kept_alike breaks p q xs all.1 i))
-
-all_agree : (p q : Sale → Bool) (sales : List Sale) → ((sale : Sale) → sale.locate < 2 ^ 16 → p sale ≡ q sale)
-    → AllByRecursion (λ s. IsStamped s.time s.locate) sales → AllByRecursion (λ s. p s ≡ q s) sales
-all_agree p q [] agree fit = tt
-all_agree p q (x ∷ xs) agree fit = (agree x fit.0.1, all_agree p q xs agree fit.1)
 
 -- so it keeps the same
 pub keeps_asked : (breaks : List ℕ) (p q : Sale → Bool) (sales : List Sale) → ((sale : Sale) → sale.locate < 2 ^ 16 → p sale ≡ q sale)
     → All (λ s. IsStamped s.time s.locate) sales → kept breaks p sales ≡ kept breaks q sales
-keeps_asked breaks p q sales agree fit =
-    kept_alike breaks p q sales (all_agree p q sales agree (recursion_from_All (λ (s : Sale). IsStamped s.time s.locate) sales fit))
+keeps_asked breaks p q [] agree fit = refl
+keeps_asked breaks p q (x ∷ xs) agree fit =
+    let same = agree x (All-head (λ (s : Sale). IsStamped s.time s.locate) x xs fit).1 in
+    let more = keeps_asked breaks p q xs agree (All-tail (λ (s : Sale). IsStamped s.time s.locate) x xs fit) in
+    (λ i. cond (not (is_among breaks x.trade_no) && (same i && ltb 0 x.shares)) (x ∷ more i) (more i))
 
 -- ---- the listing
 
--- the breaks, and all from which what is listed is kept, are those of the messages
-pub record AreTradesOf (messages : List Placed) (breaks : List ℕ) (all : List Sale) : Type 0 where
-  pub breaks_are : breaks ≡ break_numbers messages
-  pub all_are : all ≡ priced (order_rows messages) (executions messages) ++ own_priced_sales messages
-
-pub listed_distinct : (messages : List Placed) (breaks : List ℕ) (all : List Sale) (asked : Sale → Bool) → AreByPlace messages
-    → AreTradesOf messages breaks all → IsDistinct nat_eq (map (λ sale. sale.place) (kept breaks asked all))
-listed_distinct messages breaks all asked up is = rw (is.breaks_are, is.all_are) (kept_distinct asked messages up)
-
-listing_is_selected : (messages : List Placed) (query : Meaning) (breaks : List ℕ) (all listing : List Sale) → AreByPlace messages
-    → AreTradesOf messages breaks all → IsStrictlySortedBy place_cmp listing
-    → IsPermutation (kept breaks (asks_for query (directory_rows messages)) all) listing → listing ≡ selected_sales query messages
-listing_is_selected messages query breaks all listing up is rising permutation =
-    listing_is (asks_for query (directory_rows messages)) messages listing up rising (rw (← is.breaks_are, ← is.all_are) permutation)
-
--- so with the locates that the query asks for
+-- what a selection with those locates keeps is listed
 pub selected : {A B : Type 0} (messages : List Placed) (query : Meaning) (names : Names A) (selection : Selection B) (breaks : List ℕ)
-    (all listing : List Sale) → AreByPlace messages → AreTradesOf messages breaks all → All (λ s. IsStamped s.time s.locate) all
-    → IsNamesOf (directory_rows messages) names → AreLocatesOf query.symbols names selection.locates → selection.span ≡ query.span
-    → selection.kinds ≡ query.kinds → IsStrictlySortedBy place_cmp listing → IsPermutation (kept breaks (admits selection) all) listing
-    → listing ≡ selected_sales query messages
-selected messages query names selection breaks all listing up is fit are locates span kinds rising permutation =
-    listing_is_selected messages query breaks all listing up is rising
-    (subst (λ l. IsPermutation l listing)
-    (keeps_asked breaks (admits selection) (asks_for query (directory_rows messages)) all
-    (agrees query (directory_rows messages) names selection are locates span kinds) fit)
-    permutation)
+    (all listing : List Sale) → AreByPlace messages → breaks ≡ break_numbers messages
+    → all ≡ priced (order_rows messages) (executions messages) ++ own_priced_sales messages → All (λ s. IsStamped s.time s.locate) all
+    → IsNamesOf (directory_rows messages) names → selection.locates ≡ locates_of query.symbols (λ locate. name_text locate (last_row names locate))
+    → selection.span ≡ query.span → selection.kinds ≡ query.kinds → IsStrictlySortedBy place_cmp listing
+    → IsPermutation (kept breaks (admits selection) all) listing → listing ≡ selected_sales query messages
+selected messages query names selection breaks all listing up breaks_are all_are fit are locates span kinds rising permutation =
+    let asked = asks_for query (directory_rows messages) in
+    let same = keeps_asked breaks (admits selection) asked all (agrees query (directory_rows messages) names selection are locates span kinds) fit in
+    listing_is asked messages listing up rising (rw (← breaks_are, ← all_are, ← same) permutation)
 
 -- ---- what may be asked of a table of bars of it
+
+-- the times fit
+pub times_fit : (sales : List Sale) → All (λ sale. IsStamped sale.time sale.locate) sales → All (λ sale. sale.time < TIME_LIMIT) sales
+times_fit sales stamped = All-weaker (λ (s : Sale). IsStamped s.time s.locate) (λ (s : Sale). s.time < TIME_LIMIT) (λ s fits. fits.0) sales stamped
 
 pub listing_places : (listing : List Sale) → IsStrictlySortedBy place_cmp listing → IsDistinct nat_eq (map (λ sale. sale.place) listing)
 listing_places listing rising = distinct_places (λ (s : Sale). s.place) listing rising

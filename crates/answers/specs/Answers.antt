@@ -1,50 +1,29 @@
 -- The answer to a query over a day file: the file's one fault, or the text made of all its messages that count.
 -- To be believed.
 -- The language wants each name before it is used, so what the others lead to, `IsAnswer`, stands near the end.
-use Rattle.std.specs.Prelude.{◌≡◌, ℕ, Bool, ◌&&◌, List, Option, Result, Ok, Err, filter_map, MatchOption, ◌⊎◌}
-use Rattle.std.specs.Option.{option_and_then}
+use Rattle.std.specs.Prelude.{◌≡◌, ℕ, Bool, ◌&&◌, List, Option, Result, Ok, Err, MatchOption, ◌⊎◌}
 use Rattle.itch_messages.specs.Body.{length_fault_of}
-use Rattle.itch_messages.specs.declared.message.Message.{Message}
-use Rattle.itch_messages.specs.declared.message.Message.TheVariants.{Executed}
 use Rattle.day_file.specs.Frames.{PlacedBody, StandsFor, IsTruncatedAt}
-use Rattle.row_types.specs.declared.order.OrderRow.{OrderRow}
-use Rattle.order_table.specs.Orders.{first_repeated}
-use Rattle.row_types.specs.declared.trade.Sale.{Sale}
-use Rattle.probe.specs.Pricing.{Execution, first_unknown, sale_of}
+use Rattle.order_table.specs.Orders.{OrderRow, first_repeated}
+use Rattle.probe.specs.Pricing.{Execution, Sale, first_unknown}
 use Rattle.probe.specs.Selection.{has_kind, has_time}
 use Rattle.probe.specs.Trades.{kept}
-use Rattle.time_and_sales.specs.Names.{name_of}
+use Rattle.time_and_sales.specs.Names.{DirectoryRow, name_of}
 use Rattle.time_and_sales.specs.Texts.{listing_text}
-use Rattle.row_types.specs.declared.directory.DirectoryRow.{DirectoryRow}
 use Rattle.bars.specs.Bars.{AreBarsOf}
-use Rattle.bars.specs.Texts.{bars_text}
 use Rattle.bars.specs.declared.bar.Bar.{Bar}
+use Rattle.bars.specs.Texts.{bars_text}
 use Rattle.meaning.specs.Meaning.{Meaning}
-use Rattle.meaning.specs.Selected.{has_name}
+use Rattle.meaning.specs.declared.query.What.TheVariants.{Bars, Sales}
 use Rattle.meaning.specs.declared.query.What.{What}
-use Rattle.meaning.specs.declared.query.What.TheVariants.{Sales, Bars}
-use Rattle.day_rows.specs.Messages.{
-  trades,
-  Placed,
-  messages_of,
-  counted,
-  first_wrong,
-  order_rows,
-  executions,
-  execution_at,
-  own_priced_at,
-  break_numbers,
-  directory_rows,
-}
+use Rattle.meaning.specs.Selected.{has_name}
+use Rattle.day_rows.specs.Messages.{Placed, break_numbers, counted, directory_rows, executions, first_wrong}
+use Rattle.day_rows.specs.Messages.{messages_of, order_rows, trades}
 use Rattle.answers.specs.declared.answer.Answer.{Answer}
 use Rattle.answers.specs.declared.answer.Answer.TheVariants.{Printed, Faulty}
-use Rattle.outcomes.specs.declared.day_fault.DayFault.{DayFault}
-use Rattle.outcomes.specs.declared.day_fault.DayFault.TheVariants.{
-  Truncated,
-  WrongLength,
-  RepeatedReference,
-  UnknownReference,
-}
+pub use Rattle.outcomes.specs.declared.day_fault.DayFault.{DayFault}
+pub use Rattle.outcomes.specs.declared.day_fault.DayFault.TheVariants.{Truncated, WrongLength, RepeatedReference}
+pub use Rattle.outcomes.specs.declared.day_fault.DayFault.TheVariants.{UnknownReference}
 
 -- ---- what is asked for
 

@@ -7,13 +7,7 @@ use Rattle.day_rows.specs.Messages.{Placed, messages_of, first_wrong, is_counted
 
 -- the same query without a moment
 abbrev pub without_moment : Meaning → Meaning
-without_moment query = record {
-  what = query.what;
-  as_of = None;
-  symbols = query.symbols;
-  span = query.span;
-  kinds = query.kinds;
-}
+without_moment query = record query { as_of = None }
 
 -- no message of a file is past a moment
 abbrev pub NoneIsPast : Option ℕ → List ℕ → Type 0

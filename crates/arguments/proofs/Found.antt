@@ -1,9 +1,7 @@
 -- What clap finds for an argument that is required or has a default, in a command that excludes nothing.
 use Rattle.std.proofs.Common.{◌≡◌, ◌∙◌, ◌<◌, ◌≤◌, ℕ, zero, suc, Bool, true, false, List, [], ◌∷◌, Some, None, refl, sym, ap, subst, inl, inr, arith, length}
-use Rattle.std.specs.Prelude.{find, option_map, slice_get}
-use Rattle.std.specs.Borrow.{Bor}
-use Rattle.std.specs.List.{All, slice_index_or}
-use Rattle.std.specs.Str.{bytes_eq}
+use Rattle.std.proofs.Common.{find, option_map, slice_get, Bor, All, slice_index_or, bytes_eq}
+use Rattle.std.proofs.lemmas.Bool.{cases_Bool}
 use Rattle.std.proofs.lemmas.List.Elements.{All-get_or}
 use Rattle.std.proofs.lemmas.Slice.Eq.{bytes_eq-Decides}
 use Rattle.clap.specs.Built.{IsAuto, IsParsedFrom, SameRules}
@@ -31,12 +29,9 @@ finds_id : (xs : List Entry) (id : List ℕ) (i : ℕ) → i < length xs → ((d
     → (x : MatchedArg) × (option_map (λ e. e.1) (find (λ e. bytes_eq e.0.now id) xs) ≡ Some x)
 finds_id [] id i lt at = absurd (omega arith)
 finds_id (x ∷ xs) id zero lt at = (x.1, rw (at x) refl)
-finds_id (x ∷ xs) id (suc i) lt at = go (bytes_eq x.0.now id) refl (finds_id xs id i (omega arith) at)
-  where
-    go : (b : Bool) → bytes_eq x.0.now id ≡ b → ((y : MatchedArg) × (option_map (λ e. e.1) (find (λ e. bytes_eq e.0.now id) xs) ≡ Some y))
-        → (y : MatchedArg) × (option_map (λ e. e.1) (find (λ e. bytes_eq e.0.now id) (x ∷ xs)) ≡ Some y)
-    go true e rest = (x.1, rw e refl)
-    go false e rest = (rest.0, rw e rest.1)
+finds_id (x ∷ xs) id (suc i) lt at =
+    let rest = finds_id xs id i (omega arith) at in
+    elim (cases_Bool (bytes_eq x.0.now id)) [ inl e ↦ (x.1, rw e refl) | inr e ↦ (rest.0, rw e rest.1) ]
 
 -- the argument at place k takes one value or more, by the parser q
 pub record IsValued (c : Command) (k : ℕ) (d : Arg) (q : ValueParser) : Type 0 where
@@ -55,82 +50,68 @@ pub record IsNamed (c : Command) (k : ℕ) (d : Arg) : Type 0 where
 
 module _ (old : Command) (m : ArgMatches) (p : IsParsedFrom old m) (no_groups : groups_of p.built ≡ [])
     (k : ℕ) (d : Arg) (q : ValueParser) (valued : IsValued old k d q) (name : IsNamed old k d) where
-  -- each argument of the built command with this id has the rules of the caller's
-  rules : (j : ℕ) (x : Arg) → j < length (args_of p.built) → slice_index_or (args_of p.built) j x ≡ x
-      → bytes_eq x.id.now (slice_index_or (args_of old) k d).id.now ≡ true → SameRules (slice_index_or (args_of old) k d) x
-  rules = same_rules_by_id old m p k d valued.here name.unique name.own
+  abbrev arg : Arg
+  arg = slice_index_or (args_of old) k d
 
-  -- the entry of the id is no group's, and has a value
-  no_group : (e : Entry) → e.0.now ≡ (slice_index_or (args_of old) k d).id.now → EntryPasses p.built e → e.1.is_group ≡ true → ⊥
-  no_group e key pass group = elim (pass.3 group) [
-    | inl empty ↦ name.named (sym key ∙ empty)
-    | inr has ↦
-        let bad : 0 < 0 = rw no_groups at has in
-        absurd (omega arith)
-  ]
+  -- of an entry of the argument's id
+  module _ (e : Entry) (key : e.0.now ≡ arg.id.now) (pass : EntryPasses p.built e) where
+    -- each argument of the built command with this id has the rules of the caller's
+    rules : (j : ℕ) (x : Arg) → j < length (args_of p.built) → slice_index_or (args_of p.built) j x ≡ x → bytes_eq x.id.now e.0.now ≡ true → SameRules arg x
+    rules j x within is same = same_rules_by_id old m p k d valued.here name.unique name.own j x within is (rw key at same)
 
-  full : (e : Entry) → e.0.now ≡ (slice_index_or (args_of old) k d).id.now → EntryPasses p.built e → 0 < length e.1.vals.items
-  full e key pass = elim pass.1 [
-    | inl group ↦ absurd (no_group e key pass group.0)
-    | inr (inl has) ↦ has
-    | inr (inr (inl counts)) ↦
-        let any = counts.1 in
-        let s = rules any.0 any.1 any.2 any.3 (rw key at any.4.0) in
-        let is_set : any.1.action ≡ Some Set = s.action Set valued.set in
-        let bad : Set ≡ Count = rw is_set at any.4.1 in
-        absurd (cc)
-    | inr (inr (inr any)) ↦
-        let s = rules any.0 any.1 any.2 any.3 (rw key at any.4.0) in
-        elim any.4.1 [
-          | inl none ↦
-              let one = s.least valued.set valued.least in
-              absurd (omega arith)
-          | inr has ↦
-              let bad : false ≡ true = rw (s.val_delim, valued.delim) at has in
-              absurd (cc)
-        ]
-  ]
+    -- the entry is no group's, and has a value
+    no_group : e.1.is_group ≡ true → ⊥
+    no_group group = elim (pass.3 group) [
+      | inl empty ↦ name.named (sym key ∙ empty)
+      | inr has ↦ let bad : 0 < 0 = rw no_groups at has in absurd (omega arith)
+    ]
 
-  -- a value of the entry passed the caller's parser
-  passes : (e : Entry) → e.0.now ≡ (slice_index_or (args_of old) k d).id.now → (v : List ℕ) → PassesArg p.built e.0.now v
-      → Accepts (slice_index_or (args_of old) k d).ignore_case q v
-  passes e key v any =
-      let s = rules any.0 any.1 any.2 any.3 (rw key at any.4.0) in
-      let is_q : parser_of any.1 ≡ q = ap parser_of_value (s.parser q valued.parser) in
-      let as_q : Accepts any.1.ignore_case q v = subst (λ (w : ValueParser). Accepts any.1.ignore_case w v) is_q any.4.1 in
-      subst (λ (b : Bool). Accepts b q v) s.ignore_case as_q
+    full : 0 < length e.1.vals.items
+    full = elim pass.1 [
+      | inl group ↦ absurd (no_group group.0)
+      | inr (inl has) ↦ has
+      | inr (inr (inl counts)) ↦
+          let any = counts.1 in
+          let is_set : any.1.action ≡ Some Set = (rules any.0 any.1 any.2 any.3 any.4.0).action Set valued.set in
+          let bad : Set ≡ Count = rw is_set at any.4.1 in
+          absurd (cc)
+      | inr (inr (inr any)) ↦
+          let s = rules any.0 any.1 any.2 any.3 any.4.0 in
+          elim any.4.1 [
+            | inl none ↦ let one = s.least valued.set valued.least in absurd (omega arith)
+            | inr has ↦ let bad : false ≡ true = rw (s.val_delim, valued.delim) at has in absurd (cc)
+          ]
+    ]
 
-  -- and is read as that parser says
-  reads : (e : Entry) → e.0.now ≡ (slice_index_or (args_of old) k d).id.now → EntryPasses p.built e → e.1.reading ≡ reading_of q
-  reads e key pass = elim pass.4 [
-    | inl group ↦ absurd (no_group e key pass group)
-    | inr any ↦
-        let s = rules any.0 any.1 any.2 any.3 (rw key at any.4.0) in
+    -- a value of the entry passed the caller's parser
+    passes : (v : List ℕ) → PassesArg p.built e.0.now v → Accepts arg.ignore_case q v
+    passes v any =
+        let s = rules any.0 any.1 any.2 any.3 any.4.0 in
         let is_q : parser_of any.1 ≡ q = ap parser_of_value (s.parser q valued.parser) in
-        sym any.4.1 ∙ ap reading_of is_q
-  ]
+        subst (λ (b : Bool). Accepts b q v) s.ignore_case (subst (λ (w : ValueParser). Accepts any.1.ignore_case w v) is_q any.4.1)
 
-  entry_reads : (e : Entry) → e.0.now ≡ (slice_index_or (args_of old) k d).id.now → EntryPasses p.built e
-      → (t : List ℕ) × (option_map (λ s. read_as e.1.reading s.now) (slice_get e.1.vals.items 0) ≡ Some (read_as (reading_of q) t))
-      × Accepts (slice_index_or (args_of old) k d).ignore_case q t
-  entry_reads e key pass =
-      let all : All (λ v. PassesArg p.built e.0.now v.now) e.1.vals.items = elim pass.0 [
-        | inl group ↦ absurd (no_group e key pass group)
-        | inr vals ↦ vals
-      ] in
-      let got = first_passes (PassesArg p.built e.0.now) e.1.reading e.1.vals.items (full e key pass) all in
-      (got.0, got.1 ∙ ap (λ (r : Reading). Some (read_as r got.0)) (reads e key pass), passes e key got.0 got.2)
+    -- and is read as that parser says
+    reads : e.1.reading ≡ reading_of q
+    reads = elim pass.4 [
+      | inl group ↦ absurd (no_group group)
+      | inr any ↦ sym any.4.1 ∙ ap reading_of (ap parser_of_value ((rules any.0 any.1 any.2 any.3 any.4.0).parser q valued.parser))
+    ]
+
+    entry_reads : (t : List ℕ) × (option_map (λ s. read_as e.1.reading s.now) (slice_get e.1.vals.items 0) ≡ Some (read_as (reading_of q) t))
+        × Accepts arg.ignore_case q t
+    entry_reads =
+        let all : All (λ v. PassesArg p.built e.0.now v.now) e.1.vals.items = elim pass.0 [ inl group ↦ absurd (no_group group) | inr vals ↦ vals ] in
+        let got = first_passes (PassesArg p.built e.0.now) e.1.reading e.1.vals.items full all in
+        (got.0, got.1 ∙ ap (λ (r : Reading). Some (read_as r got.0)) reads, passes got.0 got.2)
 
   -- an argument that has an entry has a text that passed its parser, and is read as that parser says
-  pub valued_reads : (out-Command p.built).has_globals ≡ false → HasId (found_of m) (slice_index_or (args_of old) k d).id.now
-      → (t : List ℕ) × (one_text (found_of m) (slice_index_or (args_of old) k d).id.now ≡ Some (read_as (reading_of q) t))
-      × Accepts (slice_index_or (args_of old) k d).ignore_case q t
+  pub valued_reads : (out-Command p.built).has_globals ≡ false → HasId (found_of m) arg.id.now
+      → (t : List ℕ) × (one_text (found_of m) arg.id.now ≡ Some (read_as (reading_of q) t)) × Accepts arg.ignore_case q t
   valued_reads globals there =
-      let id = (slice_index_or (args_of old) k d).id.now in
+      let id = arg.id.now in
       let found = finds_id (found_of m).entries.items id there.0 there.1 there.2 in
       let got = entry_by_id (EntryPasses p.built) (found_of m).entries.items id found.0 (p.parsed globals).values found.1 in
-      let key : got.0.0.now ≡ id = (bytes_eq-Decides got.0.0.now id).0 got.2 in
-      let read = entry_reads got.0 key got.3 in
+      let read = entry_reads got.0 ((bytes_eq-Decides got.0.0.now id).0 got.2) got.3 in
       let text : option_map (λ s. read_as found.0.reading s.now) (slice_get found.0.vals.items 0) ≡ Some (read_as (reading_of q) read.0) =
       ap (λ (y : MatchedArg). option_map (λ s. read_as y.reading s.now) (slice_get y.vals.items 0)) (sym got.1) ∙ read.1 in
       (read.0, rw found.1 text, read.2)

@@ -1,5 +1,5 @@
 mod Examples
 mod Found
 mod Numbers
-mod Texts
+pub mod Texts
 mod Whole

@@ -1,8 +1,5 @@
 -- What clap found, as its getters give it: texts, and where values are from.
-use Rattle.std.proofs.Common.{◌≡◌, ◌∙◌, Bool, Option, None, Some, refl, sym, ap, subst, is_some, true}
-use Rattle.std.specs.Borrow.{Bor}
-use Rattle.std.specs.Prelude.{find, option_and_then, option_map}
-use Rattle.std.specs.Str.{bytes_eq}
+use Rattle.std.proofs.Common.{◌≡◌, ◌∙◌, Bool, Option, None, Some, refl, sym, ap, subst, is_some, true, Bor, find, option_and_then, option_map, bytes_eq}
 use Rattle.clap.specs.Facts.{Entry}
 use Rattle.clap.specs.Matches.{first_value, matched_of}
 use Rattle.clap.specs.Walk.{Row, Text, first_of, row_of, rows_of}

@@ -1,10 +1,10 @@
 -- A parse of the program's command line that succeeds has found all that a job has.
-use Rattle.std.proofs.Common.{◌≡◌, ◌∙◌, ◌<◌, ◌≤◌, ◌&&◌, ℕ, zero, suc, Bool, true, false, not, List, [], ◌∷◌, Option, Some, None, refl, sym, ap, subst, inl}
-use Rattle.std.proofs.Common.{inr, arith, length, is_some, map, codes, true≢false}
-use Rattle.std.specs.Prelude.{pos}
-use Rattle.std.specs.List.{list_all, slice_index_or}
-use Rattle.std.specs.Str.{bytes_eq}
+use Rattle.std.proofs.Common.{◌≡◌, ◌∙◌, ◌<◌, ◌≤◌, ◌&&◌, ℕ, Bool, true, false, not, List, [], ◌∷◌, Option, Some, None, refl, sym, ap, subst, inl, inr, arith}
+use Rattle.std.proofs.Common.{length, is_some, map, codes, true≢false, ⊎_elim, pos, bytes_eq}
+use Rattle.std.specs.List.{IsDistinct, list_all, slice_index_or}
+use Rattle.std.proofs.lemmas.Bool.{both_ways, cases_order}
 use Rattle.std.proofs.lemmas.List.{get_or-map, length-map}
+use Rattle.std.proofs.lemmas.Map.Keys.{apart_from_distinct}
 use Rattle.std.proofs.lemmas.Slice.Eq.{bytes_eq-Decides}
 use Rattle.clap.specs.Built.{IsParsedFrom, IsPlain, IsPlainArg}
 use Rattle.clap.specs.Facts.{args_of, groups_of, least_values, unwrap_or_range}
@@ -28,7 +28,7 @@ use Rattle.clap.proofs.WalkLemmas.{both, first_value-rows, one_text-rows}
 use Rattle.arguments.specs.Arguments.{file_rule, gatherers_rule, morsel_rule, partitions_rule, query_rule, the_app, workers_rule}
 use Rattle.arguments.specs.Jobs.{IsWhole}
 use Rattle.arguments.proofs.Found.{IsNamed, IsValued, valued_reads}
-use Rattle.arguments.proofs.Numbers.{signed_writes, unsigned_writes}
+use Rattle.arguments.proofs.Numbers.{signed_writes}
 
 abbrev the_rules : List Rule
 the_rules = file_rule ∷ query_rule ∷ workers_rule ∷ morsel_rule ∷ partitions_rule ∷ gatherers_rule ∷ []
@@ -66,34 +66,14 @@ abbrev stands_alone : Text → Bool
 stands_alone id = not (is_empty id) && (not (bytes_eq id (codes "help")) && not (bytes_eq id (codes "version")))
 
 is_not : (id other : Text) → not (bytes_eq id other) ≡ true → id ≡ other → ⊥
-is_not id other e same = absurd (true≢false (sym (bytes_eq-same id other same) ∙ is_false _ e))
-  where
-    bytes_eq-same : (x y : Text) → x ≡ y → bytes_eq x y ≡ true
-    bytes_eq-same x y s = (bytes_eq-Decides x y).1 s
+is_not id other e same = both_ways _ (is_false _ e) ((bytes_eq-Decides id other).1 same)
 
--- no rule of the list has the id
-abbrev is_new : Text → List Rule → Bool
-is_new id [] = true
-is_new id (r ∷ rules) = not (bytes_eq id r.id) && is_new id rules
-
--- no two rules of the list have one id
-abbrev are_apart : List Rule → Bool
-are_apart [] = true
-are_apart (r ∷ rules) = is_new r.id rules && are_apart rules
-
-new_at : (id : Text) (rules : List Rule) (k : ℕ) (d : Rule) → is_new id rules ≡ true → k < length rules → id ≡ (slice_index_or rules k d).id → ⊥
-new_at id [] k d new lt = absurd (omega arith)
-new_at id (r ∷ rules) zero d new lt = is_not id r.id (both _ _ new).0
-new_at id (r ∷ rules) (suc k) d new lt = new_at id rules k d (both _ _ new).1 (omega arith)
-
--- so only one place has an id
-only_place : (rules : List Rule) → are_apart rules ≡ true → (j k : ℕ) (r q : Rule) → j < length rules → k < length rules
-    → (slice_index_or rules j r).id ≡ (slice_index_or rules k q).id → j ≡ k
-only_place [] apart j k r q jlt klt same = absurd (omega arith)
-only_place (x ∷ rules) apart zero zero r q jlt klt same = refl
-only_place (x ∷ rules) apart zero (suc k) r q jlt klt same = absurd (new_at x.id rules k q (both _ _ apart).0 (omega arith) same)
-only_place (x ∷ rules) apart (suc j) zero r q jlt klt same = absurd (new_at x.id rules j r (both _ _ apart).0 (omega arith) (sym same))
-only_place (x ∷ rules) apart (suc j) (suc k) r q jlt klt same = ap suc (only_place rules (both _ _ apart).1 j k r q (omega arith) (omega arith) same)
+ids_differ : IsDistinct bytes_eq (map (λ (r : Rule). r.id) the_rules)
+unfolding IsDistinct
+ids_differ = (
+  (refl, (refl, (refl, (refl, (refl, tt))))),
+  ((refl, (refl, (refl, (refl, tt)))), ((refl, (refl, (refl, tt))), ((refl, (refl, tt)), ((refl, tt), (tt, tt))))),
+)
 
 module _ (c : Command) (line : app_of c ≡ the_app) where
   rules_are : map rule_of (args_of c) ≡ the_rules
@@ -127,8 +107,13 @@ module _ (c : Command) (line : app_of c ≡ the_app) where
       let globals = both _ _ external.1 in
       is_false _ globals.0
 
-  no_negates : (out-Command c).subcommand_negates_reqs ≡ false
-  no_negates = ap (λ (a : App). a.top.subcommand_negates_reqs) line
+  -- no two arguments have one id
+  apart : (j k : ℕ) (e d : Arg) → j < k → k < 6 → (slice_index_or (args_of c) j e).id.now ≡ (slice_index_or (args_of c) k d).id.now → ⊥
+  apart j k e d less lt same =
+      let id_at = λ (i : ℕ) (a : Arg). get_or-map (λ (r : Rule). r.id) the_rules i (rule_of a) [] in
+      both_ways _ (apart_from_distinct bytes_eq (map (λ (r : Rule). r.id) the_rules) j k [] ids_differ less lt)
+      ((bytes_eq-Decides _ _).1 (id_at j e (omega arith) ∙ sym (ap (λ (r : Rule). r.id) (rule_at j e (omega arith)))
+      ∙ same ∙ ap (λ (r : Rule). r.id) (rule_at k d lt) ∙ sym (id_at k d lt)))
 
   named : (k : ℕ) (d : Arg) → k < 6 → IsNamed c k d
   named k d lt =
@@ -138,12 +123,9 @@ module _ (c : Command) (line : app_of c ≡ the_app) where
       let flags = both _ _ filled.1 in
       record {
         unique = λ j e low same.
-            let in_rules : j < 6 = rw (← six) low in
-            let there : (slice_index_or (args_of c) j e).id.now ≡ (slice_index_or the_rules j (rule_of e)).id = ap (λ (r : Rule). r.id)
-            (rule_at j e in_rules) in
-            let here : id ≡ (slice_index_or the_rules k (rule_of d)).id = ap (λ (r : Rule). r.id) (rule_at k d lt) in
-            only_place the_rules refl j k (rule_of e) (rule_of d) in_rules lt
-            (sym there ∙ (((bytes_eq-Decides (slice_index_or (args_of c) j e).id.now id).0 same) ∙ here));
+            let one = (bytes_eq-Decides (slice_index_or (args_of c) j e).id.now id).0 same in
+            ⊎_elim (λ (is : j ≡ k). is) (λ r. absurd (⊎_elim (λ less. apart j k e d less lt one) (λ more. apart k j d e more (rw (← six) low) (sym one)) r))
+            (cases_order j k);
         named = λ empty. let no : is_empty id ≡ true = ap is_empty empty in absurd (true≢false (sym no ∙ is_false _ filled.0));
         own = λ auto. elim auto [ inl h ↦ is_not _ _ flags.0 h | inr h ↦ is_not _ _ flags.1 h ];
       }
@@ -165,7 +147,8 @@ module _ (c : Command) (line : app_of c ≡ the_app) where
     has_value k d lt required set =
         let name = named k d lt in
         let at = rule_at k d lt in
-        let given = required_has_value c m p is_plain no_globals no_negates k d (rw six lt) (ap (λ (r : Rule). r.required) at ∙ required)
+        let given = required_has_value c m p is_plain no_globals (ap (λ (a : App). a.top.subcommand_negates_reqs) line) k d (rw six lt)
+        (ap (λ (r : Rule). r.required) at ∙ required)
         (ap (λ (r : Rule). r.action) at ∙ set) (plain_at k d lt).delim (least_one k d lt) name.unique name.named name.own in
         subst (λ (id : Text). is_some (first_of id (rows_of (found_of m))) ≡ true) (ap (λ (r : Rule). r.id) at)
         (rw (← first_value-rows (found_of m) (slice_index_or (args_of c) k d).id.now) given)
@@ -207,7 +190,7 @@ module _ (c : Command) (line : app_of c ≡ the_app) where
           file = has_value 0 d (omega arith) refl refl;
           query = has_value 1 d (omega arith) refl refl;
           workers = (_, workers.1, signed_writes 1 64 workers.0 (omega arith) workers.2);
-          morsel = (_, morsel.1, unsigned_writes 1 1073741824 morsel.0 morsel.2);
+          morsel = (_, morsel.1, (morsel.2.0, morsel.2.2, morsel.2.3));
           partitions = (_, partitions.1, signed_writes 1 256 partitions.0 (omega arith) partitions.2);
           gatherers = (_, gatherers.1, signed_writes 1 8 gatherers.0 (omega arith) gatherers.2);
         }

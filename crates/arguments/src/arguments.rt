@@ -252,6 +252,7 @@ fn gatherers_option<'a>(alloc: Global) -> Arg<'a>
 }
 
 /// The job of what was matched.
+#[tactic(auto, using(crate::proofs::Texts::text_found))]
 fn job_of(alloc: Global, matches: &ArgMatches<'_>) -> Result<Job, AllocError>
     requires { IsWhole (rows_of (found_of matches.now)) }
     ensures { IfOk result (IsJobOf (rows_of (found_of matches.now))) }
@@ -267,6 +268,7 @@ fn job_of(alloc: Global, matches: &ArgMatches<'_>) -> Result<Job, AllocError>
 }
 
 /// Whether the words give an option, so that its value isn't its default.
+#[tactic(auto, using(crate::proofs::Texts::given_by_source))]
 fn is_given(matches: &ArgMatches<'_>, id: &str) -> bool
     ensures { result ≡ is_given id.now (rows_of (found_of matches.now)) }
 {

@@ -2,7 +2,7 @@
 use Rattle.std.proofs.Common.{◌≡◌, ℕ, ◌*◌, Bool, true, false, ◌&&◌, cond, eqb, List, [], ◌∷◌, Some, Contains, IsPermutation, Less, Equal, refl, sym, ◌∙◌, arith}
 use Rattle.std.proofs.Common.{subst, ⊎_elim}
 use Rattle.std.specs.Cmp.{IsTotalOrder}
-use Rattle.std.proofs.lemmas.Bool.{eq-eqb, eqb-true, and_from, and_parts}
+use Rattle.std.proofs.lemmas.Bool.{eq-eqb, and_from}
 use Rattle.std.proofs.lemmas.Bool.Decides.{nat_tests}
 use Rattle.std.proofs.lemmas.Cmp.{nat_cmp_total, on_total, then_total}
 use Rattle.std.proofs.lemmas.List.Elements.{All-from_recursion, All-contains}
@@ -75,11 +75,7 @@ same_has a b key h = grind (arith, nat_tests)
 
 -- a bar above another doesn't have its key
 pub higher_misses : (a b : Bar) (key : Key) → key_cmp a b ≡ Less → has a key ≡ true → has b key ≡ false
-higher_misses a b key h t =
-    let p = and_parts _ _ t in
-    let l = eqb-true a.locate key.locate p.0 in
-    let s = eqb-true a.start key.start p.1 in
-    grind (arith, nat_tests)
+higher_misses a b key h t = grind (arith, nat_tests)
 
 -- ---- a list of sales has one table
 

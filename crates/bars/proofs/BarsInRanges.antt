@@ -1,15 +1,13 @@
 -- The bars of many tables whose locates are in a range are those of the range of their union.
-use Rattle.std.proofs.Common.{◌≡◌, eqb, ℕ, ◌+◌, ◌^◌, ◌<◌, ◌≤◌, Bool, true, false, All, List, [], ◌∷◌, ◌++◌, map, get_or, filter}
-use Rattle.std.proofs.Common.{Some, None, Less, Contains, refl, sym, ap, ◌∙◌, subst, arith, ⊎_elim}
-use Rattle.std.specs.List.{sum_by}
+use Rattle.std.proofs.Common.{◌≡◌, eqb, ℕ, ◌+◌, ◌<◌, ◌≤◌, Bool, true, false, All, List, [], ◌∷◌, ◌++◌, map, get_or, filter, Some, None, Less, Contains, refl}
+use Rattle.std.proofs.Common.{sym, ap, ◌∙◌, subst, arith, ⊎_elim, sum_by}
 use Rattle.std.specs.List.Sorted.{IsNonDecreasingBy}
 use Rattle.std.proofs.lemmas.Bool.{and_parts, and_right, both_ways, cases_Bool, cases_lt, eqb-true, false_from_ne_true, ne_eqb}
 use Rattle.std.proofs.lemmas.Bool.Decides.{nat_tests}
 use Rattle.std.proofs.lemmas.Map.Keys.{Less-from_sorted}
 use Rattle.std.proofs.lemmas.List.Concat.{flat_map-append}
 use Rattle.std.proofs.lemmas.List.Kept.{IsStrictlySortedBy-filter}
-use Rattle.std.proofs.lemmas.List.Elements.{filter_agree, filter_passes}
-use Rattle.std.proofs.lemmas.List.Elements.{All-contains_itself, All-weaker}
+use Rattle.std.proofs.lemmas.List.Elements.{filter_agree, filter_passes, All-contains_itself, All-weaker}
 use Rattle.std.proofs.lemmas.List.Sorted.{IsNonDecreasingBy-from_all_adjacent}
 use Rattle.lists.proofs.Lists.{filter_of_filter}
 use Rattle.lists.proofs.Order.{Contains-filter}
@@ -78,28 +76,22 @@ module _ (test : Bar → Bool) (same : IsOfLocates test) where
   IsUnionOf-within bars table union =
       union_from (filter test bars) (filter test table) (IsStrictlySortedBy-filter key_cmp test table union.rise) (alike_within table bars (alike_from union))
 
-  pub sums_of_range : (bars : List Bar) → AllSumsFit bars → AllSumsFit (filter test bars)
-  sums_of_range bars fit = record {
-    volume = λ key. go (λ b. b.volume) (2 ^ 128) key (omega arith) (fit.volume key);
-    notional = λ key. go (λ b. b.notional) (2 ^ 128) key (omega arith) (fit.notional key);
-    trades = λ key. go (λ b. b.trades) (2 ^ 64) key (omega arith) (fit.trades key);
+  at_most : (f : Bar → ℕ) (key : Key) (bars : List Bar) → sum_by f (under key (filter test bars)) ≤ sum_by f (under key bars)
+  at_most f key bars =
+      ⊎_elim (λ e. rw (under_inside key bars e) (omega arith)) (λ e. rw (under_outside key bars e) (omega arith)) (cases_Bool (test (at key)))
+
+  -- and what is joined as they are fits where all bars do
+  pub sums_within : (one bars : List Bar) → AreJoinedAlike one (filter test bars) → AllSumsFit bars → AllSumsFit one
+  sums_within one bars alike fit = record {
+    volume = λ key. let l = less (λ b. b.volume) (λ a b. refl) key in omega (arith, l, fit.volume key);
+    notional = λ key. let l = less (λ b. b.notional) (λ a b. refl) key in omega (arith, l, fit.notional key);
+    trades = λ key. let l = less (λ b. b.trades) (λ a b. refl) key in omega (arith, l, fit.trades key);
   }
     where
-      go : (f : Bar → ℕ) (n : ℕ) (key : Key) → 0 < n → sum_by f (under key bars) < n → sum_by f (under key (filter test bars)) < n
-      go f n key some h = ⊎_elim (λ e. rw (under_inside key bars e) h) (λ e. rw (under_outside key bars e) some) (cases_Bool (test (at key)))
+      less : (f : Bar → ℕ) → Adds f → (key : Key) → sum_by f (under key one) ≤ sum_by f (under key bars)
+      less f h key = omega (arith, sum_together f h key one, ap (of f) (alike key), sum_together f h key (filter test bars), at_most f key bars)
 
--- ---- what is joined alike
-
-same_sum : (f : Bar → ℕ) → Adds f → (one other : List Bar) → AreJoinedAlike one other → (key : Key) → sum_by f (under key one) ≡ sum_by f (under key other)
-same_sum f h one other alike key = sym (sum_together f h key one) ∙ ap (of f) (alike key) ∙ sum_together f h key other
-
--- it fits alike
-pub sums_alike : (one other : List Bar) → AreJoinedAlike one other → AllSumsFit other → AllSumsFit one
-sums_alike one other alike fit = record {
-  volume = λ key. rw (same_sum (λ b. b.volume) (λ a b. refl) one other alike key) (fit.volume key);
-  notional = λ key. rw (same_sum (λ b. b.notional) (λ a b. refl) one other alike key) (fit.notional key);
-  trades = λ key. rw (same_sum (λ b. b.trades) (λ a b. refl) one other alike key) (fit.trades key);
-}
+-- ---- what is joined alike has the same starts
 
 some_joined : (bar : Bar) (bars : List Bar) → joined_all (Some bar) bars ≡ None → ⊥
 some_joined bar [] e = absurd (cc)
@@ -109,7 +101,6 @@ not_none : (bars : List Bar) → joined_all None bars ≡ None → bars ≡ []
 not_none [] e = refl
 not_none (x ∷ xs) e = absurd (some_joined x xs e)
 
--- and it has the same starts
 pub starts_alike : (limit : ℕ) (one other : List Bar) → AreJoinedAlike one other → All (λ bar. bar.start < limit) other → All (λ bar. bar.start < limit) one
 starts_alike limit one other alike fits =
     All-weaker (Contains one) (λ bar. bar.start < limit) (λ bar c.

@@ -23,7 +23,7 @@ use Rattle.bars.specs.declared.form.Form.TheVariants.{Sales, Bars}
 use Rattle.bars.specs.Steps.{AreJoinedAlike, AreOfForm, bars_of_form, bar_of_one, bars_of}
 use Rattle.bars.proofs.Bars.{AreBarsOf-permutation, AreBarsOf-unique, has, made}
 use Rattle.bars.proofs.JoinedTables.{alike_from, alike_parts, by_parts, filter-map, joined_traded, table_has, together, union_alike, union_itself}
-use Rattle.bars.proofs.MergedTables.{merged_union}
+use Rattle.bars.proofs.MergedTables.{put_union}
 
 -- ---- bars of one sale each
 
@@ -83,7 +83,7 @@ bars_of_are width (x ∷ xs) =
     let one = bar_of_one width x ∷ [] in
     let others = bars_of_are width xs in
     AreBarsOf-both width (x ∷ []) xs one (bars_of width xs) _ (bars_from_ones width (x ∷ []) one (union_itself one (tt, tt))) others
-    (merged_union one (bars_of width xs) (tt, tt) others.rise)
+    (put_union (bar_of_one width x) (bars_of width xs) others.rise)
 
 -- so a table of the sales is that one
 pub table_is : (width : ℕ) (sales : List Sale) (table : List Bar) → AreBarsOf width sales table → table ≡ bars_of width sales

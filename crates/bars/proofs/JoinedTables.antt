@@ -1,9 +1,8 @@
 -- Bars joined under each key: of lists one after another, and of tables, which are what lists are joined to.
-use Rattle.std.proofs.Common.{◌≡◌, ℕ, ◌+◌, ◌<◌, Bool, true, false, ◌&&◌, cond, not, All, List, [], ◌∷◌, ◌++◌, length, map, filter, take, eqb}
-use Rattle.std.proofs.Common.{get_or, Option, Some, None, Contains, IsPermutation, Ordering, Less, Equal, Bor, refl, sym, ap, ap₂, ◌∙◌, subst, arith}
+use Rattle.std.proofs.Common.{◌≡◌, ℕ, ◌+◌, ◌<◌, Bool, true, false, ◌&&◌, cond, not, All, List, [], ◌∷◌, ◌++◌, length, map, filter, take, eqb, get_or, Option}
+use Rattle.std.proofs.Common.{Some, None, option_to_list, Contains, IsPermutation, Ordering, Less, Equal, Bor, refl, sym, ap, ap₂, ◌∙◌, subst, arith, IfSome}
 use Rattle.std.specs.List.{AllByRecursion, sum_by}
 use Rattle.std.specs.List.Sorted.{IsStrictlySortedBy, IsStableByKey, IsSortedByKey}
-use Rattle.std.specs.Option.{IfSome}
 use Rattle.std.specs.Ordering.{is_lt, nat_cmp, ordering_then}
 use Rattle.std.specs.Fn.{Mut, Called, ComputesKey}
 use Rattle.std.proofs.lemmas.Bool.Decides.{nat_tests}
@@ -70,19 +69,25 @@ pair_alike a b e key =
     [ true ↦ refl | false ↦ refl ])
 
 -- above a bar there is none of its key
-pub none_above : (bar : Bar) (bars : List Bar) (key : Key) → AllByRecursion (λ z. key_cmp bar z ≡ Less) bars → has bar key ≡ true → under key bars ≡ []
+none_above : (bar : Bar) (bars : List Bar) (key : Key) → AllByRecursion (λ z. key_cmp bar z ≡ Less) bars → has bar key ≡ true → under key bars ≡ []
 none_above bar [] key above t = refl
 none_above bar (z ∷ bars) key above t = rw (higher_misses bar z key above.0 t) (none_above bar bars key above.1 t)
 
 -- a table has one bar of a key, or none
-pub together_found : (key : Key) (table : List Bar) → IsByKey table → together key table ≡ found table key
-together_found key [] up = refl
-together_found key (bar ∷ table) up =
-    together_cons key bar table
-    ∙ elim (has bar key) as (λ t. has bar key ≡ t → joined (cond t (Some bar) None) (together key table) ≡ cond t (Some bar) (found table key)) [
-      | true ↦ λ e. ap (λ l. joined (Some bar) (joined_all None l)) (none_above bar table key (sorted_head key_cmp bar table up) e)
-      | false ↦ λ e. together_found key table (sorted_tail key_cmp bar table up)
+pub under_found : (key : Key) (table : List Bar) → IsByKey table → under key table ≡ option_to_list (found table key)
+under_found key [] up = refl
+under_found key (bar ∷ table) up =
+    elim (has bar key) as (λ t. has bar key ≡ t → cond t (bar ∷ under key table) (under key table) ≡ option_to_list (cond t (Some bar) (found table key))) [
+      | true ↦ λ e. ap (λ l. bar ∷ l) (none_above bar table key (sorted_head key_cmp bar table up) e)
+      | false ↦ λ e. under_found key table (sorted_tail key_cmp bar table up)
     ] refl
+
+joined_alone : (o : Option Bar) → joined_all None (option_to_list o) ≡ o
+joined_alone None = refl
+joined_alone (Some bar) = refl
+
+pub together_found : (key : Key) (table : List Bar) → IsByKey table → together key table ≡ found table key
+together_found key table up = ap (joined_all None) (under_found key table up) ∙ joined_alone (found table key)
 
 -- ---- the table that bars are joined to
 
@@ -147,6 +152,10 @@ unfolding of
 sum_joined f h before [] = omega arith
 sum_joined f h None (x ∷ xs) = omega (arith, sum_joined f h (Some x) xs, sum_by-cons f x xs)
 sum_joined f h (Some a) (x ∷ xs) = omega (arith, sum_joined f h (Some (joined_bar a x)) xs, sum_by-cons f x xs, h a x)
+
+pub sum_of_joined : (f : Bar → ℕ) → Adds f → (bars : List Bar) (kept : Bar) → joined_all None bars ≡ Some kept → f kept ≡ sum_by f bars
+unfolding of
+sum_of_joined f h bars kept e = omega (arith, ap (of f) e, sum_joined f h None bars)
 
 pub sum_together : (f : Bar → ℕ) → Adds f → (key : Key) (bars : List Bar) → of f (together key bars) ≡ sum_by f (under key bars)
 unfolding of

@@ -1,17 +1,16 @@
 -- The last bar of a table, to which the next bar is joined, or behind which it comes.
-use Rattle.std.proofs.Common.{◌≡◌, ℕ, ◌+◌, ◌<◌, true, false, All, List, [], ◌∷◌, ◌++◌, length, map, take, get_or, Ordering, Less, Equal, Greater}
-use Rattle.std.proofs.Common.{refl, set, sym, ap, ◌∙◌, subst, arith, append_assoc}
+use Rattle.std.proofs.Common.{◌≡◌, ℕ, ◌+◌, ◌<◌, true, false, All, List, [], ◌∷◌, ◌++◌, length, map, take, get_or, Ordering, Less, Equal, Greater, refl, set}
+use Rattle.std.proofs.Common.{sym, ap, ◌∙◌, subst, arith, append_assoc, is_eq, is_gt, is_lt}
 use Rattle.std.specs.List.Sorted.{IsSorted, IsStrictlySortedBy}
-use Rattle.std.specs.Ordering.{is_eq, is_gt, is_lt}
 use Rattle.std.proofs.lemmas.Bool.Decides.{nat_tests}
-use Rattle.std.proofs.lemmas.List.{get_or-map, get_or-take, get_or_append_left, get_or_at, get_or_default}
-use Rattle.std.proofs.lemmas.List.{length-map, length-take-le, length_push, take_all, take_more}
+use Rattle.std.proofs.lemmas.List.{get_or-map, get_or-take, get_or_append_left, get_or_default, length-map, length-take-le, length_push, take_all, take_more}
 use Rattle.std.proofs.lemmas.List.Elements.{All-from_recursion, All-get_or, All-head, All-push, All-tail, All-weaker, recursion_from_All}
 use Rattle.std.proofs.lemmas.List.Sorted.{ranks_by, sorted_far}
 use Rattle.std.proofs.Math.Seq.{set-append_seam}
+use Rattle.std.proofs.lemmas.Map.Views.{All-before_last}
 use Rattle.std.proofs.lemmas.Map.Keys.{Less-from_sorted, sorted_from_all_adjacent}
-use Rattle.bars.specs.Bars.{AllSumsFit, Bar, key_cmp, joined_bar, IsByKey, IsUnionOf}
-use Rattle.bars.specs.Steps.{CanAdd}
+use Rattle.bars.specs.Bars.{Bar, key_cmp, joined_bar, IsByKey, IsUnionOf}
+use Rattle.bars.specs.Steps.{CanAdd, EachJoins}
 use Rattle.bars.proofs.Bars.{key_total}
 use Rattle.bars.proofs.JoinedTables.{alike_parts, pair_alike, table_has, union_from, union_itself, union_more}
 use Rattle.bars.proofs.SumsAreBounded.{next_fits}
@@ -37,33 +36,26 @@ front_rises front last up =
     rw (get_or_append_left front (last ∷ []) no_bar k (omega (arith, h)), get_or_append_left front (last ∷ []) no_bar (k + 1) h) at
     (Less-from_sorted key_cmp (front ++ last ∷ []) k (k + 1) no_bar up (omega arith) (omega (arith, length_push front last))))
 
-front_below : (front : List Bar) (last : Bar) → IsByKey (front ++ last ∷ []) → All (λ z. key_cmp z last ≡ Less) front
-front_below front last up k d h =
-    rw (get_or_append_left front (last ∷ []) d k h, get_or_at front last [] d (length front) refl) at
-    (Less-from_sorted key_cmp (front ++ last ∷ []) k (length front) d up h (omega (arith, length_push front last)))
-
 -- ---- the next bar
 
 -- it has the last one's key
 pub joined_to_last : (front : List Bar) (last bar : Bar) → IsByKey (front ++ last ∷ []) → key_cmp last bar ≡ Equal
     → IsUnionOf ((front ++ last ∷ []) ++ bar ∷ []) (front ++ joined_bar last bar ∷ [])
 joined_to_last front last bar up same =
-    union_from _ (front ++ joined_bar last bar ∷ []) (rise_push front (joined_bar last bar) (front_rises front last up) (front_below front last up))
+    union_from _ (front ++ joined_bar last bar ∷ []) (rise_push front (joined_bar last bar) (front_rises front last up) (All-before_last key_cmp front last up))
     (rw append_assoc (alike_parts front front (joined_bar last bar ∷ []) (last ∷ bar ∷ []) (λ key. refl) (pair_alike last bar same)))
 
-less_from : (o : Ordering) → is_gt o ≡ false → is_eq o ≡ false → o ≡ Less
-less_from Less p q = refl
-less_from Equal p q = absurd (cc)
-less_from Greater p q = absurd (cc)
+less_from : (a b : Bar) → is_gt (key_cmp a b) ≡ false → is_eq (key_cmp a b) ≡ false → key_cmp a b ≡ Less
+less_from a b p q = grind (arith, nat_tests)
 
 -- it has a greater key
 pub put_behind_last : (front : List Bar) (last bar : Bar) → IsByKey (front ++ last ∷ []) → is_gt (key_cmp last bar) ≡ false → is_eq (key_cmp last bar) ≡ false
     → IsUnionOf ((front ++ last ∷ []) ++ bar ∷ []) ((front ++ last ∷ []) ++ bar ∷ [])
 put_behind_last front last bar up here differ =
-    let less = less_from (key_cmp last bar) here differ in
+    let less = less_from last bar here differ in
     union_itself _ (rise_push (front ++ last ∷ []) bar up
     (All-push (λ z. key_cmp z bar ≡ Less) front last
-    (All-weaker (λ z. key_cmp z last ≡ Less) (λ z. key_cmp z bar ≡ Less) (λ z h. key_total.trans z last bar h less) front (front_below front last up)) less))
+    (All-weaker (λ z. key_cmp z last ≡ Less) (λ z. key_cmp z bar ≡ Less) (λ z h. key_total.trans z last bar h less) front (All-before_last key_cmp front last up)) less))
 
 pub one_rises : (bar : Bar) → IsByKey (bar ∷ [])
 unfolding IsStrictlySortedBy
@@ -104,7 +96,7 @@ not_after : (a b : Bar) → is_lt (key_cmp b a) ≡ false → is_gt (key_cmp a b
 not_after a b h = grind (arith, nat_tests)
 
 -- the next of sorted bars can be put into the table that those before it are joined to
-next_can_add : (sorted table : List Bar) (i : ℕ) (d : Bar) → IsSorted key_cmp sorted → AllSumsFit sorted → i < length sorted → IsUnionOf (take i sorted) table
+next_can_add : (sorted table : List Bar) (i : ℕ) (d : Bar) → IsSorted key_cmp sorted → EachJoins sorted → i < length sorted → IsUnionOf (take i sorted) table
     → CanAdd table (get_or sorted i d)
 next_can_add sorted table i d rise fit within union =
     let bar = get_or sorted i d in
@@ -120,7 +112,7 @@ next_can_add sorted table i d rise fit within union =
     }
 
 -- so can that of the next of what has bars, and with it one bar more is joined
-pub next_bar : {X : Type 0} (f : X → Bar) (xs : List X) (i : ℕ) (d : X) (bar : Bar) (table : List Bar) → IsSorted key_cmp (map f xs) → AllSumsFit (map f xs)
+pub next_bar : {X : Type 0} (f : X → Bar) (xs : List X) (i : ℕ) (d : X) (bar : Bar) (table : List Bar) → IsSorted key_cmp (map f xs) → EachJoins (map f xs)
     → i < length xs → bar ≡ f (get_or xs i d) → IsUnionOf (take i (map f xs)) table
     → CanAdd table bar × ((new : List Bar) → IsUnionOf (table ++ bar ∷ []) new → IsUnionOf (take (i + 1) (map f xs)) new)
 next_bar f xs i d bar table rise fit within is union =

@@ -1,18 +1,17 @@
 -- The sums of a bar: how large they can be, and what they mean for the text of a bar.
 use Rattle.std.proofs.Common.{◌≡◌, ℕ, ◌+◌, ◌*◌, ◌/◌, ◌^◌, ◌<◌, ◌≤◌, cond, true, All, List, [], ◌∷◌, ◌++◌, length, filter, map, take, drop, get_or, Some}
-use Rattle.std.proofs.Common.{Contains, Equal, refl, sym, ap, ◌∙◌, arith}
-use Rattle.std.specs.List.{sum_by}
+use Rattle.std.proofs.Common.{Contains, Equal, Option, None, option_to_list, append_assoc, refl, sym, ap, ap₂, ◌∙◌, arith, sum_by}
 use Rattle.std.proofs.lemmas.List.{length-append, map-append, take-append-drop}
-use Rattle.std.proofs.lemmas.List.Sums.{count_by-le-length, length-filter, sum_by-append, sum_by-cons, sum_by_push}
+use Rattle.std.proofs.lemmas.List.Sums.{count_by-le-length, length-filter, sum_by-append, sum_by-cons}
 use Rattle.std.proofs.lemmas.List.Elements.{All-append, All-filter, All-head, All-map, All-tail, All-weaker, filter-append, filter_more}
 use Rattle.std.proofs.Math.Nat.{div-mul-le_self, div-le_of_le-mul}
 use Rattle.row_types.specs.declared.trade.Sale.{Sale}
-use Rattle.bars.specs.Bars.{Key, Bar, start_of, has_key, bar_of, found, key_cmp, AreBarsOf, AreBarsOfEach, CanJoin, IsUnionOf, SumsFit, AllSumsFit, IsTraded}
-use Rattle.bars.specs.Bars.{under, all_bars, all_sales}
-use Rattle.bars.specs.Steps.{AreJoinedAlike, bar_of_one}
+use Rattle.bars.specs.Bars.{Key, Bar, start_of, has_key, bar_of, found, key_cmp, AreBarsOf, AreBarsOfEach, CanJoin, IsByKey, IsUnionOf, SumsFit, AllSumsFit}
+use Rattle.bars.specs.Bars.{IsTraded, joined_all, under, all_bars, all_sales}
+use Rattle.bars.specs.Steps.{AreJoinedAlike, EachJoins, bar_of_one}
 use Rattle.bars.specs.Texts.{IsWritable}
 use Rattle.bars.proofs.Bars.{found_itself, has, has_itself, key_of, same_has}
-use Rattle.bars.proofs.JoinedTables.{Adds, alike_from, alike_parts, of, sum_together, table_has, union_itself}
+use Rattle.bars.proofs.JoinedTables.{Adds, alike_from, alike_parts, of, sum_of_joined, sum_together, table_has, under_found}
 use Rattle.bars.proofs.BarsOfSales.{each_alike, ones_union, together_ones}
 
 -- ---- the sums of few sales fit
@@ -65,21 +64,19 @@ all_sums_fit width lists tables are = sums_of_few width (all_sales lists) (all_b
 
 -- ---- two bars whose sums fit together
 
-join_if : (a b : Bar) (bars : List Bar) (key : Key) → ((f : Bar → ℕ) → Adds f → f a + f b ≤ sum_by f (under key bars)) → AllSumsFit bars → CanJoin a b
-join_if a b bars key within fit =
+-- where all sums fit, each next bar can be joined
+pub each_joins : (bars : List Bar) → AllSumsFit bars → EachJoins bars
+each_joins bars fit key front rest bar kept split before =
     let v = within (λ z. z.volume) (λ a b. refl) in
     let n = within (λ z. z.notional) (λ a b. refl) in
     let t = within (λ z. z.trades) (λ a b. refl) in
     (omega (arith, v, fit.volume key), omega (arith, n, fit.notional key), omega (arith, t, fit.trades key))
-
--- the sum of what a table has under a key
-sum_found : (f : Bar → ℕ) → Adds f → (bars table : List Bar) (key : Key) (a : Bar) → IsUnionOf bars table → found table key ≡ Some a
-    → f a ≡ sum_by f (under key bars)
-unfolding of
-sum_found f h bars table key a union e = ap (of f) (sym e ∙ union.each key) ∙ sum_together f h key bars
+  where
+    within : (f : Bar → ℕ) → Adds f → f kept + f bar ≤ sum_by f (under key bars)
+    within f h = omega (arith, ap (sum_by f) split, sum_by-append f front (bar ∷ rest), sum_by-cons f bar rest, sum_of_joined f h front kept before)
 
 -- the next bar's and those of a bar of its key that those before it are joined to
-pub next_fits : (bars table : List Bar) (i : ℕ) (d kept : Bar) → i < length bars → IsUnionOf (take i bars) table → AllSumsFit bars → Contains table kept
+pub next_fits : (bars table : List Bar) (i : ℕ) (d kept : Bar) → i < length bars → IsUnionOf (take i bars) table → EachJoins bars → Contains table kept
     → key_cmp kept (get_or bars i d) ≡ Equal → CanJoin kept (get_or bars i d)
 next_fits bars table i d kept within union fit there same =
     let bar = get_or bars i d in
@@ -87,17 +84,15 @@ next_fits bars table i d kept within union fit there same =
     let here : has bar key ≡ true = sym (same_has kept bar key same) ∙ has_itself kept in
     let before = under key (take i bars) in
     let after = under key (drop (i + 1) bars) in
-    let split : under key bars ≡ (before ++ bar ∷ []) ++ after =
+    let split : under key bars ≡ before ++ bar ∷ after =
     ap (under key) (sym (take-append-drop (i + 1) bars)) ∙ filter-append (λ b. has b key) (take (i + 1) bars) (drop (i + 1) bars)
-    ∙ ap (λ l. l ++ after) (filter_more (λ b. has b key) bars i d within ∙ ap (λ t. before ++ cond t (bar ∷ []) []) here) in
-    join_if kept bar bars key (λ f h.
-    omega (
-      arith,
-      ap (sum_by f) split,
-      sum_by-append f (before ++ bar ∷ []) after,
-      sum_by_push f before bar,
-      sum_found f h (take i bars) table key kept union (found_itself table kept union.rise there),
-    )) fit
+    ∙ ap (λ l. l ++ after) (filter_more (λ b. has b key) bars i d within ∙ ap (λ t. before ++ cond t (bar ∷ []) []) here) ∙ append_assoc before _ after in
+    fit key before after bar kept split (sym (union.each key) ∙ found_itself table kept union.rise there)
+
+-- the bars of one key of two tables
+pub under_both : (key : Key) (one other : List Bar) → IsByKey one → IsByKey other
+    → under key (one ++ other) ≡ option_to_list (found one key) ++ option_to_list (found other key)
+under_both key one other up vp = filter-append (λ b. has b key) one other ∙ ap₂ ◌++◌ (under_found key one up) (under_found key other vp)
 
 -- the sums of the bars of fewer than 2,147,483,648 sales fit
 pub sums_fit : (width : ℕ) (xs ys : List Sale) (one other : List Bar) → AreBarsOf width xs one → AreBarsOf width ys other
@@ -107,14 +102,22 @@ sums_fit width xs ys one other p q traded also few key a b e f =
     (alike_from (ones_union width ys other q)) in
     let fit = sums_of_few width (xs ++ ys) (one ++ other) (rw (map-append (bar_of_one width) xs ys) alike) (All-append IsTraded one other traded also)
     (rw length-append few) in
-    join_if a b (one ++ other) key (λ g h.
-    omega (
-      arith,
-      ap (sum_by g) (filter-append (λ z. has z key) one other),
-      sum_by-append g (under key one) (under key other),
-      sum_found g h one one key a (union_itself one p.rise) e,
-      sum_found g h other other key b (union_itself other q.rise) f,
-    )) fit
+    each_joins (one ++ other) fit key (a ∷ []) [] b a
+    (under_both key one other p.rise q.rise ∙ ap₂ (λ x y. option_to_list x ++ option_to_list y) e f) refl
+
+-- where the sums of two tables fit, each next of their bars can be joined
+pub tables_join : (one other : List Bar) → IsByKey one → IsByKey other → SumsFit one other → EachJoins (one ++ other)
+tables_join one other up vp fit key front rest bar kept split before =
+    go (found one key) (found other key) (fit key) front (sym (under_both key one other up vp) ∙ split) before
+  where
+    go : (x y : Option Bar) → ((a b : Bar) → x ≡ Some a → y ≡ Some b → CanJoin a b) → (front : List Bar)
+        → option_to_list x ++ option_to_list y ≡ front ++ bar ∷ rest → joined_all None front ≡ Some kept → CanJoin kept bar
+    go x y h [] e f = absurd (cc)
+    go None None h (a ∷ front) e f = absurd (cc)
+    go (Some a) None h (z ∷ front) e f = absurd (omega (arith, ap length e, length-append front (bar ∷ rest)))
+    go None (Some b) h (z ∷ front) e f = absurd (omega (arith, ap length e, length-append front (bar ∷ rest)))
+    go (Some a) (Some b) h (z ∷ []) e f = h kept bar (cc) (cc)
+    go (Some a) (Some b) h (z ∷ w ∷ front) e f = absurd (omega (arith, ap length e, length-append front (bar ∷ rest)))
 
 -- ---- what the text of a bar asks
 

@@ -1,6 +1,7 @@
--- What the steps of making tables compute: the bar of one sale, two tables in one, bars in order.
+-- What the steps of making tables compute: the bar of one sale, a bar put into a table, bars in order.
 -- To be believed of a crate used by itself: the table of a bucket is defined by them.
-use Rattle.std.specs.Prelude.{◌≡◌, ℕ, ◌*◌, ◌<◌, ◌≤◌, false, All, Contains, List, [], ◌∷◌, None, length, map, nat_eq}
+use Rattle.std.specs.Prelude.{◌≡◌, ℕ, ◌*◌, ◌<◌, ◌≤◌, false, All, Contains, List, [], ◌∷◌, ◌++◌, None, Some}
+use Rattle.std.specs.Prelude.{length, map, nat_eq}
 use Rattle.std.specs.List.{IsDistinct}
 use Rattle.std.specs.declared.cmp.Ordering.{Ordering}
 use Rattle.std.specs.declared.cmp.Ordering.TheVariants.{Less, Equal, Greater}
@@ -38,28 +39,27 @@ pub record CanAdd (table : List Bar) (bar : Bar) : Type 0 where
   pub up_to : All (λ kept. is_gt (key_cmp kept bar) ≡ false) table
   pub sums : (kept : Bar) → Contains table kept → key_cmp kept bar ≡ Equal → CanJoin kept bar
 
+-- of each key, the next bar can be joined to what those before it are joined to
+abbrev pub EachJoins : List Bar → Type 0
+EachJoins bars = (key : Key) (front rest : List Bar) (bar kept : Bar) → under key bars ≡ front ++ bar ∷ rest →
+    joined_all None front ≡ Some kept → CanJoin kept bar
+
 -- one of three values, by how two things compare
 abbrev pub by_order : Ordering → List Bar → List Bar → List Bar → List Bar
 by_order Less lower same higher = lower
 by_order Equal lower same higher = same
 by_order Greater lower same higher = higher
 
--- a table's first bar and what its others give with a table, put into that table
-abbrev pub put_before : Bar → (List Bar → List Bar) → List Bar → List Bar
-put_before one others [] = one ∷ others []
-put_before one others (other ∷ table) =
-    by_order (key_cmp one other) (one ∷ others (other ∷ table))
-    (joined_bar one other ∷ others table) (other ∷ put_before one others table)
-
--- two tables in one, bar after bar
-abbrev pub merged_tables : List Bar → List Bar → List Bar
-merged_tables [] other = other
-merged_tables (one ∷ others) other = put_before one (merged_tables others) other
+-- a bar put into a table, and joined to the one of its key
+abbrev pub put : Bar → List Bar → List Bar
+put bar [] = bar ∷ []
+put bar (other ∷ table) =
+    by_order (key_cmp bar other) (bar ∷ other ∷ table) (joined_bar bar other ∷ table) (other ∷ put bar table)
 
 -- the table of the bars of some sales
 abbrev pub bars_of : ℕ → List Sale → List Bar
 bars_of width [] = []
-bars_of width (sale ∷ sales) = merged_tables (bar_of_one width sale ∷ []) (bars_of width sales)
+bars_of width (sale ∷ sales) = put (bar_of_one width sale) (bars_of width sales)
 
 -- bars in the order of their keys, those of one key in the order that they had
 pub record IsOrderOf (bars sorted : List Bar) : Type 0 where

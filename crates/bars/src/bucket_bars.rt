@@ -35,6 +35,7 @@ impl BucketBars {
     /// The bars of the sales, in whatever order they are, at a width in seconds. They are made where
     /// there are two sales a bar or more, and memory for them; otherwise the sales are kept, which
     /// are put in order in place and have no more room than they need.
+    #[tactic(auto, using(std::proofs::lemmas::List::Sorted::length_permutation))]
     pub fn of_vec(mut sales: Vec<Sale>, width: u32) -> BucketBars
         requires places { IsDistinct nat_eq (map (λ sale. sale.place) sales.items) }
         requires count { length sales.items < TRADE_LIMIT }
@@ -60,6 +61,7 @@ impl BucketBars {
 
     /// What is kept of the bars.
     #[inline]
+    #[tactic(auto, using(crate::proofs::BarsOfSales::form_traded))]
     pub fn form(&self) -> &Form
         ensures value { self.now ≡ bars_of_form result.now }
         ensures form { AreOfForm result.now }
@@ -69,6 +71,7 @@ impl BucketBars {
     }
 
     /// The bars, made. It is refused if there is no memory for them, or to sort the sales.
+    #[tactic(auto, using(crate::proofs::BarsOfSales::table_is))]
     pub fn table(&self, alloc: Global) -> Result<BarTable, OutOfMemory>
         ensures { IfOk result (λ table. table ≡ self.now) }
     {

@@ -180,6 +180,7 @@ fn append_within<'a>(
 }
 
 /// How much is kept of all tables of locates in the first range, for room for it to be made.
+#[tactic(auto, using(crate::proofs::BarsInRanges::locates_rise))]
 fn count_within(tables: &[&BucketBars], bounds: &[u64]) -> usize {
     let mut count = 0usize;
     for table in tables {

@@ -6,14 +6,13 @@ ghost use Rattle.row_types.specs.declared.trade.Sale.{Sale};
 ghost use Rattle.std.specs.List.Sorted.{IsPermutation, IsSorted};
 ghost use Rattle.bars.specs.Bars.{AllSumsFit, AreBarsOf, AreBarsOfEach, IsByKey, IsMergeOf};
 ghost use Rattle.bars.specs.Bars.{IsTraded, IsUnionOf, SumsFit, all_bars, all_sales, key_cmp};
-ghost use Rattle.bars.specs.Steps.{CanAdd, IsOrderOf, bar_of_one};
+ghost use Rattle.bars.specs.Steps.{CanAdd, EachJoins, IsOrderOf, bar_of_one};
 
 use crate::OutOfMemory;
 use crate::bar::Bar;
 use lists::limits::{SECONDS_OF_DAY, TRADE_LIMIT};
 use row_types::Sale;
 use std::alloc::{Allocator, Global};
-use std::cmp::Ordering;
 use std::marker::Model;
 
 /// Bars in the order of their locates, and of one locate by their starts.
@@ -83,6 +82,7 @@ impl<A: Allocator + Clone> BarTable<A> {
 
     /// The table of the sales as `of_sales` gives it, but they are sorted in place, and no copy is
     /// made. It is refused if there is no memory for the bars.
+    #[tactic(auto, using(std::proofs::lemmas::List::Sorted::length_permutation))]
     pub fn of_vec<B: Allocator>(
         alloc: A,
         mut sales: Vec<Sale, B>,
@@ -131,6 +131,7 @@ impl<A: Allocator + Clone> BarTable<A> {
 
     /// One table of the bars of all tables, in memory of `alloc`: those of one locate and start are
     /// joined. It is refused if there is no memory for them or to sort them.
+    #[tactic(auto, using(std::proofs::lemmas::List::take_all))]
     pub fn merge_all<B: Allocator>(
         alloc: A,
         tables: &[&BarTable<B>],
@@ -153,7 +154,7 @@ impl<A: Allocator + Clone> BarTable<A> {
     }
 
     /// Takes in the bars of `other`, and joins those of one locate and start. It is refused if
-    /// there is no memory for the bars of both, and then leaves the table as it was.
+    /// there is no memory for the bars of both or to sort them, and then leaves the table as it was.
     pub fn merge<B: Allocator>(&mut self, other: &BarTable<B>) -> Result<(), OutOfMemory>
         requires sums { SumsFit self.old other.now }
         ensures merged { OnOk result (IsMergeOf self.old other.now self.new) }
@@ -183,6 +184,7 @@ pub(crate) fn put_in_order<A: Allocator>(sales: &mut Vec<Sale, A>, width: u32) -
 }
 
 /// How many bars there are of sales that are in order of the keys of their bars.
+#[tactic(auto, using(std::proofs::lemmas::List::take_all))]
 fn count_bars_of(sales: &[Sale], width: u32) -> usize
     requires width { 0 < width }
     requires shares { All (λ sale. 0 < sale.shares) sales.now }
@@ -220,43 +222,22 @@ fn add<A: Allocator>(bars: &mut Vec<Bar, A>, bar: Bar) -> Result<(), OutOfMemory
 }
 
 /// Two tables in one.
-fn merge_bars<A: Allocator>(
+fn merge_bars<'a, A: Allocator + Clone>(
     alloc: A,
-    one: &[Bar],
-    other: &[Bar],
+    one: &'a [Bar],
+    other: &'a [Bar],
 ) -> Result<Vec<Bar, A>, OutOfMemory>
     requires one { IsByKey one.now }
     requires other { IsByKey other.now }
     requires sums { SumsFit one.now other.now }
     ensures { IfOk result (λ bars. IsUnionOf (one.now ++ other.now) bars.items) }
 {
-    let mut bars = Vec::with_capacity(alloc, one.len().max(other.len()))?;
-    let (mut i, mut j) = (0, 0);
-    while i < one.len() && j < other.len() {
-        match one[i].compare(&other[j]) {
-            Ordering::Less => {
-                bars.push(one[i])?;
-                i += 1;
-            }
-            Ordering::Equal => {
-                bars.push(one[i].join(&other[j]))?;
-                i += 1;
-                j += 1;
-            }
-            Ordering::Greater => {
-                bars.push(other[j])?;
-                j += 1;
-            }
-        }
-    }
-    bars.extend_from_slice(&one[i..])?;
-    bars.extend_from_slice(&other[j..])?;
-    Ok(bars)
+    unite(alloc, &[one, other])
 }
 
 /// One list of the bars of all parts, by key, those of one key made one.
 fn unite<A: Allocator + Clone>(alloc: A, parts: &[&[Bar]]) -> Result<Vec<Bar, A>, OutOfMemory>
-    requires { AllSumsFit (all_bars (map (λ part. part.now) parts.now)) }
+    requires { EachJoins (all_bars (map (λ part. part.now) parts.now)) }
     ensures { IfOk result
         (λ bars. IsUnionOf (all_bars (map (λ part. part.now) parts.now)) bars.items) }
 {
@@ -289,9 +270,10 @@ fn count_bars(parts: &[&[Bar]]) -> usize {
 }
 
 /// Sorted bars in one list, those of one key made one.
+#[tactic(auto, using(std::proofs::lemmas::List::take_all))]
 fn join_all<A: Allocator>(alloc: A, sorted: &[&Bar]) -> Result<Vec<Bar, A>, OutOfMemory>
     requires rise { IsSorted key_cmp (map (λ bar. bar.now) sorted.now) }
-    requires sums { AllSumsFit (map (λ bar. bar.now) sorted.now) }
+    requires sums { EachJoins (map (λ bar. bar.now) sorted.now) }
     ensures { IfOk result (λ bars. IsUnionOf (map (λ bar. bar.now) sorted.now) bars.items) }
 {
     let mut bars = Vec::with_capacity(alloc, sorted.len())?;

@@ -9,17 +9,17 @@ use Rattle.std.proofs.lemmas.List.Elements.{All-cons, All-map, All-nil, recursio
 use Rattle.lists.specs.Least.{numbers_below}
 use Rattle.block_scan.specs.Attempts.{AreAttemptsOf, AreBlocks, AreOf, AttemptView, BlockView, Gives, block_at, blocks_of, fault_or, first_fault_of}
 use Rattle.block_scan.specs.Pieces.{IsAskable}
-use Rattle.block_scan.specs.declared.fault.BlocksFault.{BlocksFault}
+use Rattle.streaming.specs.declared.fault.SourceFault.{SourceFault}
 use Rattle.block_scan.specs.declared.piece.Piece.{Piece}
 use Rattle.block_scan.specs.declared.request.Request.{Request}
 
-pub no_fault : (fault : BlocksFault) → None ≡ Some fault → ⊥
+pub no_fault : (fault : SourceFault) → None ≡ Some fault → ⊥
 no_fault fault is = true≢false (sym (ap is_some is))
 
-pub same_fault : {one other : BlocksFault} → Some one ≡ Some other → one ≡ other
+pub same_fault : {one other : SourceFault} → Some one ≡ Some other → one ≡ other
 same_fault is = cc
 
-passed : (found : Result Piece BlocksFault) (other : Option BlocksFault) → IsOk found → fault_or found other ≡ other
+passed : (found : Result Piece SourceFault) (other : Option SourceFault) → IsOk found → fault_or found other ≡ other
 passed (Ok piece) other is = refl
 passed (Err fault) other is = absurd (true≢false (sym is))
 
@@ -80,12 +80,12 @@ module _ {S : Type 0} where
 
   -- ---- the first fault
 
-  pub first_found : (attempts : List (AttemptView S)) (k : ℕ) (v : AttemptView S) (fault : BlocksFault)
+  pub first_found : (attempts : List (AttemptView S)) (k : ℕ) (v : AttemptView S) (fault : SourceFault)
       → AllWithin (λ a. IsOk a.found) attempts 0 k → k < length attempts → get_or attempts k v ≡ v → v.found ≡ Err fault
       → first_fault_of attempts ≡ Some fault
   first_found [] k v fault ok below here is = absurd (omega (arith, below))
   first_found (a ∷ attempts) zero v fault ok below here is =
-      ap (λ (found : Result Piece BlocksFault). fault_or found (first_fault_of attempts)) (ap (λ (x : AttemptView S). x.found) here ∙ is)
+      ap (λ (found : Result Piece SourceFault). fault_or found (first_fault_of attempts)) (ap (λ (x : AttemptView S). x.found) here ∙ is)
   first_found (a ∷ attempts) (suc k) v fault ok below here is =
       passed a.found (first_fault_of attempts) (ok 0 a (omega arith) (omega arith))
       ∙ first_found attempts k v fault (λ n d low less. ok (suc n) d (omega arith) (omega (arith, less))) (omega (arith, below)) here is

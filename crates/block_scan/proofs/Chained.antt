@@ -1,8 +1,8 @@
 -- Pieces that follow each other.
 use Rattle.std.proofs.Common.{◌≡◌, ℕ, ◌+◌, ◌<◌, ◌≤◌, List, [], ◌∷◌, ◌++◌, length, take_at, drop_at, refl, sym, ap, ap₂, ◌∙◌, subst, arith}
-use Rattle.std.proofs.Common.{append-nil, Bool, true, false, map, nat_lt, ◌⊎◌, inl, inr, ⊎_elim, Err, Ok, Option, None, Some, Result}
+use Rattle.std.proofs.Common.{append-nil, map, ⊎_elim, Err, Ok, Option, None, Some, Result}
 use Rattle.std.specs.List.{concat}
-use Rattle.std.proofs.lemmas.Bool.Decides.{nat_tests}
+use Rattle.std.proofs.lemmas.Bool.{cases_lt}
 use Rattle.std.proofs.lemmas.List.{length-append}
 use Rattle.std.proofs.lemmas.List.Elements.{All-append, All-cons, All-nil}
 use Rattle.std.proofs.lemmas.List.Folds.{concat-append}
@@ -17,11 +17,11 @@ use Rattle.day_file.proofs.Kept.{numbered-last}
 use Rattle.day_file.proofs.Walks.{walk_whole}
 use Rattle.scanning.specs.Scans.{ScanInputView, ScanTotalView, inputs_of, scan_of, total_of, with_scan}
 use Rattle.scanning.proofs.TotalOfScans.{total_more}
-use Rattle.block_scan.specs.Blocks.{GaveWhole, IsBlocksFault}
+use Rattle.block_scan.specs.Blocks.{GaveWhole}
 use Rattle.block_scan.specs.Pieces.{IsChained, IsFollowedBy, IsGoneOn, IsJoined, IsPiece, IsTried, EndsBy}
 use Rattle.block_scan.specs.ScannedBlocks.{IsScannedWhole}
-use Rattle.block_scan.specs.declared.fault.BlocksFault.{BlocksFault}
-use Rattle.block_scan.specs.declared.fault.BlocksFault.TheVariants.{ReadFailed, TooLong, Truncated, OutOfMemory}
+use Rattle.streaming.specs.declared.fault.SourceFault.{SourceFault}
+use Rattle.streaming.specs.declared.fault.SourceFault.TheVariants.{ReadFailed, TooLong, TooManyMorsels, Truncated, OutOfMemory}
 use Rattle.block_scan.specs.declared.piece.Piece.{Piece}
 use Rattle.block_scan.specs.declared.piece.Tail.TheVariants.{Whole, Cut}
 use Rattle.block_scan.specs.declared.request.Request.{Request}
@@ -51,73 +51,56 @@ total_with request place runs frames run stands here =
 
 -- ---- a piece more
 
-less_or_same : (a b : ℕ) → a ≤ b → (a < b) ⊎ (a ≡ b)
-less_or_same a b h = go (nat_lt a b) refl
-  where
-    go : (q : Bool) → nat_lt a b ≡ q → (a < b) ⊎ (a ≡ b)
-    go true e = inl (grind (arith, nat_tests))
-    go false e =
-        let past : b ≤ a = grind (arith, nat_tests) in
-        inr (omega (arith, h, past))
-
 module _ {S : Type 0} (GaveAt : S → ℕ → List ℕ → Type 0) (EndsAt : S → ℕ → Type 0)
     (gave_more : (s : S) (place : ℕ) (xs ys : List ℕ) → GaveAt s place xs → GaveAt s (place + length xs) ys → GaveAt s place (xs ++ ys))
-    (gave_front : (s : S) (place : ℕ) (xs ys : List ℕ) → GaveAt s place (xs ++ ys) → GaveAt s place xs) where
-  -- the bytes of a piece behind those of the runs
-  gave_behind : (source : S) (at start : ℕ) (runs : List (List ℕ)) (bytes : List ℕ) → GaveAt source 0 (concat runs) → at ≡ length (concat runs) → start ≡ at
-      → GaveAt source start bytes → GaveAt source 0 (concat runs ++ bytes)
-  gave_behind source at start runs bytes p here begins q =
-      gave_more source 0 (concat runs) bytes p (subst (λ k. GaveAt source k bytes) (omega (arith, here, begins)) q)
+    (gave_front : (s : S) (place : ℕ) (xs ys : List ℕ) → GaveAt s place (xs ++ ys) → GaveAt s place xs)
+    {source : S} {request : Request} {at : ℕ} {old : ScanTotalView} {piece : Piece} (chained : IsChained GaveAt EndsAt source request at old)
+    (is : IsPiece GaveAt EndsAt source request piece) (begins : piece.start ≡ at) where
+  -- bytes of the piece behind those of the runs
+  gave_behind : (bytes : List ℕ) → GaveAt source piece.start bytes → GaveAt source 0 (concat chained.runs ++ bytes)
+  gave_behind bytes gave =
+      gave_more source 0 (concat chained.runs) bytes chained.gave (subst (λ k. GaveAt source k bytes) (omega (arith, chained.at_is, begins)) gave)
 
-  -- a piece without a frame
-  chain_same : (source : S) (request : Request) (at : ℕ) (old new : ScanTotalView) (piece : Piece) → IsChained GaveAt EndsAt source request at old
-      → IsPiece GaveAt EndsAt source request piece → piece.start ≡ at → piece.start ≡ piece.end → new ≡ old
-      → IsChained GaveAt EndsAt source request piece.end new
-  chain_same source request at old new piece chained is begins none same = record {
-    runs = chained.runs;
-    each = chained.each;
-    bytes = chained.bytes;
-    gave = chained.gave;
-    at_is = sym none ∙ begins ∙ chained.at_is;
-    within = is.within;
-    are = same ∙ chained.are;
-  }
+  -- with the piece, if it has a frame
+  chain_more : (new : ScanTotalView) → IsJoined piece old new → IsChained GaveAt EndsAt source request piece.end new
+  chain_more new joined = ⊎_elim some none (cases_lt piece.start piece.end)
+    where
+      runs : List (List ℕ)
+      runs = chained.runs
 
-  -- one with frames
-  chain_longer : (source : S) (request : Request) (at : ℕ) (old new : ScanTotalView) (piece : Piece) → IsChained GaveAt EndsAt source request at old
-      → IsPiece GaveAt EndsAt source request piece → piece.start ≡ at → piece.start < piece.end → new ≡ with_scan old piece.scanned
-      → IsChained GaveAt EndsAt source request piece.end new
-  chain_longer source request at old new piece chained is begins some joined =
-      let runs = chained.runs in
-      let run = is.bytes in
-      let long : 0 < length run = omega (arith, some, is.end_is) in
-      let one : IsRun run = record { some = long; whole = whole_run piece.start is.frames run is.stands } in
-      record {
-        runs = runs ++ run ∷ [];
-        each = All-append IsRun runs (run ∷ []) chained.each (All-cons IsRun run [] one (All-nil _));
-        bytes = All-append AreBytes runs (run ∷ []) chained.bytes (All-cons AreBytes run [] is.are (All-nil _));
-        gave = subst (GaveAt source 0) (sym (concat_more runs run))
-            (gave_behind source at piece.start runs run chained.gave chained.at_is begins (gave_front source piece.start run is.rest is.gave));
-        at_is = omega (arith, is.end_is, begins, chained.at_is, ap length (concat_more runs run), length-append (concat runs) run);
-        within = is.within;
-        are = joined ∙ ap₂ with_scan chained.are is.scan ∙ sym (total_with request piece.start runs is.frames run is.stands (begins ∙ chained.at_is));
-      }
+      run : List ℕ
+      run = is.bytes
 
-  -- either
-  chain_more : (source : S) (request : Request) (at : ℕ) (old new : ScanTotalView) (piece : Piece) → IsChained GaveAt EndsAt source request at old
-      → IsPiece GaveAt EndsAt source request piece → piece.start ≡ at → IsJoined piece old new → IsChained GaveAt EndsAt source request piece.end new
-  chain_more source request at old new piece chained is begins joined =
-      ⊎_elim
-      (λ some. chain_longer source request at old new piece chained is begins some (joined.some some))
-      (λ none. chain_same source request at old new piece chained is begins none (joined.none none))
-      (less_or_same piece.start piece.end (omega (arith, is.end_is)))
+      none : piece.end ≤ piece.start → IsChained GaveAt EndsAt source request piece.end new
+      none past =
+          let same : piece.start ≡ piece.end = omega (arith, is.end_is) in record {
+            runs = runs;
+            each = chained.each;
+            bytes = chained.bytes;
+            gave = chained.gave;
+            at_is = sym same ∙ begins ∙ chained.at_is;
+            within = is.within;
+            are = joined.none same ∙ chained.are;
+          }
+
+      some : piece.start < piece.end → IsChained GaveAt EndsAt source request piece.end new
+      some longer =
+          let one : IsRun run = record { some = omega (arith, longer, is.end_is); whole = whole_run piece.start is.frames run is.stands } in record {
+            runs = runs ++ run ∷ [];
+            each = All-append IsRun runs (run ∷ []) chained.each (All-cons IsRun run [] one (All-nil _));
+            bytes = All-append AreBytes runs (run ∷ []) chained.bytes (All-cons AreBytes run [] is.are (All-nil _));
+            gave = subst (GaveAt source 0) (sym (concat_more runs run)) (gave_behind run (gave_front source piece.start run is.rest is.gave));
+            at_is = omega (arith, is.end_is, begins, chained.at_is, ap length (concat_more runs run), length-append (concat runs) run);
+            within = is.within;
+            are = joined.some longer ∙ ap₂ with_scan chained.are is.scan
+                ∙ sym (total_with request piece.start runs is.frames run is.stands (begins ∙ chained.at_is));
+          }
 
   -- where a piece ends with the source, the chain is the whole
-  chain_whole : (source : S) (request : Request) (at : ℕ) (old new : ScanTotalView) (piece : Piece) → IsChained GaveAt EndsAt source request at old
-      → IsPiece GaveAt EndsAt source request piece → piece.start ≡ at → (piece.tail ≡ Whole) × IsJoined piece old new
+  chain_whole : (new : ScanTotalView) → (piece.tail ≡ Whole) × IsJoined piece old new
       → IsScannedWhole GaveAt EndsAt source request.limit request.as_of request.parts new
-  chain_whole source request at old new piece chained is begins joined =
-      let longer = chain_more source request at old new piece chained is begins joined.1 in
+  chain_whole new joined =
+      let longer = chain_more new joined.1 in
       let tail = subst (EndsBy GaveAt EndsAt source request.limit piece.end is.rest) joined.0 is.tail in
       record {
         runs = longer.runs;
@@ -132,10 +115,8 @@ module _ {S : Type 0} (GaveAt : S → ℕ → List ℕ → Type 0) (EndsAt : S �
       }
 
   -- where it ends at a frame that is cut off, the source is truncated there
-  pub chain_cut : (source : S) (request : Request) (at : ℕ) (total : ScanTotalView) (piece : Piece) → IsChained GaveAt EndsAt source request at total
-      → IsPiece GaveAt EndsAt source request piece → piece.start ≡ at → piece.tail ≡ Cut
-      → (day : List ℕ) × GaveWhole GaveAt EndsAt request.limit source day × IsTruncatedAt day piece.end
-  chain_cut source request at total piece chained is begins cut =
+  chain_cut : piece.tail ≡ Cut → (day : List ℕ) × GaveWhole GaveAt EndsAt request.limit source day × IsTruncatedAt day piece.end
+  chain_cut cut =
       let tail = subst (EndsBy GaveAt EndsAt source request.limit piece.end is.rest) cut is.tail in
       let before = concat chained.runs in
       let behind = is.bytes ++ is.rest in
@@ -151,7 +132,7 @@ module _ {S : Type 0} (GaveAt : S → ℕ → List ℕ → Type 0) (EndsAt : S �
       let front : IsWhole before = (_, frames_of_cut chained.runs chained.each) in (
         day,
         record {
-          gave = gave_behind source at piece.start chained.runs behind chained.gave chained.at_is begins is.gave;
+          gave = gave_behind behind is.gave;
           ended = subst (EndsAt source) (sym long) tail.2;
           within = omega (arith, long, tail.3);
         },
@@ -160,29 +141,21 @@ module _ {S : Type 0} (GaveAt : S → ℕ → List ℕ → Type 0) (EndsAt : S �
             (subst (λ l. IsTruncatedAt l (length is.bytes)) (sym (drop_at before behind (length before) refl)) here)),
       )
 
-  -- what a refusal behind a piece says
-  chain_fault : (FailsAt : S → ℕ → Type 0) (source : S) (request : Request) (at : ℕ) (old new : ScanTotalView) (piece : Piece)
-      → IsChained GaveAt EndsAt source request at old → IsPiece GaveAt EndsAt source request piece → piece.start ≡ at
-      → (fault : BlocksFault) → IsFollowedBy piece old new (Err fault) → IsBlocksFault GaveAt EndsAt FailsAt source request.limit fault
-  chain_fault FailsAt source request at old new piece chained is begins ReadFailed told = absurd told
-  chain_fault FailsAt source request at old new piece chained is begins TooLong told = absurd told
-  chain_fault FailsAt source request at old new piece chained is begins (Truncated place) told =
-      let cut = chain_cut source request at old piece chained is begins told.0 in
-      (cut.0, cut.1, subst (IsTruncatedAt cut.0) (sym told.1) cut.2)
-  chain_fault FailsAt source request at old new piece chained is begins OutOfMemory told = tt
-
   -- what follows from a piece that begins where the chain ends
-  pub gone_on : (FailsAt : S → ℕ → Type 0) (source : S) (request : Request) (at : ℕ) (old new : ScanTotalView) (piece : Piece)
-      → IsPiece GaveAt EndsAt source request piece → piece.start ≡ at → (next : Result (Option ℕ) BlocksFault) → IsFollowedBy piece old new next
-      → IsChained GaveAt EndsAt source request at old → IsGoneOn GaveAt EndsAt FailsAt source request new next
-  gone_on FailsAt source request at old new piece is begins (Ok (Some end)) told chained =
-      subst (λ at. IsChained GaveAt EndsAt source request at new) (sym told.1) (chain_more source request at old new piece chained is begins told.2)
-  gone_on FailsAt source request at old new piece is begins (Ok None) told chained = chain_whole source request at old new piece chained is begins told
-  gone_on FailsAt source request at old new piece is begins (Err fault) told chained =
-      chain_fault FailsAt source request at old new piece chained is begins fault told
+  pub gone_on : (FailsAt : S → ℕ → Type 0) (new : ScanTotalView) (next : Result (Option ℕ) SourceFault) → IsFollowedBy piece old new next
+      → IsGoneOn GaveAt EndsAt FailsAt source request new next
+  gone_on FailsAt new (Ok (Some end)) told =
+      subst (λ at. IsChained GaveAt EndsAt source request at new) (sym told.1) (chain_more new told.2)
+  gone_on FailsAt new (Ok None) told = chain_whole new told
+  gone_on FailsAt new (Err (Truncated place)) told =
+      let cut = chain_cut told.0 in (cut.0, cut.1, subst (IsTruncatedAt cut.0) (sym told.1) cut.2)
+  gone_on FailsAt new (Err OutOfMemory) told = tt
+  gone_on FailsAt new (Err ReadFailed) told = absurd told
+  gone_on FailsAt new (Err TooLong) told = absurd told
+  gone_on FailsAt new (Err TooManyMorsels) told = absurd told
 
 -- the same of another source, request and result
-pub tried_of : {S : Type 0} (GaveAt : S → ℕ → List ℕ → Type 0) (EndsAt FailsAt : S → ℕ → Type 0) {s t : S} {q r : Request} {f g : Result Piece BlocksFault}
+pub tried_of : {S : Type 0} (GaveAt : S → ℕ → List ℕ → Type 0) (EndsAt FailsAt : S → ℕ → Type 0) {s t : S} {q r : Request} {f g : Result Piece SourceFault}
     → s ≡ t → q ≡ r → f ≡ g → IsTried GaveAt EndsAt FailsAt s q f → IsTried GaveAt EndsAt FailsAt t r g
 tried_of GaveAt EndsAt FailsAt {s} {t} {q} {r} {f} {g} sources requests results tried =
     subst (λ x. IsTried GaveAt EndsAt FailsAt x r g) sources

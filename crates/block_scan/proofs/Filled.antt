@@ -1,6 +1,6 @@
 -- What a piece has read and walked so far.
 use Rattle.std.proofs.Common.{◌≡◌, ℕ, ◌+◌, ◌-◌, ◌<◌, ◌≤◌, List, [], ◌∷◌, ◌++◌, length, take, drop, refl, sym, ap, ◌∙◌, subst, arith, append_assoc}
-use Rattle.std.proofs.lemmas.List.{length-append, length-drop, take-append-drop, take-take, length-take-le}
+use Rattle.std.proofs.lemmas.List.{drop-take, length-append, length-drop, take-append-drop, take-take, length-take-le}
 use Rattle.std.proofs.lemmas.List.Edits.{take-paste}
 use Rattle.std.proofs.lemmas.List.Elements.{All-append}
 use Rattle.std.proofs.lemmas.Slice.{put_mid-paste}
@@ -29,6 +29,14 @@ pub record IsFilling {S : Type 0} (GaveAt : S → ℕ → List ℕ → Type 0) (
   pub scan_is : scan ≡ scan_of request.parts request.as_of frames
   pub stuck : place < target → IsStuck (take filled buffer)
   pub short : place < target → filled < 65538
+
+-- the bytes between two places are moved to the front
+pub moved : (all : List ℕ) (from to : ℕ) → from ≤ to → to ≤ length all → take (to - from) (paste all 0 (drop from all) (to - from)) ≡ drop from (take to all)
+moved all from to up within =
+    let whole : from + (to - from) ≡ to = omega (arith, up) in
+    ap (λ k. take k (paste all 0 (drop from all) (to - from))) (omega arith)
+    ∙ take-paste all 0 (drop from all) (to - from) (omega arith) (omega (arith, length-drop from all, up, within))
+    ∙ sym (drop-take from (to - from) all) ∙ ap (λ n. drop from (take n all)) whole
 
 -- what is read goes behind what the buffer begins with
 pub filled_more : (buffer into : List ℕ) (filled room count : ℕ) → room ≡ length into → filled + room ≤ length buffer → count ≤ room

@@ -3,7 +3,7 @@
 use Rattle.std.specs.Prelude.{◌≡◌, ℕ, ◌+◌, ◌*◌, ◌<◌, ◌==◌, ◌&&◌, Bool, nat_eq, min, if◌then◌else◌, List, [], ◌∷◌, All, map, length, Option, Some, None, Result, Ok, Err}
 use Rattle.std.specs.Option.{option_eq}
 use Rattle.lists.specs.Least.{numbers_below}
-use Rattle.block_scan.specs.declared.fault.BlocksFault.{BlocksFault}
+use Rattle.streaming.specs.declared.fault.SourceFault.{SourceFault}
 use Rattle.block_scan.specs.declared.piece.Piece.{Piece}
 use Rattle.block_scan.specs.declared.request.Request.{Request}
 use Rattle.block_scan.specs.Pieces.{IsAskable}
@@ -21,7 +21,7 @@ module _ (S : Type 0) where
   pub record AttemptView : Type 0 where
     pub source : S
     pub request : Request
-    pub found : Result Piece BlocksFault
+    pub found : Result Piece SourceFault
 
 -- both requests ask the same
 abbrev pub is_same_request : Request → Request → Bool
@@ -29,7 +29,7 @@ is_same_request a b =
     (a.limit == b.limit) && option_eq nat_eq a.as_of b.as_of && (a.parts == b.parts) && (a.block == b.block)
 
 -- the fault, or where there is a piece the other fault
-abbrev pub fault_or : Result Piece BlocksFault → Option BlocksFault → Option BlocksFault
+abbrev pub fault_or : Result Piece SourceFault → Option SourceFault → Option SourceFault
 fault_or (Ok _) other = other
 fault_or (Err fault) _ = Some fault
 
@@ -71,7 +71,7 @@ module _ {S : Type 0} where
     pub each : All (λ block. (block.source ≡ source) × (block.request ≡ request)) blocks
 
   -- the fault of the first attempt that has no piece
-  abbrev pub first_fault_of : List (AttemptView S) → Option BlocksFault
+  abbrev pub first_fault_of : List (AttemptView S) → Option SourceFault
   first_fault_of [] = None
   first_fault_of (attempt ∷ attempts) = fault_or attempt.found (first_fault_of attempts)
 

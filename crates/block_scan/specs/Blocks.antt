@@ -1,9 +1,8 @@
--- What a source gave to readings at places, and why no rows came of it.
+-- What a source gave to readings at places, and what is known of it then.
 -- To be believed.
 use Rattle.std.specs.Prelude.{ℕ, ◌≤◌, List, [], ◌∷◌, length}
-use Rattle.day_file.specs.Frames.{IsTruncatedAt}
-use Rattle.block_scan.specs.declared.fault.BlocksFault.{BlocksFault}
-use Rattle.block_scan.specs.declared.fault.BlocksFault.TheVariants as fault
+use Rattle.streaming.specs.Readings.{IsSourceFault, Reading}
+use Rattle.streaming.specs.declared.fault.SourceFault.{SourceFault}
 
 -- S is a source, and `GaveAt` says which bytes it gave to readings from a place on.
 module _ {S : Type 0} (GaveAt : S → ℕ → List ℕ → Type 0) where
@@ -17,12 +16,22 @@ module _ {S : Type 0} (GaveAt : S → ℕ → List ℕ → Type 0) where
     pub ended : EndsAt source (length day)
     pub within : length day ≤ limit
 
--- what each refusal of a source that is read at places says: a reading failed at some place; or the source gave more
--- than the limit; or all that it gave is truncated there; out of memory says nothing
+-- what is known of a source S that is read at places. `all` says of bytes that readings gave them from its start up
+-- to where one found no byte, within the limit; `longer`, that one gave a byte at the limit; `failed`, that one
+-- failed at some place. No reading changes the source, so `some` and `untouched` say nothing, and it is cut into no
+-- morsels, so they are never too many. `GaveAt` says which bytes it gave to readings from a place on, `EndsAt` that a
+-- reading at a place found none there, and `FailsAt` that one failed.
+abbrev pub of_blocks : {S : Type 0} → (S → ℕ → List ℕ → Type 0) → (S → ℕ → Type 0) → (S → ℕ → Type 0) → ℕ → S → Reading
+of_blocks GaveAt EndsAt FailsAt limit source = record {
+  all = GaveWhole GaveAt EndsAt limit source;
+  some = Unit {0};
+  longer = GaveMoreAt GaveAt limit source;
+  failed = (place : ℕ) × FailsAt source place;
+  too_many = ⊥;
+  untouched = Unit {0};
+}
+
+-- what each refusal of a source that is read at places says
 abbrev pub IsBlocksFault : {S : Type 0} → (S → ℕ → List ℕ → Type 0) → (S → ℕ → Type 0) → (S → ℕ → Type 0)
-    → S → ℕ → BlocksFault → Type 0
-IsBlocksFault GaveAt EndsAt FailsAt source limit fault.ReadFailed = (place : ℕ) × FailsAt source place
-IsBlocksFault GaveAt EndsAt FailsAt source limit fault.TooLong = GaveMoreAt GaveAt limit source
-IsBlocksFault GaveAt EndsAt FailsAt source limit (fault.Truncated place) =
-    (day : List ℕ) × GaveWhole GaveAt EndsAt limit source day × IsTruncatedAt day place
-IsBlocksFault GaveAt EndsAt FailsAt source limit fault.OutOfMemory = Unit {0}
+    → S → ℕ → SourceFault → Type 0
+IsBlocksFault GaveAt EndsAt FailsAt source limit = IsSourceFault (of_blocks GaveAt EndsAt FailsAt limit source)

@@ -5,4 +5,3 @@ pub mod Known
 pub mod KnownLaws
 pub mod Pieces
 pub mod ScannedBlocks
-pub mod Slices

@@ -9,8 +9,8 @@ use Rattle.day_file.specs.Frames.{IsStuck, PlacedBody, StandsFrom}
 use Rattle.scanning.specs.Scans.{ScanTotalView, ScanView, TakesIn, inputs_of, scan_of, total_of, with_scan}
 use Rattle.block_scan.specs.Blocks.{IsBlocksFault}
 use Rattle.block_scan.specs.ScannedBlocks.{IsScannedWhole}
-use Rattle.block_scan.specs.declared.fault.BlocksFault.{BlocksFault}
-use Rattle.block_scan.specs.declared.fault.BlocksFault.TheVariants.{ReadFailed, TooLong, Truncated, OutOfMemory}
+use Rattle.streaming.specs.declared.fault.SourceFault.{SourceFault}
+use Rattle.streaming.specs.declared.fault.SourceFault.TheVariants.{Truncated, OutOfMemory}
 use Rattle.block_scan.specs.declared.piece.Piece.{Piece}
 use Rattle.block_scan.specs.declared.piece.Tail.{Tail}
 use Rattle.block_scan.specs.declared.piece.Tail.TheVariants.{More, Whole, Cut}
@@ -40,21 +40,17 @@ pub record IsJoined (piece : Piece) (old new : ScanTotalView) : Type 0 where
   pub some : piece.start < piece.end → new ≡ with_scan old piece.scanned
 
 -- what follows from a piece: more comes after it, or it was the last, or it is cut off
-abbrev pub IsFollowedBy : Piece → ScanTotalView → ScanTotalView → Result (Option ℕ) BlocksFault → Type 0
+abbrev pub IsFollowedBy : Piece → ScanTotalView → ScanTotalView → Result (Option ℕ) SourceFault → Type 0
 IsFollowedBy piece old new (Ok (Some end)) = (piece.tail ≡ More) × (end ≡ piece.end) × IsJoined piece old new
 IsFollowedBy piece old new (Ok None) = (piece.tail ≡ Whole) × IsJoined piece old new
 IsFollowedBy piece old new (Err (Truncated place)) = (piece.tail ≡ Cut) × (place ≡ piece.end)
 IsFollowedBy piece old new (Err OutOfMemory) = Unit {0}
-IsFollowedBy piece old new (Err ReadFailed) = ⊥
-IsFollowedBy piece old new (Err TooLong) = ⊥
+IsFollowedBy piece old new (Err _) = ⊥
 
 -- there is no piece, since memory was refused
-abbrev pub wants_memory : Result Piece BlocksFault → Bool
-wants_memory (Ok piece) = false
-wants_memory (Err ReadFailed) = false
-wants_memory (Err TooLong) = false
-wants_memory (Err (Truncated place)) = false
+abbrev pub wants_memory : Result Piece SourceFault → Bool
 wants_memory (Err OutOfMemory) = true
+wants_memory _ = false
 
 -- S is a source. `GaveAt` says which bytes it gave to readings from a place on, and `EndsAt` that one found none there.
 module _ {S : Type 0} (GaveAt : S → ℕ → List ℕ → Type 0) (EndsAt : S → ℕ → Type 0) where
@@ -79,7 +75,7 @@ module _ {S : Type 0} (GaveAt : S → ℕ → List ℕ → Type 0) (EndsAt : S �
     pub tail : EndsBy source request.limit piece.end rest piece.tail
 
   -- what comes of a block: a piece, or why there is none
-  abbrev pub IsTried : (S → ℕ → Type 0) → S → Request → Result Piece BlocksFault → Type 0
+  abbrev pub IsTried : (S → ℕ → Type 0) → S → Request → Result Piece SourceFault → Type 0
   IsTried FailsAt source request (Ok piece) = IsPiece source request piece
   IsTried FailsAt source request (Err fault) = IsBlocksFault GaveAt EndsAt FailsAt source request.limit fault
 
@@ -94,7 +90,7 @@ module _ {S : Type 0} (GaveAt : S → ℕ → List ℕ → Type 0) (EndsAt : S �
     pub are : total ≡ total_of (inputs_of request.as_of request.parts runs)
 
   -- what follows from a piece, of the total with it: it is chained to its end, or whole, or a refusal says what it does
-  abbrev pub IsGoneOn : (S → ℕ → Type 0) → S → Request → ScanTotalView → Result (Option ℕ) BlocksFault → Type 0
+  abbrev pub IsGoneOn : (S → ℕ → Type 0) → S → Request → ScanTotalView → Result (Option ℕ) SourceFault → Type 0
   IsGoneOn FailsAt source request total (Ok (Some end)) = IsChained source request end total
   IsGoneOn FailsAt source request total (Ok None) =
       IsScannedWhole GaveAt EndsAt source request.limit request.as_of request.parts total

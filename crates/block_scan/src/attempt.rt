@@ -1,16 +1,16 @@
 //! What comes of blocks.
-ghost use Rattle.std.specs.Prelude.{◌≡◌, ◌++◌, ◌∷◌, [], OnOk, OnErr};
+ghost use Rattle.std.specs.Prelude.{◌≡◌, List, false, map};
 ghost use Rattle.std.specs.Arc.{arc_value};
-ghost use Rattle.block_scan.specs.Pieces.{IsAskable, IsTried};
+ghost use Rattle.block_scan.specs.Attempts.{AttemptView};
+ghost use Rattle.block_scan.specs.Pieces.{IsAskable, IsTried, wants_memory};
 
-use crate::OutOfMemory;
-use crate::fault::BlocksFault;
 use crate::piece::Piece;
 use crate::request::Request;
 use crate::source::BlockSource;
 use std::alloc::Global;
 use std::marker::Model;
 use std::sync::Arc;
+use streaming::SourceFault;
 
 /// What came of a block: the piece that was found from its start on, or why there is none. That the source
 /// gave it is kept by the type, and that it isn't for want of memory: such a block is run again.
@@ -18,15 +18,10 @@ use std::sync::Arc;
 pub struct Attempt<S: BlockSource> {
     pub(crate) source: Arc<S, Global>,
     pub(crate) request: Request,
-    pub(crate) found: Result<Piece, BlocksFault>,
+    pub(crate) found: Result<Piece, SourceFault>,
 }
 
 impl<S: BlockSource> Model for Attempt<S> {
-    ghost use Rattle.std.specs.Arc.{arc_value};
-    ghost use Rattle.block_scan.specs.Attempts.{AttemptView};
-    ghost use Rattle.block_scan.specs.Pieces.{IsAskable, IsTried, wants_memory};
-    ghost use Rattle.std.specs.Prelude.{◌≡◌, false};
-
     ghost Value = { AttemptView S };
 
     ghost view = { λ attempt. record {
@@ -47,31 +42,7 @@ pub struct Attempts<S: BlockSource> {
 }
 
 impl<S: BlockSource> Model for Attempts<S> {
-    ghost use Rattle.std.specs.Prelude.{List, map};
-    ghost use Rattle.std.specs.Arc.{arc_value};
-    ghost use Rattle.block_scan.specs.Attempts.{AttemptView};
-
     ghost Value = { List (AttemptView S) };
 
     ghost view = { λ attempts. map arc_value attempts.items.items };
-}
-
-impl<S: BlockSource> Attempts<S> {
-    /// What came of no blocks.
-    pub(crate) fn none(alloc: Global) -> Self
-        ensures { result ≡ [] }
-    {
-        Attempts {
-            items: Vec::new(alloc),
-        }
-    }
-
-    /// Takes in what came of one block more. Without memory it stays as it was.
-    pub(crate) fn push(&mut self, attempt: &Arc<Attempt<S>, Global>) -> Result<(), OutOfMemory>
-        ensures ok { OnOk result (self.new ≡ self.old ++ arc_value attempt.now ∷ []) }
-        ensures err { OnErr result (self.new ≡ self.old) }
-    {
-        self.items.push(Arc::try_clone(attempt)?)?;
-        Ok(())
-    }
 }

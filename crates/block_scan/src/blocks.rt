@@ -9,8 +9,6 @@ ghost use Rattle.block_scan.specs.Pieces.{IsAskable};
 use crate::OutOfMemory;
 use crate::block::Block;
 use crate::division::Division;
-use crate::fault::BlocksFault;
-use crate::reading::refuse_longer;
 use crate::request::Request;
 use crate::source::BlockSource;
 use crate::work::BlockWork;
@@ -18,6 +16,7 @@ use gathering::Inputs;
 use lists::limits::{LONGEST_FILE, MOST_PARTITIONS};
 use std::alloc::Global;
 use std::sync::Arc;
+use streaming::SourceFault;
 
 /// The blocks of a source of at most `limit` bytes, in order: as many as the division has. In them
 /// is found what counts up to this moment, in seconds since midnight, in `parts` partitions.
@@ -31,7 +30,7 @@ pub fn block_inputs<S: BlockSource + Send + Sync>(
     parts: u32,
     limit: u64,
     division: Division,
-) -> Result<Inputs<BlockWork<S>>, BlocksFault>
+) -> Result<Inputs<BlockWork<S>>, SourceFault>
     requires parts { (0 < parts) × (parts ≤ MOST_PARTITIONS) }
     requires limit { limit ≤ LONGEST_FILE }
     ensures inputs { IfOk result (λ inputs. inputs ≡ blocks_of (arc_value source.now)
@@ -42,7 +41,10 @@ pub fn block_inputs<S: BlockSource + Send + Sync>(
 
     ensures fault { IfErr result (IsBlocksFault S.GaveAt S.EndsAt S.FailsAt (arc_value source.now) limit) }
 {
-    refuse_longer(&**source, limit)?;
+    let mut byte = [0u8; 1];
+    if source.read_at(limit, &mut byte)? > 0 {
+        return Err(SourceFault::TooLong);
+    }
     let request = Request {
         limit,
         as_of,
@@ -91,5 +93,10 @@ fn block<S: BlockSource>(
     } else {
         (number + 1) * division.bytes
     };
-    Block::of(source, request, from, to)
+    Block {
+        source,
+        request,
+        from,
+        to,
+    }
 }

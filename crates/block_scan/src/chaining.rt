@@ -2,14 +2,13 @@
 ghost use Rattle.std.specs.Prelude.{◌≡◌, ◌≤◌, ◌<◌, All, Any, Err, MatchOption, Some, map, length, IfErr, IfOk, IfSome, IsErr, IsOk, OnOk};
 ghost use Rattle.std.specs.Arc.{arc_value};
 ghost use Rattle.block_scan.specs.Attempts.{AreAttemptsOf, first_fault_of};
-ghost use Rattle.block_scan.specs.declared.fault.BlocksFault.{BlocksFault as TheFault};
+ghost use Rattle.streaming.specs.declared.fault.SourceFault.{SourceFault as TheFault};
 ghost use Rattle.block_scan.specs.Blocks.{IsBlocksFault};
 ghost use Rattle.block_scan.specs.ScannedBlocks.{IsScannedWhole};
 ghost use Rattle.block_scan.specs.Pieces.{IsAskable, IsChained, IsFollowedBy, IsGoneOn, IsJoined};
 
 use crate::OutOfMemory;
 use crate::attempt::{Attempt, Attempts};
-use crate::fault::BlocksFault;
 use crate::piece::{Piece, Tail};
 use crate::reading::{scan_piece, zeros};
 use crate::request::Request;
@@ -17,13 +16,14 @@ use crate::source::BlockSource;
 use scanning::ScanTotal;
 use std::alloc::Global;
 use std::sync::Arc;
+use streaming::SourceFault;
 
 impl<S: BlockSource> Attempts<S> {
     /// What the whole source gives: its pieces put together, the first fault of a reading, or the
     /// place where all that was read is truncated. A piece that doesn't begin where the one before
     /// it ends is replaced by one that is read from there, and what is left after the last one is
     /// read here.
-    pub fn join(&self, alloc: Global) -> Result<ScanTotal, BlocksFault>
+    pub fn join(&self, alloc: Global) -> Result<ScanTotal, SourceFault>
         requires { (source : S) × (request : Request) × AreAttemptsOf source request self.now }
         ensures scanned { IfOk result (λ total. (source : S) (request : Request) →
             AreAttemptsOf source request self.now →
@@ -42,7 +42,7 @@ impl<S: BlockSource> Attempts<S> {
     }
 
     /// Why there is no piece of the first block that has none.
-    fn first_fault(&self) -> Option<BlocksFault>
+    fn first_fault(&self) -> Option<SourceFault>
         ensures first { result ≡ first_fault_of self.now }
         ensures fault { MatchOption result (All (λ attempt. IsOk attempt.found) self.now)
             (λ fault. Any (λ attempt. (attempt.found ≡ Err fault)
@@ -63,7 +63,7 @@ fn chain<S: BlockSource>(
     source: &S,
     request: Request,
     attempts: &[Arc<Attempt<S>, Global>],
-) -> Result<ScanTotal, BlocksFault>
+) -> Result<ScanTotal, SourceFault>
     requires request { IsAskable request }
     requires attempts { All (λ attempt. (attempt.source ≡ source.now) × (attempt.request ≡ request))
         (map arc_value attempts.now) }
@@ -105,7 +105,7 @@ fn go_on<S: BlockSource>(
     attempt: &Attempt<S>,
     total: &mut ScanTotal,
     buffer: &mut [u8],
-) -> Result<Option<u64>, BlocksFault>
+) -> Result<Option<u64>, SourceFault>
     requires request { IsAskable request }
     requires at { at ≤ request.limit }
     requires room { 65537 < length buffer.old }
@@ -131,7 +131,7 @@ fn read_on<S: BlockSource>(
     target: u64,
     total: &mut ScanTotal,
     buffer: &mut [u8],
-) -> Result<Option<u64>, BlocksFault>
+) -> Result<Option<u64>, SourceFault>
     requires request { IsAskable request }
     requires at { at ≤ request.limit }
     requires room { 65537 < length buffer.old }
@@ -146,7 +146,7 @@ fn read_on<S: BlockSource>(
 
 /// Takes in the piece that begins where the total ends, and says where the next one begins, if there is
 /// more to come.
-fn follow(total: &mut ScanTotal, piece: &Piece) -> Result<Option<u64>, BlocksFault>
+fn follow(total: &mut ScanTotal, piece: &Piece) -> Result<Option<u64>, SourceFault>
     ensures { IsFollowedBy piece.now total.old total.new result }
 {
     match piece.tail {
@@ -158,7 +158,7 @@ fn follow(total: &mut ScanTotal, piece: &Piece) -> Result<Option<u64>, BlocksFau
             join(total, piece)?;
             Ok(None)
         }
-        Tail::Cut => Err(BlocksFault::Truncated { place: piece.end }),
+        Tail::Cut => Err(SourceFault::Truncated { place: piece.end }),
     }
 }
 

@@ -1,4 +1,9 @@
 //! Open files as devices that are read at places.
+ghost use Rattle.std.specs.Prelude.{◌≡◌, ◌<◌, ◌≤◌, ℕ, List, Option, None, IfOk, length, take};
+ghost use Rattle.std.specs.Cmp.{partial_equiv_from_equiv};
+ghost use Rattle.block_scan.specs.Known.{KnownAt, KnownEnd, is_known_same};
+ghost use Rattle.block_scan.specs.KnownLaws.{known_back, known_equiv, known_front, known_more, known_nothing};
+ghost use Rattle.block_scan.specs.KnownLaws.{one_known};
 
 use crate::source::BlockSource;
 use day_file::DeviceFailed;
@@ -8,9 +13,6 @@ use std::os::unix::fs::FileExt;
 
 /// What is read at offsets by all threads at once, as an open file is.
 pub trait ReadsAt: Drop {
-    ghost use Rattle.std.specs.Prelude.{◌≡◌, ◌<◌, ◌≤◌, ℕ, List, Option, None, IfOk, length, take};
-    ghost use Rattle.block_scan.specs.Known.{KnownAt, KnownEnd, is_known_same};
-
     // The bytes that it holds, if that is known.
     ghost contents: { Self → Option (List ℕ) } = { λ _. None };
 
@@ -50,16 +52,12 @@ pub struct FileBlocks<F: ReadsAt> {
 }
 
 impl<F: ReadsAt> Model for FileBlocks<F> {
-    ghost use Rattle.std.specs.Prelude.{ℕ, List, Option};
-
     ghost Value = { Option (List ℕ) };
 
     ghost view = { λ blocks. F.contents blocks.file };
 }
 
 impl<F: ReadsAt> FileBlocks<F> {
-    ghost use Rattle.std.specs.Prelude.{◌≡◌};
-
     /// The blocks of this file.
     pub fn of(file: F) -> Self
         ensures { result ≡ F.contents file }
@@ -69,10 +67,6 @@ impl<F: ReadsAt> FileBlocks<F> {
 }
 
 impl<F: ReadsAt> PartialEq for FileBlocks<F> {
-    ghost use Rattle.std.specs.Cmp.{partial_equiv_from_equiv};
-    ghost use Rattle.block_scan.specs.Known.{is_known_same};
-    ghost use Rattle.block_scan.specs.KnownLaws.{known_equiv};
-
     ghost eq = { is_known_same };
 
     ghost laws = { partial_equiv_from_equiv known_equiv };
@@ -83,15 +77,10 @@ impl<F: ReadsAt> PartialEq for FileBlocks<F> {
 }
 
 impl<F: ReadsAt> Eq for FileBlocks<F> {
-    ghost use Rattle.block_scan.specs.KnownLaws.{known_equiv};
-
     ghost laws = { known_equiv };
 }
 
 impl<F: ReadsAt> BlockSource for FileBlocks<F> {
-    ghost use Rattle.block_scan.specs.Known.{KnownAt, KnownEnd};
-    ghost use Rattle.block_scan.specs.KnownLaws.{known_back, known_front, known_more, known_nothing, one_known};
-
     ghost GaveAt = { KnownAt };
 
     ghost EndsAt = { KnownEnd };

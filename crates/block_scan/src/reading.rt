@@ -2,19 +2,19 @@
 ghost use Rattle.std.specs.Prelude.{◌≡◌, ◌≤◌, ◌<◌, ◌+◌, ◌-◌, length, take, drop, vec_len, IfErr, IfOk, OnOk};
 ghost use Rattle.lists.specs.declared.limits.TheConstants.{LONGEST_FILE};
 ghost use Rattle.block_scan.specs.Blocks.{IsBlocksFault};
-ghost use Rattle.block_scan.specs.Pieces.{IsAskable, IsTried};
+ghost use Rattle.block_scan.specs.Pieces.{IsAskable, IsTried, IsWalked};
 
 use crate::OutOfMemory;
 use crate::block::Block;
-use crate::fault::BlocksFault;
 use crate::guessing::guess;
 use crate::piece::{Piece, Tail};
 use crate::request::Request;
 use crate::source::BlockSource;
-use crate::walking::walk;
+use day_file::Frames;
 use lists::limits::LONGEST_FILE;
 use scanning::OpenScan;
 use std::alloc::Global;
+use streaming::SourceFault;
 
 /// The bytes of the buffer that a block is read through: a little less than 128 KiB, as which the C library takes
 /// it of its heap. A larger one would be mapped, and when it is freed lists of its size come of the heap, too, and
@@ -29,14 +29,14 @@ const SEEN: usize = 4_096;
 pub(crate) fn scan_block<S: BlockSource>(
     alloc: Global,
     block: &Block<S>,
-) -> Result<Piece, BlocksFault>
+) -> Result<Piece, SourceFault>
     ensures { IsTried S.GaveAt S.EndsAt S.FailsAt block.now.source block.now.request result }
 {
-    let (source, request) = (&**block.source(), block.request());
+    let (source, request) = (&*block.source, block.request);
     let mut seen = [0u8; SEEN];
-    let start = guess(source, block.from(), request.limit, &mut seen)?;
+    let start = guess(source, block.from, request.limit, &mut seen)?;
     let mut buffer = zeros(alloc)?;
-    scan_piece(alloc, source, request, start, block.to(), &mut buffer)
+    scan_piece(alloc, source, request, start, block.to, &mut buffer)
 }
 
 /// A buffer.
@@ -44,18 +44,6 @@ pub(crate) fn zeros(alloc: Global) -> Result<Vec<u8>, OutOfMemory>
     ensures { IfOk result (λ zeros. vec_len zeros ≡ BUFFER) }
 {
     vec![in alloc; 0u8; BUFFER]
-}
-
-/// Refuses a source that has a byte past the limit.
-pub(crate) fn refuse_longer<S: BlockSource>(source: &S, limit: u64) -> Result<(), BlocksFault>
-    ensures asked { OnOk result (S.EndsAt source.now limit) }
-    ensures fault { IfErr result (IsBlocksFault S.GaveAt S.EndsAt S.FailsAt source.now limit) }
-{
-    let mut byte = [0u8; 1];
-    if source.read_at(limit, &mut byte)? > 0 {
-        return Err(BlocksFault::TooLong);
-    }
-    Ok(())
 }
 
 /// Reads from the start on, and scans the whole frames that it reads, up to the first one that
@@ -68,7 +56,7 @@ pub(crate) fn scan_piece<S: BlockSource>(
     start: u64,
     target: u64,
     buffer: &mut [u8],
-) -> Result<Piece, BlocksFault>
+) -> Result<Piece, SourceFault>
     requires request { IsAskable request }
     requires start { start ≤ request.limit }
     requires room { 65537 < length buffer.old }
@@ -96,7 +84,7 @@ pub(crate) fn scan_piece<S: BlockSource>(
         }
         filled += count;
         let walked = walk(&buffer[..filled], place, target, request.as_of, &mut scan)?;
-        keep_rest(buffer, walked, filled);
+        buffer.copy_within(walked..filled, 0);
         filled -= walked;
         place += walked as u64;
     }
@@ -117,7 +105,7 @@ fn read_some<S: BlockSource>(
     place: u64,
     most: u64,
     into: &mut [u8],
-) -> Result<usize, BlocksFault>
+) -> Result<usize, SourceFault>
     requires limit { limit ≤ LONGEST_FILE }
     requires place { place ≤ limit }
     requires most { 0 < most }
@@ -131,17 +119,27 @@ fn read_some<S: BlockSource>(
     let room = (into.len() as u64).min(limit + 1 - place).min(most) as usize;
     let count = source.read_at(place, &mut into[..room])?;
     if place + count as u64 > limit {
-        return Err(BlocksFault::TooLong);
+        return Err(SourceFault::TooLong);
     }
     Ok(count)
 }
 
-/// Moves the bytes between these two places to the front.
-fn keep_rest(buffer: &mut [u8], from: usize, to: usize)
-    requires from { from ≤ to }
-    requires to { to ≤ length buffer.old }
-    ensures len { length buffer.new ≡ length buffer.old }
-    ensures rest { take (to - from) buffer.new ≡ drop from (take to buffer.old) }
+/// Takes the whole frames of bytes that begin at this place into the scan, up to the first one that
+/// begins at or after the target, and says how many bytes they have.
+fn walk(
+    bytes: &[u8],
+    place: u64,
+    target: u64,
+    as_of: Option<u32>,
+    scan: &mut OpenScan,
+) -> Result<usize, OutOfMemory>
+    requires { place + length bytes.now ≤ LONGEST_FILE }
+    ensures { IfOk result (λ walked. IsWalked as_of bytes.now place target walked scan.old scan.new) }
 {
-    buffer.copy_within(from..to, 0);
+    let walked = scan.take_in(
+        as_of,
+        Frames::of(place, bytes),
+        target.saturating_sub(place),
+    )?;
+    Ok(walked as usize)
 }

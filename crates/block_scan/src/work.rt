@@ -7,13 +7,13 @@ ghost use Rattle.block_scan.specs.EqualBlocks.{equal_attempts, equal_blocks};
 use crate::OutOfMemory;
 use crate::attempt::{Attempt, Attempts};
 use crate::block::Block;
-use crate::fault::BlocksFault;
 use crate::reading::scan_block;
 use crate::source::BlockSource;
 use gathering::Work;
 use std::alloc::{AllocError, Global};
 use std::marker::PhantomData;
 use std::sync::Arc;
+use streaming::SourceFault;
 
 /// Reads and scans blocks. Two readings of a block may find different bytes, so what comes of a
 /// block isn't a function of it. Blocks may be worked on together if they are of one source and of
@@ -42,22 +42,25 @@ impl<S: BlockSource + Send + Sync> Work for BlockWork<S> {
 
     fn run(alloc: Global, input: &Block<S>) -> Result<Arc<Attempt<S>, Global>, OutOfMemory> {
         let found = match scan_block(alloc, input) {
-            Err(BlocksFault::OutOfMemory) => return Err(AllocError),
+            Err(SourceFault::OutOfMemory) => return Err(AllocError),
             found => found,
         };
         let attempt = Attempt {
-            source: Arc::try_clone(input.source())?,
-            request: input.request(),
+            source: Arc::try_clone(&input.source)?,
+            request: input.request,
             found,
         };
         Ok(Arc::new(alloc, attempt)?)
     }
 
     fn empty(alloc: Global) -> Attempts<S> {
-        Attempts::none(alloc)
+        Attempts {
+            items: Vec::new(alloc),
+        }
     }
 
     fn add(total: &mut Attempts<S>, output: &Arc<Attempt<S>, Global>) -> Result<(), OutOfMemory> {
-        total.push(output)
+        total.items.push(Arc::try_clone(output)?)?;
+        Ok(())
     }
 }

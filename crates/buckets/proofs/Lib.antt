@@ -5,3 +5,4 @@ pub mod RowsApart
 pub mod RisingRows
 pub mod RisingNumbers
 pub mod GatheredRows
+mod NeededRows

@@ -8,8 +8,10 @@ use Rattle.std.specs.Option.{option_or}
 use Rattle.std.proofs.lemmas.Bool.{eqb-true, ltb-false, ltb-true}
 use Rattle.std.proofs.lemmas.List.{append-nil, get_or_default}
 use Rattle.std.proofs.lemmas.List.Concat.{flat_map-append}
-use Rattle.std.proofs.lemmas.List.Elements.{All-append}
+use Rattle.std.proofs.lemmas.List.Elements.{All-append, All-push, All-tail}
 use Rattle.std.proofs.lemmas.List.Folds.{find-append}
+use Rattle.std.proofs.lemmas.List.Kept.{AllPairs-cons}
+use Rattle.std.proofs.lemmas.List.Quantifiers.{all_pairs_push}
 use Rattle.row_types.specs.declared.order.OrderRow.{OrderRow}
 use Rattle.order_table.specs.Orders.{first_repeated, first_row}
 use Rattle.order_table.proofs.RowsInOrder.{first_is_least, in_order_from_rising, rising_does_not_fall}
@@ -25,24 +27,15 @@ module _ {X : Type 0} (R : X → X → Type 0) where
   head_pairs : (x : X) (xs : List X) → AllPairs R (x ∷ xs) → All (R x) xs
   head_pairs x xs h k d l = h 0 (suc k) d (omega arith) (omega (arith, l))
 
-  pairs_cons : (x : X) (xs : List X) → All (R x) xs → AllPairs R xs → AllPairs R (x ∷ xs)
-  pairs_cons x xs h t zero zero d p q = absurd (omega (arith, p))
-  pairs_cons x xs h t zero (suc j) d p q = h j d (omega (arith, q))
-  pairs_cons x xs h t (suc i) zero d p q = absurd (omega (arith, p))
-  pairs_cons x xs h t (suc i) (suc j) d p q = t i j d (omega (arith, p)) (omega (arith, q))
-
   pairs_append : (xs ys : List X) → AllPairs R xs → AllPairs R ys → All (λ x. All (R x) ys) xs → AllPairs R (xs ++ ys)
   pairs_append [] ys one other cross = other
   pairs_append (x ∷ xs) ys one other cross =
-      pairs_cons x (xs ++ ys) (All-append (R x) xs ys (head_pairs x xs one) (cross 0 x (omega arith)))
+      AllPairs-cons R x (xs ++ ys) (All-append (R x) xs ys (head_pairs x xs one) (cross 0 x (omega arith)))
       (pairs_append xs ys (tail_pairs x xs one) other (λ k d l. cross (suc k) d (omega (arith, l))))
-
-all_tail : {X : Type 0} (P : X → Type 0) (x : X) (xs : List X) → All P (x ∷ xs) → All P xs
-all_tail P x xs h k d l = h (suc k) d (omega (arith, l))
 
 all_flat : {X Y : Type 0} (P : Y → Type 0) (f : X → List Y) (xs : List X) → All (λ x. All P (f x)) xs → All P (flat_map f xs)
 all_flat P f [] h = λ k d l. absurd (omega (arith, l))
-all_flat P f (x ∷ xs) h = All-append P (f x) (flat_map f xs) (h 0 x (omega arith)) (all_flat P f xs (all_tail (λ y. All P (f y)) x xs h))
+all_flat P f (x ∷ xs) h = All-append P (f x) (flat_map f xs) (h 0 x (omega arith)) (all_flat P f xs (All-tail (λ y. All P (f y)) x xs h))
 
 -- ---- the rows of all lists
 
@@ -51,8 +44,8 @@ rows_of part = part.rows
 
 tail_rising : (part : Part) (parts : List Part) → AreRising (part ∷ parts) → AreRising parts
 tail_rising part parts are = record {
-  rise = all_tail (λ p. Rise p.rows) part parts are.rise;
-  within = all_tail (λ p. All (λ row. row.order_no ≤ p.last) p.rows) part parts are.within;
+  rise = All-tail (λ p. Rise p.rows) part parts are.rise;
+  within = All-tail (λ p. All (λ row. row.order_no ≤ p.last) p.rows) part parts are.within;
   apart = tail_pairs IsAbove part parts are.apart;
 }
 
@@ -73,20 +66,12 @@ none_twice parts are = none_repeated (rows_of_lists parts) (all_rise parts are)
 
 -- ---- one list more
 
-all_one : {X : Type 0} (P : X → Type 0) (x : X) → P x → All P (x ∷ [])
-all_one P x h zero d l = h
-all_one P x h (suc k) d l = absurd (omega (arith, l))
-
-no_pairs : {X : Type 0} (R : X → X → Type 0) (x : X) → AllPairs R (x ∷ [])
-no_pairs R x i j d p q = absurd (omega (arith, p, q))
-
 pub rising_more : (parts : List Part) (part : Part) → AreRising parts → Rise part.rows → All (λ row. row.order_no ≤ part.last) part.rows
     → All (λ p. IsAbove p part) parts → AreRising (parts ++ part ∷ [])
 rising_more parts part are rise within over = record {
-  rise = All-append (λ p. Rise p.rows) parts (part ∷ []) are.rise (all_one (λ p. Rise p.rows) part rise);
-  within = All-append (λ p. All (λ row. row.order_no ≤ p.last) p.rows) parts (part ∷ []) are.within
-      (all_one (λ p. All (λ row. row.order_no ≤ p.last) p.rows) part within);
-  apart = pairs_append IsAbove parts (part ∷ []) are.apart (no_pairs IsAbove part) (λ k d l. all_one (IsAbove (get_or parts k d)) part (over k d l));
+  rise = All-push (λ p. Rise p.rows) parts part are.rise rise;
+  within = All-push (λ p. All (λ row. row.order_no ≤ p.last) p.rows) parts part are.within within;
+  apart = all_pairs_push IsAbove parts part are.apart over;
 }
 
 pub rows_more : (parts : List Part) (part : Part) → rows_of_lists (parts ++ part ∷ []) ≡ rows_of_lists parts ++ part.rows
@@ -121,7 +106,7 @@ ListPoint parts q i = IsPartitionPoint (λ part. ltb part.last q ≡ true) (λ p
 
 nowhere : (rows : List OrderRow) (q : ℕ) → All (λ row. row.order_no ≢ q) rows → find (λ row. eqb row.order_no q) rows ≡ None
 nowhere [] q others = refl
-nowhere (row ∷ rows) q others = go (nowhere rows q (all_tail (λ (other : OrderRow). other.order_no ≢ q) row rows others)) (eqb row.order_no q) refl
+nowhere (row ∷ rows) q others = go (nowhere rows q (All-tail (λ (other : OrderRow). other.order_no ≢ q) row rows others)) (eqb row.order_no q) refl
   where
     go : find (λ (other : OrderRow). eqb other.order_no q) rows ≡ None → (b : Bool) → eqb row.order_no q ≡ b
         → cond b (Some row) (find (λ (other : OrderRow). eqb other.order_no q) rows) ≡ None

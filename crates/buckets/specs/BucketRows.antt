@@ -55,3 +55,11 @@ own_rows bucket = cut_to bucket.modulus bucket.number (joined_partitions bucket.
 -- the rows of borrowed partitions, one partition after another
 abbrev pub rows_of_parts : List (Bor PartitionView) → PartitionView
 rows_of_parts parts = joined_partitions (map (λ part. part.now) parts)
+
+-- the references of executions
+abbrev pub executed_in : PartitionView → List ℕ
+executed_in rows = map (λ execution. execution.order_no) rows.executions
+
+-- the references of orders
+abbrev pub ordered_in : PartitionView → List ℕ
+ordered_in rows = map (λ row. row.order_no) rows.orders

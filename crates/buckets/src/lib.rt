@@ -9,6 +9,7 @@ mod bucket;
 mod found;
 mod making;
 mod names;
+mod needed;
 mod plan;
 mod product;
 mod questions;

@@ -1,20 +1,18 @@
 //! The sales of partitions.
 ghost use Rattle.std.specs.Prelude.{◌≡◌, ◌++◌, IfOk, OnOk, List, map, nat_eq};
 ghost use Rattle.std.specs.List.{IsDistinct};
-ghost use Rattle.order_table.specs.Orders.{IsTableOf};
 ghost use Rattle.row_types.specs.declared.order.OrderRow.{OrderRow as TheRow};
 ghost use Rattle.probe.specs.PricedBefore.{IsPricingOf};
 ghost use Rattle.probe.specs.Pricing.{priced};
-ghost use Rattle.keyed_orders.specs.Joined.{rows_of_lists};
 ghost use Rattle.morsel_rows.specs.Partitions.{AreRowsByPlace};
 ghost use Rattle.buckets.specs.BucketRows.{rows_of_parts};
 ghost use Rattle.buckets.specs.FoundRows.{repeated_in, trades_in, unknown_in};
 
 use crate::OutOfMemory;
+use crate::needed::needed_orders;
 use crate::rising::RisingOrders;
-use keyed_orders::KeyedOrders;
-use morsel_rows::{OrderList, Partition};
-use order_table::{Built, OrderRow, OrderTable, PricesExecutions, Repeated};
+use morsel_rows::Partition;
+use order_table::{Built, OrderTable, PricesExecutions, Repeated};
 use probe::{Priced, Sale, Unknown, price_into};
 use std::alloc::Global;
 
@@ -40,7 +38,7 @@ pub(crate) fn trade(alloc: Global, parts: &[&Partition]) -> Result<Traded, OutOf
 }
 
 /// Prices the executions of the partitions by their orders: searched where they lie, where their references rise, and
-/// else found by their keys; in a table, where keys don't tell them apart.
+/// else in a table of those that are needed.
 fn price_executions(alloc: Global, parts: &[&Partition]) -> Result<Traded, OutOfMemory>
     requires { IsDistinct nat_eq (map (λ row. row.place) (rows_of_parts parts.now).orders) }
     ensures repeated { IfOk result (λ traded. traded.repeated ≡ repeated_in (rows_of_parts parts.now)) }
@@ -51,11 +49,7 @@ fn price_executions(alloc: Global, parts: &[&Partition]) -> Result<Traded, OutOf
     if let Some(orders) = RisingOrders::of(alloc, parts)? {
         return price_by(alloc, &orders, None, parts);
     }
-    let lists = lists_of(alloc, parts)?;
-    if let Some(orders) = KeyedOrders::of(alloc, &lists)? {
-        return price_by(alloc, &orders, None, parts);
-    }
-    let Built { table, repeated } = table_of(alloc, parts)?;
+    let Built { table, repeated } = OrderTable::of_vec(needed_orders(alloc, parts)?);
     price_by(alloc, &table, repeated, parts)
 }
 
@@ -77,27 +71,6 @@ fn price_by<P: PricesExecutions>(
         unknown,
         sales,
     })
-}
-
-/// The order rows of the partitions, where they lie.
-fn lists_of<'a>(alloc: Global, parts: &[&'a Partition]) -> Result<Vec<&'a OrderList>, OutOfMemory>
-    ensures { IfOk result (λ lists. rows_of_lists lists.items ≡ (rows_of_parts parts.now).orders) }
-{
-    let mut lists = Vec::with_capacity(alloc, parts.len())?;
-    for part in parts {
-        lists.push(part.orders())?;
-    }
-    Ok(lists)
-}
-
-/// The table of the partitions' orders.
-fn table_of(alloc: Global, parts: &[&Partition]) -> Result<Built, OutOfMemory>
-    requires { IsDistinct nat_eq (map (λ row. row.place) (rows_of_parts parts.now).orders) }
-    ensures table { IfOk result (λ built. IsTableOf (rows_of_parts parts.now).orders built.table) }
-    ensures repeated { IfOk result (λ built. built.repeated ≡ repeated_in (rows_of_parts parts.now)) }
-{
-    let orders = orders_of(alloc, parts)?;
-    Ok(OrderTable::of_vec(orders))
 }
 
 /// The sales of the partitions' executions, in memory that is taken once for all trades.
@@ -128,26 +101,6 @@ fn add_own_priced(sales: &mut Vec<Sale>, parts: &[&Partition]) -> Result<(), Out
         sales.extend_from_slice(part.own_priced())?;
     }
     Ok(())
-}
-
-/// The order rows of the partitions, in memory that is taken once.
-fn orders_of(alloc: Global, parts: &[&Partition]) -> Result<Vec<OrderRow>, OutOfMemory>
-    ensures { IfOk result (λ rows. rows.items ≡ (rows_of_parts parts.now).orders) }
-{
-    let mut rows = Vec::with_capacity(alloc, count_orders(parts))?;
-    for part in parts {
-        part.orders().append_to(&mut rows)?;
-    }
-    Ok(rows)
-}
-
-/// How many order rows the partitions have, for room for them to be made.
-fn count_orders(parts: &[&Partition]) -> usize {
-    let mut count = 0usize;
-    for part in parts {
-        count = count.saturating_add(part.orders().len());
-    }
-    count
 }
 
 /// How many trades the partitions have, for room for them to be made.

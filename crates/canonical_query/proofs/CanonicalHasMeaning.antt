@@ -1,11 +1,8 @@
 -- The canonical text of a query has that query as its meaning.
 use Rattle.std.proofs.Common.{◌≡◌, ℕ, ◌+◌, ◌-◌, ◌*◌, ◌/◌, ◌%◌, ◌^◌, ◌<◌, ◌≤◌, Bool, true, false, cond, ◌&&◌, List, [], ◌∷◌, ◌++◌, length, Option, Some, None}
-use Rattle.std.proofs.Common.{refl, ap, ◌∙◌, subst, inl, inr, arith, rules, nat_lt, nat_le, filter, length-append}
-use Rattle.std.specs.Prelude.{not, codes, ◌==◌, fold}
+use Rattle.std.proofs.Common.{refl, ap, ◌∙◌, subst, inl, inr, arith, rules, nat_lt, nat_le, filter, length-append, not, codes, ◌==◌, fold, decimal, bytes_eq}
 use Rattle.std.specs.Char.{is_ascii_digit}
-use Rattle.std.specs.Fmt.{decimal}
 use Rattle.std.specs.List.{join_with_byte, list_all, All}
-use Rattle.std.specs.Str.{bytes_eq}
 use Rattle.std.proofs.lemmas.Fmt.{digits_decimal, digits_value-decimal, length-decimal-le, decimal_nonempty}
 use Rattle.std.proofs.lemmas.Str.Parse.{IsNumeralModel, numerals_by_fold}
 use Rattle.std.proofs.lemmas.Slice.Eq.{bytes_eq-Decides}
@@ -18,16 +15,14 @@ use Rattle.std.proofs.lemmas.List.Sums.{AllPass-from_list_all, list_all-from_All
 use Rattle.query.specs.Words.{parts, words_of_parts, words_from, words_of}
 use Rattle.meaning.specs.Symbols.{is_symbol_byte, is_symbol}
 use Rattle.query.specs.Values.{number_from, count_of, unit_of, pair_at, clock_of, time_of, symbols_of, kinds_of}
-use Rattle.meaning.specs.Meaning.{Meaning, is_width, are_symbols, is_span, has_some, IsSound, CanBeSpelled}
+use Rattle.meaning.specs.Meaning.{CanBeSpelled, IsSound, Kinds, Meaning, Span, are_symbols, has_some, is_span, is_width}
+use Rattle.meaning.specs.declared.query.What.TheVariants.{Bars, Sales}
+use Rattle.meaning.specs.declared.query.What.{What}
 use Rattle.query.specs.Said.{Said, only, meaning_of}
-use Rattle.query.specs.Grammar.{Conditions, More, Filter, Moment, Means}
-use Rattle.query.specs.Grammar.{symbol, time, kind, done, further, all, those, any_moment, up_to, sales, bars}
+use Rattle.query.specs.Grammar.{Conditions, Linked, Moment, Means}
+use Rattle.query.specs.Grammar.{symbol, time, kind, done, further, any_moment, up_to, sales, bars}
 use Rattle.canonical_query.specs.Canonical.{pair_text, clock_text, what_words, symbol_condition, time_condition, kind_letters, kind_condition, conditions_of, linked}
 use Rattle.canonical_query.specs.Canonical.{moment_words, canonical}
-use Rattle.meaning.specs.declared.query.What.{What}
-use Rattle.meaning.specs.declared.query.What.TheVariants.{Sales, Bars}
-use Rattle.probe.specs.declared.selection.Kinds.{Kinds}
-use Rattle.probe.specs.declared.selection.Span.{Span}
 
 -- ---- joined parts are the parts of what is joined
 
@@ -94,8 +89,7 @@ decimal_plain n small =
 -- a symbol has bytes, each of them a symbol's
 symbol_parts : (name : List ℕ) → is_symbol name ≡ true → (nat_lt 0 (length name) ≡ true) × (list_all is_symbol_byte name ≡ true)
 unfolding is_symbol
-symbol_parts name h =
-    let sized = and_parts (nat_lt 0 (length name) && nat_le (length name) 8) _ h in ((and_parts (nat_lt 0 (length name)) _ sized.0).0, sized.1)
+symbol_parts name h = (grind arith, grind arith)
 
 symbol_plain : (name : List ℕ) → is_symbol name ≡ true → is_plain name ≡ true
 symbol_plain name h =
@@ -165,13 +159,11 @@ clock_plain t = simp digit_not_space
 -- ---- kinds
 
 -- the letters of kinds spell them, and are a word
-record AreSpelled (kinds : Kinds) : Type 0 where
-  pub means : kinds_of (join_with_byte 44 (kind_letters kinds)) ≡ Some kinds
-  pub plain : is_plain (join_with_byte 44 (kind_letters kinds)) ≡ true
-
-kinds_spelled : (e c p q : Bool) → has_some (record { e = e; c = c; p = p; q = q }) ≡ true → AreSpelled (record { e = e; c = c; p = p; q = q })
+kinds_spelled : (e c p q : Bool) → has_some (record { e = e; c = c; p = p; q = q }) ≡ true
+    → (kinds_of (join_with_byte 44 (kind_letters (record { e = e; c = c; p = p; q = q }))) ≡ Some (record { e = e; c = c; p = p; q = q }))
+    × (is_plain (join_with_byte 44 (kind_letters (record { e = e; c = c; p = p; q = q }))) ≡ true)
 unfolding kinds_of
-kinds_spelled e c p q h = record { means = grind arith; plain = grind arith }
+kinds_spelled e c p q h = (grind arith, grind arith)
 
 -- ---- conditions
 
@@ -185,15 +177,10 @@ record IsSpelled (said : Said) (conditions : List (List (List ℕ))) (query : Me
   pub says : Says said conditions query
   pub plain : (link : List ℕ) → is_plain link ≡ true → list_all is_plain (linked link conditions) ≡ true
 
-more_says : (said : Said) (conditions : List (List (List ℕ))) (query : Meaning) (at : ℕ) → Says said conditions query
-    → More said (words_of_parts at (linked (codes "and") conditions)) query
-more_says said [] query at h = rw (← h) done
-more_says said (condition ∷ conditions) query at h = further (h (at + (length (codes "and") + 1)))
-
-filter_says : (said : Said) (conditions : List (List (List ℕ))) (query : Meaning) (at : ℕ) → Says said conditions query
-    → Filter said (words_of_parts at (linked (codes "where") conditions)) query
-filter_says said [] query at h = rw (← h) all
-filter_says said (condition ∷ conditions) query at h = those (h (at + (length (codes "where") + 1)))
+linked_says : (link : List ℕ) (said : Said) (conditions : List (List (List ℕ))) (query : Meaning) (at : ℕ) → Says said conditions query
+    → Linked link said (words_of_parts at (linked link conditions)) query
+linked_says link said [] query at h = rw (← h) done
+linked_says link said (condition ∷ conditions) query at h = further (h (at + (length link + 1)))
 
 -- the three conditions, the last of them first
 kinds_say : (said : Said) (e c p q : Bool) → has_some (record { e = e; c = c; p = p; q = q }) ≡ true
@@ -201,7 +188,7 @@ kinds_say : (said : Said) (e c p q : Bool) → has_some (record { e = e; c = c; 
     (meaning_of (record said { kinds = Some (record { e = e; c = c; p = p; q = q }) }))
 kinds_say said true true true true h = record { says = refl; plain = λ link l. refl }
 kinds_say said e c p q h =
-    record { says = λ at. kind refl (kinds_spelled e c p q h).means done; plain = λ link l. rw (l, (kinds_spelled e c p q h).plain) refl }
+    record { says = λ at. kind refl (kinds_spelled e c p q h).0 done; plain = λ link l. rw (l, (kinds_spelled e c p q h).1) refl }
 
 span_says : (said : Said) (span : Option Span) (kinds : Kinds) → ((some : Span) → span ≡ Some some → is_span some ≡ true) → has_some kinds ≡ true
     → IsSpelled (record said { span = None; kinds = None }) (time_condition span ++ kind_condition kinds)
@@ -213,7 +200,8 @@ span_says said (Some span) kinds bound some =
     let within : span.until ≤ 86400 = leb-true _ _ (and_parts (nat_lt span.since span.until) _ (bound span refl)).1 in
     let before : span.since < span.until = ltb-true _ _ rises in
     record {
-      says = λ at. time refl (time_value span.since (omega arith)) (time_value span.until within) rises (more_says _ (kind_condition kinds) _ _ rest.says);
+      says = λ at. time refl (time_value span.since (omega arith)) (time_value span.until within) rises
+          (linked_says (codes "and") _ (kind_condition kinds) _ _ rest.says);
       plain = λ link l. rw (l, clock_plain span.since, clock_plain span.until, rest.plain (codes "and") refl) refl;
     }
 
@@ -225,7 +213,7 @@ symbols_say said (Some names) kinds sound some =
     let rest = span_says (record said { symbols = Some names }) said.span kinds sound.span some in
     let spelled = symbols_spelled names (sound.symbols names refl) in
     record {
-      says = λ at. symbol refl spelled.0 (more_says _ (time_condition said.span ++ kind_condition kinds) _ _ rest.says);
+      says = λ at. symbol refl spelled.0 (linked_says (codes "and") _ (time_condition said.span ++ kind_condition kinds) _ _ rest.says);
       plain = λ link l. rw (l, spelled.1, rest.plain (codes "and") refl) refl;
     }
 
@@ -242,9 +230,9 @@ at_moment what moment = record { what = what; as_of = moment; symbols = None; sp
 moment_says : (what : What) (moment : Option ℕ) (conditions : List (List (List ℕ))) (query : Meaning) (at : ℕ)
     → ((last : ℕ) → moment ≡ Some last → last ≤ 86400) → Says (at_moment what moment) conditions query
     → Moment (only what) (words_of_parts at (from_moment moment conditions)) query
-moment_says what None conditions query at bound h = any_moment (filter_says (only what) conditions query at h)
+moment_says what None conditions query at bound h = any_moment (linked_says (codes "where") (only what) conditions query at h)
 moment_says what (Some last) conditions query at bound h =
-    up_to (time_value last (bound last refl)) (filter_says (at_moment what (Some last)) conditions query _ h)
+    up_to (time_value last (bound last refl)) (linked_says (codes "where") (at_moment what (Some last)) conditions query _ h)
 
 moment_plain : (moment : Option ℕ) (rest : List (List ℕ)) → list_all is_plain rest ≡ true → list_all is_plain (moment_words moment ++ rest) ≡ true
 moment_plain None rest h = h

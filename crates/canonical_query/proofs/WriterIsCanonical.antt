@@ -1,18 +1,16 @@
 -- A text that is written word by word is the canonical one.
-use Rattle.std.proofs.Common.{◌≡◌, ℕ, zero, suc, ◌+◌, ◌<◌, ◌≤◌, nat_lt, cond, List, [], ◌∷◌, ◌++◌, length, take, get_or, Option, Some}
-use Rattle.std.proofs.Common.{refl, sym, ap, ◌∙◌, arith, append_assoc, append-nil}
-use Rattle.std.specs.Prelude.{codes}
-use Rattle.std.specs.Fmt.{decimal}
+use Rattle.std.proofs.Common.{◌≡◌, ℕ, zero, suc, ◌+◌, ◌<◌, ◌≤◌, nat_lt, cond, List, [], ◌∷◌, ◌++◌, length, take, get_or, Option, Some, refl, sym, ap, ◌∙◌}
+use Rattle.std.proofs.Common.{arith, append_assoc, append-nil, codes, decimal}
 use Rattle.std.specs.List.{join_with_byte}
 use Rattle.std.proofs.lemmas.Grind.{flat_map-append}
 use Rattle.std.proofs.lemmas.List.{take_more}
 use Rattle.canonical_query.specs.Canonical.{clock_text, what_words, linked, symbol_condition, time_condition}
 use Rattle.canonical_query.specs.CanonicalPieces.{spaced, next_link}
-use Rattle.std.proofs.lemmas.Bool.{and_parts, lt-ltb, ltb-true, leb-true}
-use Rattle.meaning.specs.Meaning.{IsSound}
-use Rattle.probe.specs.declared.selection.Span.{Span}
+use Rattle.std.proofs.lemmas.Bool.{lt-ltb}
+use Rattle.std.proofs.lemmas.Bool.Decides.{nat_tests}
+use Rattle.meaning.specs.Meaning.{IsSound, Span}
+use Rattle.meaning.specs.declared.query.What.TheVariants.{Bars, Sales}
 use Rattle.meaning.specs.declared.query.What.{What}
-use Rattle.meaning.specs.declared.query.What.TheVariants.{Sales, Bars}
 
 -- ---- the words of a text
 
@@ -21,12 +19,9 @@ joined_is : (first : List ℕ) (rest : List (List ℕ)) → join_with_byte 32 (f
 joined_is first [] = sym (append-nil first)
 joined_is first (second ∷ rest) = ap (λ ys. first ++ (32 ∷ ys)) (joined_is second rest)
 
-spaced-append : (xs ys : List (List ℕ)) → spaced (xs ++ ys) ≡ spaced xs ++ spaced ys
-spaced-append xs ys = flat_map-append (λ bytes. 32 ∷ bytes) xs ys
-
 joined_more : (first : List ℕ) (rest more : List (List ℕ)) → join_with_byte 32 ((first ∷ rest) ++ more) ≡ join_with_byte 32 (first ∷ rest) ++ spaced more
 joined_more first rest more =
-    simp (joined_is, append_assoc) (ap (λ ys. first ++ ys) (spaced-append rest more))
+    simp (joined_is, append_assoc) (ap (λ ys. first ++ ys) (flat_map-append (λ bytes. 32 ∷ bytes) rest more))
 
 and_stays : (conditions : List (List (List ℕ))) → next_link (codes "and") conditions ≡ codes "and"
 and_stays [] = refl
@@ -46,7 +41,7 @@ pub written_is : (what : What) (moment : List (List ℕ)) (a b c : List (List (L
     → (((join_with_byte 32 (what_words what) ++ spaced moment) ++ spaced (linked (codes "where") a)) ++ spaced (linked (next_link (codes "where") a) b))
     ++ spaced (linked (next_link (next_link (codes "where") a) b) c)
     ≡ join_with_byte 32 (what_words what ++ (moment ++ linked (codes "where") (a ++ (b ++ c))))
-written_is what moment a b c = simp (what_more, linked-append, spaced-append, append_assoc)
+written_is what moment a b c = simp (what_more, linked-append, flat_map-append, append_assoc)
 
 in_order : (a b c d e f : List ℕ) → ((((a ++ b) ++ c) ++ d) ++ e) ++ f ≡ a ++ (b ++ (c ++ (d ++ (e ++ f))))
 in_order a b c d e f = simp append_assoc
@@ -84,10 +79,6 @@ joined_next (x ∷ xs) (suc i) name within is =
 -- times that a query has are no later than the day's end
 pub span_fits : {listed : What} {moment : Option ℕ} {names : Option (List (List ℕ))} {times : Option Span} → IsSound listed moment names times
     → (some : Span) → times ≡ Some some → (some.since ≤ 86400) × (some.until ≤ 86400)
-span_fits sound some e =
-    let bound = and_parts (nat_lt some.since some.until) _ (sound.span some e) in
-    let rises = ltb-true _ _ bound.0 in
-    let within = leb-true some.until 86400 bound.1 in
-    (omega arith, within)
+span_fits sound some e = let bound = sound.span some e in (grind (arith, nat_tests), grind (arith, nat_tests))
 
 pub ruleset text = (written_is, span_fits)

@@ -3,14 +3,12 @@
 use Rattle.std.specs.Prelude.{ℕ, ◌+◌, ◌/◌, ◌%◌, ◌&&◌, if◌then◌else◌, List, [], ◌∷◌, ◌++◌, Option, Some, None, codes}
 use Rattle.std.specs.List.{join_with_byte}
 use Rattle.std.specs.Fmt.{decimal}
-use Rattle.meaning.specs.Meaning.{Meaning}
+use Rattle.meaning.specs.Meaning.{Kinds, Meaning, Span}
+use Rattle.meaning.specs.declared.query.What.TheVariants.{Bars, Sales}
+use Rattle.meaning.specs.declared.query.What.{What}
 use Rattle.meaning.specs.declared.symbols.TheConstants.{COMMA}
 use Rattle.query.specs.declared.words.TheConstants.{SPACE}
 use Rattle.query.specs.declared.values.TheConstants.{COLON}
-use Rattle.meaning.specs.declared.query.What.{What}
-use Rattle.meaning.specs.declared.query.What.TheVariants.{Sales, Bars}
-use Rattle.probe.specs.declared.selection.Kinds.{Kinds}
-use Rattle.probe.specs.declared.selection.Span.{Span}
 
 -- a number below 100 in two digits; 48 is the code of `0`
 abbrev pub pair_text : ℕ → List ℕ

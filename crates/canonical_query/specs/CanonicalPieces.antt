@@ -1,7 +1,6 @@
 -- The pieces of a canonical text that is written word by word.
 -- Derived: it follows the code; proofs/WriterIsCanonical shows that the pieces make the canonical text.
-use Rattle.std.specs.Prelude.{ℕ, Bool, if◌then◌else◌, List, [], ◌∷◌, codes}
-use Rattle.std.specs.List.{flat_map}
+use Rattle.std.specs.Prelude.{ℕ, Bool, if◌then◌else◌, List, [], ◌∷◌, codes, flat_map}
 use Rattle.meaning.specs.declared.symbols.TheConstants.{COMMA}
 use Rattle.query.specs.declared.words.TheConstants.{SPACE}
 

@@ -3,18 +3,9 @@ ghost use Rattle.std.specs.Prelude.{◌≡◌, ◌∷◌, ◌++◌, [], ◌<◌,
 ghost use Rattle.std.specs.Prelude.{true, Some, ℕ};
 ghost use Rattle.std.specs.Fmt.{decimal};
 ghost use Rattle.std.specs.List.{join_with_byte};
-ghost use Rattle.canonical_query.specs.Canonical.{
-  canonical,
-  clock_text,
-  kind_condition,
-  kind_letters,
-  linked,
-  moment_words,
-  pair_text,
-  symbol_condition,
-  time_condition,
-  what_words,
-};
+ghost use Rattle.canonical_query.specs.Canonical.{canonical, clock_text, kind_condition, kind_letters, linked};
+ghost use Rattle.canonical_query.specs.Canonical.{moment_words, pair_text, symbol_condition, time_condition};
+ghost use Rattle.canonical_query.specs.Canonical.{what_words};
 ghost use Rattle.canonical_query.specs.CanonicalPieces.{letter_text, next_link, spaced};
 
 use itoa::Buffer;

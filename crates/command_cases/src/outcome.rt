@@ -6,14 +6,13 @@ use crate::case::Case;
 use crate::devices::{append_line, reader_of, writer_of};
 use crate::way::{Reading, Way};
 use command_line::{
-    Counted, CountedSink, Job, Memory, Settings, command, explain, perform, perform_blocks,
-    perform_opened,
+    Counted, CountedSink, Job, Settings, command, explain, perform, perform_blocks, perform_opened,
 };
 use std::alloc::Global;
 use std::io;
 use std::sync::Wait;
 use std::thread::Threads;
-use tests_support::{Interrupted, InterruptedWriter};
+use tests_support::{Interrupted, InterruptedWriter, in_memory};
 
 /// Appends the line of a way.
 pub(crate) fn append_outcome<R: Threads + Wait + Sync>(
@@ -109,7 +108,7 @@ fn performed_by_blocks<R: Threads + Wait + Sync>(
     out: &mut InterruptedWriter,
     errors: &mut InterruptedWriter,
 ) -> u8 {
-    let source = Memory { bytes };
+    let source = in_memory(bytes);
     let length = bytes.len() as u64;
     let mut out = CountedSink::of(out);
     let mut errors = CountedSink::of(errors);

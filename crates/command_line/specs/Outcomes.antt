@@ -2,7 +2,8 @@
 -- To be believed.
 use Rattle.std.specs.Prelude.{◌≡◌, ◌==◌, ℕ, Bool, false, List, Result, string_bytes}
 use Rattle.arguments.specs.declared.arguments.Job.{Job}
-use Rattle.runs.specs.Readings.{Reading, of_blocks, of_stream}
+use Rattle.block_scan.specs.Blocks.{of_blocks}
+use Rattle.streaming.specs.Readings.{Reading, of_stream}
 use Rattle.runs.specs.Runs.{Ran, is_write_failed}
 use Rattle.outcomes.specs.declared.run_fault.RunFault.{RunFault}
 use Rattle.outcomes.specs.declared.run_fault.RunFault.TheVariants as fault

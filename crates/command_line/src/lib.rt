@@ -8,5 +8,5 @@ pub use performing::{perform, perform_blocks, perform_opened};
 pub use reports::{explain, tell};
 pub use runs::{
     BlockSource, Counted, CountedSink, Crew, DayFault, DeviceFailed, FileBlocks, LONGEST_FILE,
-    Memory, QueryFault, ReadsAt, RunFault, Settings, Sink, Source,
+    QueryFault, ReadsAt, RunFault, Settings, Sink, Source,
 };

@@ -1,6 +1,7 @@
 ghost use Rattle.std.specs.Prelude.{◌≡◌, false, MatchOption};
 ghost use Rattle.command_line.specs.Outcomes.{Did, tells_failed_reading};
-ghost use Rattle.runs.specs.Readings.{of_blocks, of_stream};
+ghost use Rattle.block_scan.specs.Blocks.{of_blocks};
+ghost use Rattle.streaming.specs.Readings.{of_stream};
 ghost use Rattle.reports.specs.FaultLines.{line_of, status_of};
 ghost use Rattle.reports.specs.Reports.{Delivered};
 

@@ -69,15 +69,6 @@ marked_more tasks turns t =
     ∙ map-append (λ t. t.claim % tasks) (filter (λ t. t.is_marked) turns) (filter (λ t. t.is_marked) (t ∷ []))
 
 module _ (tasks count : ℕ) (before : Seat) where
-  -- no turn yet
-  pub no_turn : (s : Seat) → s ≡ before → count ≡ 0 → Turns tasks count before s
-  no_turn s same none = record {
-    turns = [];
-    claimed = ap claims same ∙ sym (append-nil (claims before));
-    seen = ap seen_tasks same ∙ sym (append-nil (seen_tasks before));
-    left = sym none;
-  }
-
   module _ (s t : Seat) (c : ℕ) (so_far : Turns tasks count before s) (claimed : claims t ≡ claims s ++ c ∷ []) where
     claims_more : (b : Bool)
         → claims t ≡ claims before ++ map (λ t. t.claim) (so_far.turns ++ record { claim = c; is_marked = b } ∷ [])

@@ -45,10 +45,11 @@ pub fn run_missing<W: Work, G: Gate>(
         set.contains gathering.new.covered task ≡ true) }
 {
     for task in 0..inputs.count() {
-        if !gathering.covers(task) {
-            gate.before(pipeline, task, 2);
-            run_task(alloc, gathering, inputs, task)?;
+        if gathering.covers(task) {
+            continue;
         }
+        gate.before(pipeline, task, 2);
+        run_task(alloc, gathering, inputs, task)?;
     }
     Ok(())
 }

@@ -1,17 +1,17 @@
 -- The one cut of bytes by a target: with a run more at its head or at its end, and how long its runs are.
-use Rattle.std.proofs.Common.{◌≡◌, ℕ, suc, ◌+◌, ◌-◌, ◌<◌, ◌≤◌, List, [], ◌∷◌, ◌++◌, length, take, drop, All, refl, sym, ap, ap₂, ◌∙◌, subst}
+use Rattle.std.proofs.Common.{◌≡◌, ℕ, suc, ◌+◌, ◌-◌, ◌<◌, ◌≤◌, List, [], ◌∷◌, ◌++◌, length, take, drop, All, refl, sym, ap, ◌∙◌, subst}
 use Rattle.std.proofs.Common.{append_assoc, arith, get_or}
-use Rattle.std.proofs.Math.Seq.{take-add, take-append_seam, take-length}
+use Rattle.std.proofs.Math.Seq.{drop-append_seam, take-append_seam, take-length}
 use Rattle.std.specs.List.{concat}
-use Rattle.std.proofs.lemmas.List.{length-append, length-drop, length-take-le, take-append-drop, take-take, take_all, take_more}
-use Rattle.std.proofs.lemmas.List.Elements.{All-cons, All-nil, All-push, All-tail, All-take}
-use Rattle.lists.proofs.Lists.{concat_push}
+use Rattle.std.proofs.lemmas.List.{append-nil, drop_all, drop_at, drop-drop, length-append, length-drop, length-take, length-take-le, take_at, take-append-drop, take-take, take_more}
+use Rattle.std.proofs.lemmas.List.Elements.{All-cons, All-nil, All-tail, All-take}
+use Rattle.lists.proofs.Lists.{length-concat_push}
 use Rattle.day_file.specs.Frames.{PlacedBody, spelling, IsShort, IsWhole}
 use Rattle.day_file.specs.Cuts.{IsRun, IsCutBy, HasNoShorter, but_last}
 use Rattle.day_file.specs.Feeding.{IsFullRun}
 use Rattle.day_file.specs.Follow.{IsFirstRun}
 use Rattle.day_file.proofs.Joined.{IsWhole-further, IsWhole-nil, IsWhole-spelling, spelling-append}
-use Rattle.day_file.proofs.Readings.{AreShort, length-spelling, two_fronts}
+use Rattle.day_file.proofs.Readings.{AreShort, length-spelling}
 
 -- ---- all runs but the last
 
@@ -29,9 +29,8 @@ IsFull target run = target ≤ length run
 
 full_more : (target : ℕ) (run : List ℕ) (runs : List (List ℕ)) → (0 < length runs → target ≤ length run) → All (IsFull target) (but_last runs)
     → All (IsFull target) (but_last (run ∷ runs))
-full_more target run [] h a = subst (All (IsFull target)) (sym (but_last_push [] run)) (All-nil _)
-full_more target run (next ∷ runs) h a =
-    subst (All (IsFull target)) (sym (but_last_more run (next ∷ runs) (omega arith))) (All-cons (IsFull target) run _ (h (omega arith)) a)
+full_more target run [] h a = All-nil _
+full_more target run (next ∷ runs) h a = rw (but_last_more run (next ∷ runs) (omega arith)) (All-cons (IsFull target) run _ (h (omega arith)) a)
 
 full_first : (target : ℕ) (run : List ℕ) (runs : List (List ℕ)) → All (IsFull target) (but_last (run ∷ runs))
     → (0 < length runs → target ≤ length run) × All (IsFull target) (but_last runs)
@@ -102,77 +101,60 @@ not_shorter target m n bytes p q less =
     omega (arith, below, p.full (omega (arith, less, q.within)))
 
 pub first_runs_are_one : (target m n : ℕ) (bytes : List ℕ) → IsFirstRun target m bytes → IsFirstRun target n bytes → m ≡ n
-first_runs_are_one target m n bytes p q =
-    let one : ¬ (m < n) = not_shorter target m n bytes p q in
-    let other : ¬ (n < m) = not_shorter target n m bytes q p in
-    omega (arith, one, other)
+first_runs_are_one target m n bytes p q = omega (arith, not_shorter target m n bytes p q, not_shorter target n m bytes q p)
+
+-- the first run of bytes is the first of each cut of them
+pub peeled : (target n : ℕ) (runs : List (List ℕ)) (bytes : List ℕ) → IsFirstRun target n bytes → IsCutBy target runs bytes
+    → (rest : List (List ℕ)) × (runs ≡ take n bytes ∷ rest) × IsCutBy target rest (drop n bytes)
+peeled target n [] bytes f c = absurd (omega (arith, f.run.some, length-take n bytes, ap length c.cut.joined))
+peeled target n (run ∷ runs) bytes f c =
+    let first = cut_first target run runs bytes c in
+    let e = first_runs_are_one target (length run) n bytes first.0 f in
+    let front : take n bytes ≡ run = rw c.cut.joined (take_at run (concat runs) n e) in
+    let back : drop n bytes ≡ concat runs = rw c.cut.joined (drop_at run (concat runs) n e) in
+    (runs, ap (λ x. x ∷ runs) (sym front), rw back first.1)
+
+pub cut_of_none : (target : ℕ) (runs : List (List ℕ)) (bytes : List ℕ) → length bytes ≤ 0 → IsCutBy target runs bytes → runs ≡ []
+cut_of_none target [] bytes none c = refl
+cut_of_none target (run ∷ runs) bytes none c = absurd (omega (arith, some_bytes (run ∷ runs) c.cut.each (omega arith), ap length c.cut.joined))
 
 pub cuts_are_one : (target : ℕ) (some others : List (List ℕ)) (bytes : List ℕ) → IsCutBy target some bytes → IsCutBy target others bytes → some ≡ others
-cuts_are_one target [] [] bytes p q = refl
-cuts_are_one target [] (y ∷ ys) bytes p q = absurd (omega (arith, some_bytes (y ∷ ys) q.cut.each (omega arith), ap length (sym q.cut.joined ∙ p.cut.joined)))
-cuts_are_one target (x ∷ xs) [] bytes p q = absurd (omega (arith, some_bytes (x ∷ xs) p.cut.each (omega arith), ap length (sym p.cut.joined ∙ q.cut.joined)))
-cuts_are_one target (x ∷ xs) (y ∷ ys) bytes p q =
-    let f = cut_first target x xs bytes p in
-    let g = cut_first target y ys bytes q in
-    let n = first_runs_are_one target (length x) (length y) bytes f.0 g.0 in
-    let same = two_fronts x y (concat xs) (concat ys) n (sym p.cut.joined ∙ q.cut.joined) in
-    ap₂ ◌∷◌ same.0 (cuts_are_one target xs ys (concat xs) f.1 (rw same.1 g.1))
-
--- full runs with something behind them are fewer than the runs of the cut
-fewer : (target : ℕ) (full runs : List (List ℕ)) (bytes more : List ℕ) → All (IsFullRun target) full → bytes ≡ concat full ++ more → 0 < length more
-    → IsCutBy target runs bytes → length full < length runs
-fewer target full [] bytes more h e some c = absurd (omega (arith, ap length (sym e ∙ c.cut.joined), length-append (concat full) more, some))
-fewer target [] (y ∷ runs) bytes more h e some c = omega arith
-fewer target (x ∷ full) (y ∷ runs) bytes more h e some c =
-    let first : IsFullRun target x = h 0 x (omega arith) in
-    let e = e ∙ append_assoc x (concat full) more in
-    let g = cut_first target y runs bytes c in
-    let n = first_runs_are_one target (length x) (length y) bytes (first_is target x _ bytes e first.run first.shortest (λ _. first.full)) g.0 in
-    let same = two_fronts x y (concat full ++ more) (concat runs) n (sym e ∙ c.cut.joined) in
-    let later = fewer target full runs (concat runs) more (All-tail (IsFullRun target) x full h) (sym same.1) some g.1 in
-    omega (arith, later)
+cuts_are_one target [] others bytes p q = sym (cut_of_none target others bytes (omega (arith, ap length p.cut.joined)) q)
+cuts_are_one target (x ∷ xs) others bytes p q =
+    let first = cut_first target x xs bytes p in
+    let other = peeled target (length x) others bytes first.0 q in
+    let front : take (length x) bytes ≡ x = rw p.cut.joined (take-append_seam x (concat xs)) in
+    let back : drop (length x) bytes ≡ concat xs = rw p.cut.joined (drop-append_seam x (concat xs)) in
+    rw (other.1, front) (ap (λ l. x ∷ l) (cuts_are_one target xs other.0 (concat xs) first.1 (rw back at other.2)))
 
 -- ---- a cut as the loops make it
 
--- these are the runs of the bytes before this place
+-- the bytes before this place are whole frames, and these are their runs: with those of any cut behind them they are a cut
 pub record Begun (target start : ℕ) (front : List (List ℕ)) (bytes : List ℕ) : Type 0 where
   pub within : start ≤ length bytes
   pub whole : IsWhole (take start bytes)
-  pub cut : IsCutBy target front (take start bytes)
-  pub full : start < length bytes → All (IsFull target) front
+  pub made : length (concat front) ≡ start
+  pub cut : (rest : List (List ℕ)) → IsCutBy target rest (drop start bytes) → IsCutBy target (front ++ rest) bytes
 
 pub Begun-none : (target : ℕ) (bytes : List ℕ) → Begun target 0 [] bytes
-Begun-none target bytes = record { within = omega arith; whole = IsWhole-nil; cut = cut_none target; full = λ _. All-nil _ }
+Begun-none target bytes = record { within = omega arith; whole = IsWhole-nil; made = refl; cut = λ rest c. c }
 
-pub Begun-more : {target start n : ℕ} {front : List (List ℕ)} {bytes : List ℕ} (run : List ℕ) → Begun target start front bytes → start < length bytes
-    → IsFirstRun target n (drop start bytes) → run ≡ take n (drop start bytes) → Begun target (start + n) (front ++ run ∷ []) bytes
-Begun-more {target} {start} {n} {front} {bytes} run b h f r = record {
-  within = omega (arith, f.within, length-drop start bytes, b.within);
-  whole = IsWhole-further start n bytes b.whole f.run.whole;
-  cut = record {
-    cut = record {
-      each = All-push IsRun front run b.cut.cut.each (rw r f.run);
-      joined = take-add start n bytes ∙ (λ i. b.cut.cut.joined i ++ sym r i) ∙ sym (concat_push front run);
-    };
-    shortest = All-push (HasNoShorter target) front run b.cut.shortest (rw r f.shortest);
-    full = subst (All (IsFull target)) (sym (but_last_push front run)) (b.full h);
-  };
-  full = λ more. All-push (IsFull target) front run (b.full h)
-      (omega (arith, ap length r, length-take-le n (drop start bytes) f.within, f.full (omega (arith, more, length-drop start bytes))));
-}
+pub Begun-more : {target start n : ℕ} {front : List (List ℕ)} {bytes : List ℕ} → Begun target start front bytes → IsFirstRun target n (drop start bytes)
+    → Begun target (start + n) (front ++ take n (drop start bytes) ∷ []) bytes
+Begun-more {target} {start} {n} {front} {bytes} b f =
+    let tail = drop start bytes in
+    let run = take n tail in
+    let full : 0 < length (drop n tail) → target ≤ length run = λ h. omega (arith, f.full (omega (arith, h, length-drop n tail)), length-take-le n tail f.within) in
+    record {
+      within = omega (arith, f.within, length-drop start bytes, b.within);
+      whole = IsWhole-further start n bytes b.whole f.run.whole;
+      made = omega (arith, length-concat_push front run, length-take-le n tail f.within, b.made);
+      cut = λ rest c. (let more = cut_more target run (drop n tail) rest f.run f.shortest full (rw drop-drop c) in
+          rw append_assoc (b.cut (run ∷ rest) (rw take-append-drop at more)));
+    }
 
-pub Begun-all : {target start : ℕ} {front : List (List ℕ)} {bytes : List ℕ} → Begun target start front bytes → length bytes ≤ start
-    → IsCutBy target front bytes
-Begun-all {target} {start} {front} {bytes} b h = subst (IsCutBy target front) (take_all start bytes h) b.cut
-
--- where there is a cut of few runs, one more may be made
-pub room_for_one : {target start : ℕ} {made runs : List (List ℕ)} {bytes : List ℕ} → Begun target start made bytes → start < length bytes
-    → IsCutBy target runs bytes → length made < length runs
-room_for_one {target} {start} {made} {runs} {bytes} b h c =
-    let full : All (IsFullRun target) made =
-    λ k d l. record { run = b.cut.cut.each k d l; shortest = b.cut.shortest k d l; full = b.full h k d l } in
-    fewer target made runs bytes (drop start bytes) full (sym (take-append-drop start bytes) ∙ ap (λ l. l ++ drop start bytes) b.cut.cut.joined)
-    (omega (arith, h, length-drop start bytes)) c
+pub Begun-all : {target start : ℕ} {front : List (List ℕ)} {bytes : List ℕ} → Begun target start front bytes → length bytes ≤ start → IsCutBy target front bytes
+Begun-all {target} {start} {front} {bytes} b h = rw append-nil at (b.cut [] (rw (drop_all start bytes h) (cut_none target)))
 
 -- ---- how long a run is
 

@@ -110,31 +110,30 @@ module _ (v : CutterView) (fed : List ℕ) (h : HasFed v fed) where
 
 -- ---- a run is taken off the head of the rest
 
--- the rest bytes, of which the first run is taken
-taken_off : (front : List (List ℕ)) (end : ℕ) (rest fed : List ℕ) → fed ≡ concat front ++ rest
-    → fed ≡ concat (front ++ take end rest ∷ []) ++ drop end rest
-taken_off front end rest fed e = rw (concat_push, append_assoc, take-append-drop) e
-
 module _ (v : CutterView) (end : ℕ) (f : IsFirstRun v.target end v.rest) (h : v.target ≤ end) where
   long : length (take end v.rest) ≡ end
   long = length-take-le end v.rest f.within
 
-  full_run : IsFullRun v.target (take end v.rest)
-  full_run = record { run = f.run; shortest = f.shortest; full = omega (arith, h, long) }
+  -- the full runs with one more, of which some are kept
+  with_run : (fed : List ℕ) (has : HasFed v fed) (kept beyond : List (List ℕ)) (past : ℕ) → (v.cut ++ has.beyond) ++ take end v.rest ∷ [] ≡ kept ++ beyond
+      → length (concat beyond) ≡ past → (0 < past → MOST_MORSELS ≤ length kept)
+      → HasFed (record { target = v.target; cut = kept; past = past; rest = drop end v.rest }) fed
+  with_run fed has kept beyond past all past_is most = record {
+    beyond = beyond;
+    full = subst (All (IsFullRun v.target)) all (All-push (IsFullRun v.target) (v.cut ++ has.beyond) (take end v.rest) has.full
+        (record { run = f.run; shortest = f.shortest; full = omega (arith, h, long) }));
+    past = past_is;
+    most = most;
+    joined = rw (← all, concat_push, append_assoc, take-append-drop) has.joined;
+  }
 
   -- one more run is kept
   pub Taken-kept : length v.cut < MOST_MORSELS → IsTaken end v (record v { cut = v.cut ++ take end v.rest ∷ []; rest = drop end v.rest })
   Taken-kept few = record {
     fed = λ fed has.
         let some : ¬ (0 < v.past) = λ p. omega (arith, has.most p, few) in
-        let kept = kept_alone v fed has (omega (arith, some)) in
-        record {
-          beyond = [];
-          full = rw append-nil (All-push (IsFullRun v.target) v.cut (take end v.rest) kept.0 full_run);
-          past = omega (arith, some);
-          most = λ p. absurd (some p);
-          joined = rw append-nil (taken_off v.cut end v.rest fed kept.1);
-        };
+        with_run fed has (v.cut ++ take end v.rest ∷ []) [] v.past (rw (all_kept v fed has (omega (arith, some)), append-nil) refl) (omega (arith, some))
+        (λ p. absurd (some p));
     bytes = omega (arith, length-concat_push v.cut (take end v.rest), long);
     target = refl;
     rest = refl;
@@ -144,15 +143,8 @@ module _ (v : CutterView) (end : ℕ) (f : IsFirstRun v.target end v.rest) (h : 
   pub Taken-past : MOST_MORSELS ≤ length v.cut → IsTaken end v (record v { past = v.past + end; rest = drop end v.rest })
   Taken-past most = record {
     fed = λ fed has.
-        let run = take end v.rest in
-        let all : (v.cut ++ has.beyond) ++ run ∷ [] ≡ v.cut ++ (has.beyond ++ run ∷ []) = append_assoc v.cut has.beyond (run ∷ []) in
-        record {
-          beyond = has.beyond ++ run ∷ [];
-          full = subst (All (IsFullRun v.target)) all (All-push (IsFullRun v.target) (v.cut ++ has.beyond) run has.full full_run);
-          past = omega (arith, length-concat_push has.beyond run, has.past, long);
-          most = λ _. most;
-          joined = subst (λ l. fed ≡ concat l ++ drop end v.rest) all (taken_off (v.cut ++ has.beyond) end v.rest fed has.joined);
-        };
+        with_run fed has v.cut (has.beyond ++ take end v.rest ∷ []) (v.past + end) (append_assoc v.cut has.beyond (take end v.rest ∷ []))
+        (omega (arith, length-concat_push has.beyond (take end v.rest), has.past, long)) (λ _. most);
     bytes = omega arith;
     target = refl;
     rest = refl;
@@ -160,44 +152,29 @@ module _ (v : CutterView) (end : ℕ) (f : IsFirstRun v.target end v.rest) (h : 
 
 -- so the cutter goes on
 pub Taken-cutting : (whole end : ℕ) (old new : CutterView) → IsCutting old whole → IsTaken end old new → end ≤ length old.rest → IsCutting new 0
-Taken-cutting whole end old new c t h =
-    let target : 0 < new.target = omega (arith, t.target, c.target) in
-    record {
-      fed = c.fed;
-      has = t.fed c.fed c.has;
-      target = target;
-      below = target;
-      within = omega arith;
-      front = IsWhole-nil;
-      bound = omega (arith, t.bytes, c.bound, ap length t.rest, length-drop end old.rest, h);
-    }
+Taken-cutting whole end old new c t h = record {
+  fed = c.fed;
+  has = t.fed c.fed c.has;
+  below = omega (arith, t.target, c.below);
+  within = omega arith;
+  front = IsWhole-nil;
+  bound = omega (arith, t.bytes, c.bound, ap length t.rest, length-drop end old.rest, h);
+}
 
 -- ---- the full runs are taken out
 
-pub HasFed-rest : (v : CutterView) → v.past ≡ 0 → HasFed (record v { cut = [] }) v.rest
-HasFed-rest v none = record { beyond = []; full = All-nil _; past = sym none; most = λ h. absurd (omega (arith, h, none)); joined = refl }
+pub HasFed-rest : (target past : ℕ) (rest : List ℕ) → past ≡ 0 → HasFed (record { target = target; cut = []; past = past; rest = rest }) rest
+HasFed-rest target past rest none = record { beyond = []; full = All-nil _; past = sym none; most = λ h. absurd (omega (arith, h, none)); joined = refl }
 
 pub Cutting-rest : (v : CutterView) (whole : ℕ) → IsCutting v whole → v.past ≡ 0 → IsCutting (record v { cut = [] }) whole
-Cutting-rest v whole c none = record {
-  fed = v.rest;
-  has = HasFed-rest v none;
-  target = c.target;
-  below = c.below;
-  within = c.within;
-  front = c.front;
-  bound = omega (arith, c.bound);
-}
+Cutting-rest v whole c none =
+    record { fed = v.rest; has = HasFed-rest v.target v.past v.rest none; below = c.below; within = c.within; front = c.front; bound = omega (arith, c.bound) }
 
 -- ---- a piece is fed
 
 pub HasFed-more : (v : CutterView) (fed piece : List ℕ) → HasFed v fed → HasFed (record v { rest = v.rest ++ piece }) (fed ++ piece)
-HasFed-more v fed piece h = record {
-  beyond = h.beyond;
-  full = h.full;
-  past = h.past;
-  most = h.most;
-  joined = ap (λ l. l ++ piece) h.joined ∙ append_assoc (concat (v.cut ++ h.beyond)) v.rest piece;
-}
+HasFed-more v fed piece h =
+    record { beyond = h.beyond; full = h.full; past = h.past; most = h.most; joined = rw h.joined (append_assoc (concat (v.cut ++ h.beyond)) v.rest piece) }
 
 -- a piece was appended, or refused
 pub Cutting-grown : (b : Bool) (whole : ℕ) (v : CutterView) (piece grown : List ℕ) → IsCutting v whole → grown ≡ (if b then v.rest ++ piece else v.rest)
@@ -206,7 +183,6 @@ Cutting-grown false whole v piece grown c e h = rw e c
 Cutting-grown true whole v piece grown c e h = rw e (record {
   fed = c.fed ++ piece;
   has = HasFed-more v c.fed piece c.has;
-  target = c.target;
   below = c.below;
   within = omega (arith, c.within, length-append v.rest piece);
   front = rw (take-append-le whole v.rest piece c.within) c.front;

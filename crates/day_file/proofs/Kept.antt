@@ -1,9 +1,8 @@
 -- What a `Cut` keeps of its morsels, as it grows.
-use Rattle.std.proofs.Common.{◌≡◌, ℕ, zero, suc, ◌+◌, ◌<◌, ◌≤◌, List, [], ◌∷◌, ◌++◌, length, take, map, get_or, slice_get, Some, refl, sym, ap}
+use Rattle.std.proofs.Common.{◌≡◌, ℕ, zero, suc, ◌+◌, ◌<◌, ◌≤◌, List, [], ◌∷◌, ◌++◌, length, take, map, get_or, slice_get, Some, refl, sym, ap, ap₂}
 use Rattle.std.proofs.Common.{◌∙◌, arith, Fits, w8}
-use Rattle.std.proofs.lemmas.List.{get_or_default}
+use Rattle.std.proofs.lemmas.List.{get_or_default, length-append, length-map, map-append}
 use Rattle.std.specs.List.{concat}
-use Rattle.std.proofs.lemmas.List.{length-append, length-map, map-append}
 use Rattle.lists.proofs.Lists.{length-concat_push}
 use Rattle.std.proofs.lemmas.Option.{slice_get_read}
 use Rattle.std.proofs.Math.ListN.{get_or-map}
@@ -12,19 +11,22 @@ use Rattle.lists.specs.declared.limits.TheConstants.{LONGEST_FILE, MOST_MORSELS}
 use Rattle.day_file.specs.Cuts.{AreBytes, IsRun, MorselView, start_of}
 use Rattle.day_file.specs.Kept.{runs_of, numbered, AreMorsels}
 
+pub numbered-append : (number start : ℕ) (runs more : List (List ℕ))
+    → numbered number start (runs ++ more) ≡ numbered number start runs ++ numbered (number + length runs) (start + length (concat runs)) more
+numbered-append number start [] more =
+    let n : number ≡ number + length {A = List ℕ} [] = omega arith in
+    let s : start ≡ start + length (concat []) = omega arith in
+    ap₂ (λ number start. numbered number start more) n s
+numbered-append number start (run ∷ runs) more =
+    let n : (number + 1) + length runs ≡ number + length (run ∷ runs) = omega arith in
+    let s : (start + length run) + length (concat runs) ≡ start + length (concat (run ∷ runs)) = omega (arith, length-append run (concat runs)) in
+    ap (λ l. record { number = number; start = start; bytes = run } ∷ l)
+    (numbered-append (number + 1) (start + length run) runs more ∙ ap₂ (λ n s. numbered (number + 1) (start + length run) runs ++ numbered n s more) n s)
+
 pub numbered-last : (number start : ℕ) (runs : List (List ℕ)) (run : List ℕ) →
     numbered number start (runs ++ run ∷ []) ≡ numbered number start runs ++ record
     { number = number + length runs; start = start + length (concat runs); bytes = run } ∷ []
-numbered-last number start [] run =
-    let a : number ≡ number + length {A = List ℕ} [] = omega arith in
-    let b : start ≡ start + length (concat []) = omega arith in
-    λ i. record { number = a i; start = b i; bytes = run } ∷ []
-numbered-last number start (first ∷ runs) run =
-    let a : (number + 1) + length runs ≡ number + length (first ∷ runs) = omega arith in
-    let b : (start + length first) + length (concat runs) ≡ start + length (concat (first ∷ runs)) = omega (arith, length-append first (concat runs)) in
-    ap (λ l. record { number = number; start = start; bytes = first } ∷ l)
-    (numbered-last (number + 1) (start + length first) runs run
-    ∙ (λ i. numbered (number + 1) (start + length first) runs ++ record { number = a i; start = b i; bytes = run } ∷ []))
+numbered-last number start runs run = numbered-append number start runs (run ∷ [])
 
 -- one morsel more
 pub AreMorsels-more : (morsels : List MorselView) (number total size : ℕ) (run : List ℕ) → AreMorsels morsels total → number ≡ length morsels
@@ -47,24 +49,17 @@ AreMorsels-more morsels number total size run m n s r are few h =
     }
 
 -- the morsel of a number
-pub record IsMorselOf (runs : List (List ℕ)) (number first start : ℕ) (m : MorselView) : Type 0 where
-  pub number_is : m.number ≡ first + number
-  pub start_is : m.start ≡ start + start_of runs number
-  pub bytes_is : slice_get runs number ≡ Some m.bytes
+abbrev pub IsMorselOf : List (List ℕ) → ℕ → ℕ → ℕ → MorselView → Type 0
+IsMorselOf runs number first start m = (m.number ≡ first + number) × (m.start ≡ start + start_of runs number) × (slice_get runs number ≡ Some m.bytes)
 
 pub numbered_at : (runs : List (List ℕ)) (k first start : ℕ) (m : MorselView) → slice_get (numbered first start runs) k ≡ Some m
     → IsMorselOf runs k first start m
 numbered_at [] k first start m e = absurd (cc)
 numbered_at (run ∷ runs) zero first start m e =
-    let same : record { number = first; start = start; bytes = run } ≡ m = cc in
-    rw (← same) (record { number_is = omega arith; start_is = omega arith; bytes_is = refl })
+    let same : record { number = first; start = start; bytes = run } ≡ m = cc in rw (← same) (omega arith, omega arith, refl)
 numbered_at (run ∷ runs) (suc k) first start m e =
     let later = numbered_at runs k (first + 1) (start + length run) m e in
-    record {
-      number_is = omega (arith, later.number_is);
-      start_is = omega (arith, later.start_is, length-append run (concat (take k runs)));
-      bytes_is = later.bytes_is;
-    }
+    (omega (arith, later.0), omega (arith, later.1, length-append run (concat (take k runs))), later.2)
 
 -- the morsel that is read at a number
 pub morsel_at : {X : Type 0} (value : X → MorselView) (items : List X) (x : X) (k total : ℕ) → AreMorsels (map value items) total

@@ -60,3 +60,5 @@ pub truncated_once : (bytes : List ℕ) (one other : ℕ) → IsTruncatedAt byte
 truncated_once bytes one other p q =
     let e = (same_reading p.front.0 q.front.0 (IsReading-truncated p p.front.1) (IsReading-truncated q q.front.1)).1 in
     omega (arith, ap length e, length-drop one bytes, length-drop other bytes, p.within, q.within)
+
+pub ruleset laws_of_frames = (frames_are_one, places_rise, frames_within)

@@ -1,6 +1,5 @@
 -- A file has one list of frames: what whole frames and a stuck rest say of the bytes that they make.
-use Rattle.std.proofs.Common.{◌≡◌, ℕ, ◌+◌, List, [], ◌∷◌, ◌++◌, length, take, drop, All, refl, sym, ap, ap₂, ◌∙◌, subst}
-use Rattle.std.proofs.Common.{append_assoc, append-nil, arith}
+use Rattle.std.proofs.Common.{◌≡◌, ℕ, ◌+◌, List, [], ◌∷◌, ◌++◌, length, take, drop, All, refl, sym, ap, ap₂, ◌∙◌, subst, append_assoc, append-nil, arith}
 use Rattle.std.proofs.Math.Seq.{take-append_seam, drop-append_seam}
 use Rattle.std.proofs.lemmas.List.{drop_at, length-append, take-append-drop, take_at}
 use Rattle.std.proofs.lemmas.List.Elements.{All-cons, All-tail}
@@ -72,8 +71,7 @@ reading_more {next} {after} {frames} {rest} place bytes body e h n r = record {
 }
 
 -- bytes have one reading
-pub same_reading : (xs ys : List PlacedBody) {place : ℕ} {bytes r s : List ℕ} → IsReading place bytes xs r → IsReading place bytes ys s
-    → (xs ≡ ys) × (r ≡ s)
+pub same_reading : (xs ys : List PlacedBody) {place : ℕ} {bytes r s : List ℕ} → IsReading place bytes xs r → IsReading place bytes ys s → (xs ≡ ys) × (r ≡ s)
 same_reading [] [] p q = (refl, sym p.split ∙ q.split)
 same_reading [] (y ∷ ys) p q = absurd (p.stuck y.body _ (head_short y ys q.short) (sym p.split ∙ reading_head q))
 same_reading (x ∷ xs) [] p q = absurd (q.stuck x.body _ (head_short x xs p.short) (sym q.split ∙ reading_head p))
@@ -88,15 +86,13 @@ IsStuck-nil body rest h e = absurd (cc)
 
 -- ---- whole files and truncated ones
 
+reading_from : {start : ℕ} {front bytes rest : List ℕ} {frames : List PlacedBody} → StandsFrom start frames front → bytes ≡ front ++ rest → IsStuck rest
+    → IsReading start bytes frames rest
+reading_from s e stuck = record { places = s.places; short = s.short; split = rw (← s.whole) e; stuck = stuck }
+
 pub IsReading-whole : {start : ℕ} {bytes : List ℕ} {frames : List PlacedBody} → StandsFrom start frames bytes → IsReading start bytes frames []
-IsReading-whole {start} {bytes} {frames} s =
-    record { places = s.places; short = s.short; split = s.whole ∙ sym (append-nil (spelling frames)); stuck = IsStuck-nil }
+IsReading-whole {start} {bytes} s = reading_from s (sym (append-nil bytes)) IsStuck-nil
 
 pub IsReading-truncated : {start : ℕ} {bytes : List ℕ} {count : ℕ} {frames : List PlacedBody} → IsTruncatedAt bytes count
     → StandsFrom start frames (take count bytes) → IsReading start bytes frames (drop count bytes)
-IsReading-truncated {start} {bytes} {count} t s = record {
-  places = s.places;
-  short = s.short;
-  split = sym (take-append-drop count bytes) ∙ ap (λ l. l ++ drop count bytes) s.whole;
-  stuck = t.stuck;
-}
+IsReading-truncated {start} {bytes} {count} t s = reading_from s (sym (take-append-drop count bytes)) t.stuck

@@ -1,9 +1,8 @@
 -- The cursor's walk reads the bytes, and knows how they end.
-use Rattle.std.proofs.Common.{◌≡◌, ℕ, zero, suc, ◌+◌, ◌*◌, ◌/◌, ◌%◌, ◌<◌, ◌≤◌, ◌^◌, ◌==◌, true, false, List, [], ◌∷◌, ◌++◌, length, take, drop}
-use Rattle.std.proofs.Common.{Option, Some, None, MatchOption, refl, sym, ap, ◌∙◌, subst, arith, append-nil, length-drop, nat_le}
+use Rattle.std.proofs.Common.{◌≡◌, ℕ, zero, suc, ◌+◌, ◌*◌, ◌/◌, ◌%◌, ◌<◌, ◌≤◌, ◌^◌, List, [], ◌∷◌, ◌++◌, length, take, drop}
+use Rattle.std.proofs.Common.{Option, Some, None, MatchOption, refl, sym, ap, ◌∙◌, subst, arith, append-nil, length-drop}
 use Rattle.std.specs.Option.{option_map_or}
-use Rattle.std.proofs.lemmas.Bool.{and_from, and_parts, cond-true, eqb-true, leb-true, le-leb}
-use Rattle.std.proofs.lemmas.Option.{cond_some}
+use Rattle.std.proofs.lemmas.Bool.Decides.{nat_tests}
 use Rattle.std.proofs.lemmas.List.{length-append, take-append-drop, length-take-le}
 use Rattle.std.proofs.Math.Seq.{drop-append_seam, take-append_seam}
 use Rattle.std.proofs.lemmas.List.Elements.{All-drop, All-nil}
@@ -12,9 +11,8 @@ use Rattle.day_file.specs.Frames.{FramesLeft, PlacedBody, frame_of, spelling, St
 use Rattle.day_file.specs.Cuts.{AreBytes}
 use Rattle.day_file.specs.Walk.{first_length, left_of, place_if_any, truncated_after, walk}
 use Rattle.day_file.proofs.Joined.{IsWhole-spelling, stands_from}
-use Rattle.day_file.proofs.Readings.{AreShort, IsReading, IsReading-truncated, IsStuck-nil, head_short, length_told, reading_more}
+use Rattle.day_file.proofs.Readings.{AreShort, IsReading, IsReading-truncated, IsStuck-nil, head_short, length_told, reading_more, same_reading}
 use Rattle.day_file.proofs.Laws.{not_both}
-use Rattle.day_file.proofs.Readings.{same_reading}
 
 -- ---- the first frame
 
@@ -25,19 +23,14 @@ pub record HasFirst (bytes : List ℕ) (size : ℕ) : Type 0 where
   pub body : size ≤ length (drop 2 bytes)
 
 first_length-some : (bytes : List ℕ) (size : ℕ) → first_length bytes ≡ Some size → HasFirst bytes size
-first_length-some bytes size e =
-    let p = cond_some _ (big_number 2 (take 2 bytes)) size e in
-    let q = and_parts (nat_le 2 (length bytes)) _ p.0 in
-    record { told = p.1; prefix = leb-true _ _ q.0; body = omega (arith, leb-true _ _ q.1, p.1) }
+first_length-some bytes size e = grind (arith, nat_tests)
 
 -- a frame tells the length of its body
 first_length-frame : (body rest : List ℕ) → IsShort body → first_length (frame_of body ++ rest) ≡ Some (length body)
 first_length-frame body rest h =
-    let bytes = frame_of body ++ rest in
     let told = length_told body rest h in
-    let size = big_number 2 (take 2 bytes) in
-    cond-true _ (Some size) None (and_from _ _ (le-leb 2 (length bytes) (omega arith))
-    (le-leb size (length (body ++ rest)) (omega (arith, told, length-append body rest)))) ∙ ap Some told
+    let n = length-append body rest in
+    grind (arith, nat_tests)
 
 two_bytes : (high low n : ℕ) → high < 256 → low < 256 → high * 256 + (low * 1 + 0) ≡ n → (high ≡ n / 256 % 256) × (low ≡ n % 256) × (n < 2 ^ 16)
 two_bytes high low n p q e = (omega arith, omega arith, omega arith)
@@ -103,8 +96,7 @@ walk_each (suc most) start (x ∷ xs) n h p =
     let rest : drop size (x.body ++ more) ≡ more = drop-append_seam x.body more in
     let later : StandAt (start + (2 + size)) xs = subst (λ n. StandAt n xs) (omega arith) p.1 in
     ap (λ o. option_map_or (λ k. record { place = start; body = take k (x.body ++ more) } ∷ walk most (start + (2 + k)) (drop k (x.body ++ more))) o [])
-    (first_length-frame x.body more (head_short x xs h))
-    ∙ (λ i. record { place = sym p.0 i; body = body i } ∷ walk most (start + (2 + size)) (rest i))
+    (first_length-frame x.body more (head_short x xs h)) ∙ (λ i. record { place = sym p.0 i; body = body i } ∷ walk most (start + (2 + size)) (rest i))
     ∙ ap (λ l. x ∷ l) (walk_each most (start + (2 + size)) xs (omega (arith, n, length-append x.body more)) (λ k d l. h (suc k) d (omega (arith, l))) later)
 
 -- the walk over whole frames comes to each of them
@@ -167,13 +159,8 @@ walk_next place size bytes prefix after body rest b two p a told fits bodies res
     ∙ ap (λ (l : FramesLeft). record l { frames = record { place = place; body = body } ∷ l.frames }) (sym (left_of-reading next rest _ later.0 are later.1))
 
 -- where no frame is left, the bytes end here, or are truncated here
-pub ended_walk : (place : ℕ) (rest : List ℕ) → walk (length rest) place rest ≡ []
-    → ((length rest == 0) ≡ true → (left_of place rest).truncated ≡ None) × ((length rest == 0) ≡ false → (left_of place rest).truncated ≡ Some place)
-ended_walk place [] none = (λ _. refl, λ e. absurd (cc))
-ended_walk place (byte ∷ rest) none = (
-  λ e. absurd (omega (arith, eqb-true (length (byte ∷ rest)) 0 e)),
-  λ _. ap (λ frames. truncated_after frames place (byte ∷ rest)) none ∙ ap Some (omega arith),
-)
+pub ended_walk : (place : ℕ) (rest : List ℕ) → walk (length rest) place rest ≡ [] → (left_of place rest).truncated ≡ place_if_any place rest
+ended_walk place rest none = ap (λ frames. truncated_after frames place rest) none ∙ ap (λ n. place_if_any n rest) (omega arith)
 
 -- bytes that are whole frames have no place where they are truncated
 pub whole_has_no_end : (bytes : List ℕ) (start : ℕ) (o : Option ℕ) → IsWhole bytes

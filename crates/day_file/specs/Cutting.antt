@@ -10,7 +10,6 @@ use Rattle.day_file.specs.Feeding.{CutterView, HasFed}
 pub record IsCutting (cutter : CutterView) (whole : ℕ) : Type 0 where
   pub fed : List ℕ
   pub has : HasFed cutter fed
-  pub target : 0 < cutter.target
   pub below : whole < cutter.target
   pub within : whole ≤ length cutter.rest
   pub front : IsWhole (take whole cutter.rest)

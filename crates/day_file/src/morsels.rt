@@ -102,6 +102,7 @@ impl Cut {
 }
 
 /// Each number of a slice of bytes is a byte. It does nothing when it runs.
+#[tactic(auto, using(crate::proofs::Kept::bytes_of_type))]
 fn tell_bytes(bytes: &[u8])
     ensures { AreBytes bytes.now }
 {}

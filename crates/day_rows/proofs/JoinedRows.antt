@@ -1,13 +1,9 @@
 -- The rows of joined message lists are the joined rows.
-use Rattle.std.proofs.Common.{◌≡◌, List, [], ◌∷◌, ◌++◌, Option, filter_map, flat_map, map, refl, sym, ap, ◌∙◌}
+use Rattle.std.proofs.Common.{◌≡◌, List, ◌++◌, Option, filter_map, flat_map, map, refl, sym, ◌∙◌}
 use Rattle.std.proofs.lemmas.List.{append-nil}
 use Rattle.std.proofs.lemmas.List.Elements.{filter_map-append}
 use Rattle.std.proofs.lemmas.List.Folds.{flat_map-map}
 use Rattle.lists.proofs.Lists.{filter_map-flat_map}
-use Rattle.row_types.specs.declared.order.OrderRow.{OrderRow}
-use Rattle.row_types.specs.declared.trade.Execution.{Execution}
-use Rattle.row_types.specs.declared.trade.Sale.{Sale}
-use Rattle.row_types.specs.declared.directory.DirectoryRow.{DirectoryRow}
 use Rattle.day_rows.specs.Messages.{Placed, order_row_at, execution_at, own_priced_at, break_of, directory_row_at}
 use Rattle.day_rows.specs.DayRows.{DayRows, all_rows, joined, no_rows, rows_of}
 
@@ -24,19 +20,13 @@ joined_none rows =
 
 pub rows_of-append : (one other : List Placed) → rows_of (one ++ other) ≡ joined (rows_of one) (rows_of other)
 rows_of-append one other =
-    same_rows
-    (filter_map-append (λ (m : Placed). order_row_at m.place m.message) one other)
-    (filter_map-append (λ (m : Placed). execution_at m.place m.message) one other)
-    (filter_map-append (λ (m : Placed). own_priced_at m.place m.message) one other)
-    (filter_map-append (λ (m : Placed). break_of m.message) one other)
-    (filter_map-append (λ (m : Placed). directory_row_at m.place m.message) one other)
+    same_rows (filter_map-append _ one other) (filter_map-append _ one other) (filter_map-append _ one other) (filter_map-append _ one other)
+    (filter_map-append _ one other)
 
 of_parts : {Y : Type 0} (give : Placed → Option Y) (list : DayRows → List Y) → ((part : List Placed) → list (rows_of part) ≡ filter_map give part)
     → (parts : List (List Placed)) → filter_map give (flat_map (λ part. part) parts) ≡ flat_map list (map rows_of parts)
 of_parts give list is parts =
-    filter_map-flat_map give (λ (part : List Placed). part) parts
-    ∙ (λ i. flat_map (λ part. sym (is part) i) parts)
-    ∙ sym (flat_map-map list rows_of parts)
+    filter_map-flat_map give (λ (part : List Placed). part) parts ∙ (λ i. flat_map (λ part. sym (is part) i) parts) ∙ sym (flat_map-map list rows_of parts)
 
 pub rows_of-parts : (parts : List (List Placed)) → rows_of (flat_map (λ part. part) parts) ≡ all_rows (map rows_of parts)
 rows_of-parts parts =
@@ -46,3 +36,5 @@ rows_of-parts parts =
     (of_parts (λ (m : Placed). own_priced_at m.place m.message) (λ rows. rows.own_priced) (λ part. refl) parts)
     (of_parts (λ (m : Placed). break_of m.message) (λ rows. rows.breaks) (λ part. refl) parts)
     (of_parts (λ (m : Placed). directory_row_at m.place m.message) (λ rows. rows.directory) (λ part. refl) parts)
+
+pub ruleset joined_laws = (rows_of-append, rows_of-parts)

@@ -1,6 +1,5 @@
 -- Each list of rows stands by place, since the messages do; so no place stands twice in it.
-use Rattle.std.proofs.Common.{◌≡◌, ℕ, Bool, List, [], ◌∷◌, ◌++◌, map, nat_eq, Less, arith, Some}
-use Rattle.std.proofs.Common.{false, sym, ap}
+use Rattle.std.proofs.Common.{◌≡◌, ℕ, Bool, List, [], ◌∷◌, ◌++◌, map, nat_eq, Less, arith, Some, false, ap}
 use Rattle.std.specs.List.{AllByRecursion, IsDistinct}
 use Rattle.std.proofs.lemmas.Bool.Decides.{nat_tests}
 use Rattle.std.proofs.lemmas.Map.Keys.{IsDistinct-IsPermutation}
@@ -9,7 +8,6 @@ use Rattle.std.specs.Ordering.{nat_cmp}
 use Rattle.std.proofs.lemmas.List.Kept.{IsStrictlySortedBy-filter}
 use Rattle.std.proofs.lemmas.List.Sorted.{IsPermutation-map}
 use Rattle.itch_messages.specs.declared.message.Message.{Message}
-use Rattle.itch_messages.specs.declared.message.Message.TheVariants.{Add, Executed, ExecutedAt, Replace, Trade, Cross, Broken, Directory, Skipped}
 use Rattle.row_types.specs.declared.order.OrderRow.{OrderRow}
 use Rattle.lists.proofs.Lists.{IsPermutation-filter}
 use Rattle.lists.proofs.Order.{sorted-filter_map}
@@ -20,9 +18,7 @@ use Rattle.probe.specs.Trades.{is_kept, kept}
 use Rattle.row_types.specs.SalesByPlace.{place_cmp}
 use Rattle.itch_messages.specs.Body.{message_of}
 use Rattle.day_file.specs.Frames.{PlacedBody}
-use Rattle.day_rows.specs.Messages.{Placed, placed_at, messages_of, order_row_at, execution_at, order_rows, executions}
-use Rattle.day_rows.specs.Messages.{own_priced_sales, break_numbers}
-use Rattle.day_rows.specs.Messages.{trades}
+use Rattle.day_rows.specs.Messages.{Placed, placed_at, messages_of, order_row_at, execution_at, order_rows, executions, own_priced_sales, break_numbers, trades}
 use Rattle.day_rows.specs.DayRows.{AreByPlace}
 use Rattle.day_rows.proofs.TradesOfRows.{trades_are_both, trades_by_place}
 
@@ -40,37 +36,13 @@ distinct_places {X} number (x ∷ xs) up = (apart xs up.0, distinct_places numbe
     apart (y ∷ ys) all = (not_equal (number x) (number y) all.0, apart ys all.1)
 
 order_keeps_place : (place : ℕ) (message : Message) (row : OrderRow) → order_row_at place message ≡ Some row → row.place ≡ place
-order_keeps_place place (Add add) row e = let same : record { place = place; order_no = add.order_no; price = add.price } ≡ row = cc in
-    sym (ap (λ (r : OrderRow). r.place) same)
-order_keeps_place place (Replace replace) row e = let same : record { place = place; order_no = replace.new_no; price = replace.price } ≡ row = cc in
-    sym (ap (λ (r : OrderRow). r.place) same)
-order_keeps_place place (Executed executed) row e = absurd (cc)
-order_keeps_place place (ExecutedAt executed) row e = absurd (cc)
-order_keeps_place place (Trade trade) row e = absurd (cc)
-order_keeps_place place (Cross cross) row e = absurd (cc)
-order_keeps_place place (Broken broken) row e = absurd (cc)
-order_keeps_place place (Directory directory) row e = absurd (cc)
-order_keeps_place place Skipped row e = absurd (cc)
+order_keeps_place place message row e = grind arith
 
 execution_keeps_place : (place : ℕ) (message : Message) (row : Execution) → execution_at place message ≡ Some row → row.place ≡ place
-execution_keeps_place place (Executed executed) row e =
-    let made : Execution = record {
-      place = place;
-      time = executed.header.time;
-      locate = executed.header.locate;
-      order_no = executed.order_no;
-      shares = executed.shares;
-      trade_no = executed.trade_no;
-    } in
-    let same : made ≡ row = cc in sym (ap (λ (r : Execution). r.place) same)
-execution_keeps_place place (Add add) row e = absurd (cc)
-execution_keeps_place place (Replace replace) row e = absurd (cc)
-execution_keeps_place place (ExecutedAt executed) row e = absurd (cc)
-execution_keeps_place place (Trade trade) row e = absurd (cc)
-execution_keeps_place place (Cross cross) row e = absurd (cc)
-execution_keeps_place place (Broken broken) row e = absurd (cc)
-execution_keeps_place place (Directory directory) row e = absurd (cc)
-execution_keeps_place place Skipped row e = absurd (cc)
+execution_keeps_place place message row e = grind arith
+
+pub placed_is : (place : ℕ) (message : Message) (m : Placed) → placed_at place message ≡ Some m → m ≡ record { place = place; message = message }
+placed_is place message m e = grind arith
 
 pub orders_distinct : (messages : List Placed) → AreByPlace messages → IsDistinct nat_eq (map (λ row. row.place) (order_rows messages))
 orders_distinct messages up = distinct_places (λ (row : OrderRow). row.place) (order_rows messages)
@@ -86,8 +58,7 @@ flips : (x y : ℕ) → nat_eq x y ≡ nat_eq y x
 flips x y = grind (arith, nat_tests)
 
 -- what is kept of the sales has no place twice, whatever breaks there are
-pub kept_apart : (breaks : List ℕ) (selection : Sale → Bool) (messages : List Placed) → AreByPlace messages
-    → IsDistinct nat_eq (map (λ sale. sale.place)
+pub kept_apart : (breaks : List ℕ) (selection : Sale → Bool) (messages : List Placed) → AreByPlace messages → IsDistinct nat_eq (map (λ sale. sale.place)
     (kept breaks selection (priced (order_rows messages) (executions messages) ++ own_priced_sales messages)))
 kept_apart breaks selection messages up =
     IsDistinct-IsPermutation nat_eq flips _ _
@@ -95,8 +66,7 @@ kept_apart breaks selection messages up =
     (distinct_places (λ (s : Sale). s.place) (kept breaks selection (trades messages))
     (IsStrictlySortedBy-filter place_cmp (is_kept breaks selection) (trades messages) (trades_by_place messages up)))
 
-pub kept_distinct : (selection : Sale → Bool) (messages : List Placed) → AreByPlace messages
-    → IsDistinct nat_eq (map (λ sale. sale.place)
+pub kept_distinct : (selection : Sale → Bool) (messages : List Placed) → AreByPlace messages → IsDistinct nat_eq (map (λ sale. sale.place)
     (kept (break_numbers messages) selection (priced (order_rows messages) (executions messages) ++ own_priced_sales messages)))
 kept_distinct selection messages up = kept_apart (break_numbers messages) selection messages up
 
@@ -104,19 +74,4 @@ kept_distinct selection messages up = kept_apart (break_numbers messages) select
 pub messages_by_place : (frames : List PlacedBody) → IsStrictlySortedBy (λ a b. nat_cmp a.place b.place) frames → AreByPlace (messages_of frames)
 messages_by_place frames up =
     sorted-filter_map (λ (f : PlacedBody). f.place) (λ (m : Placed). m.place) (λ f. placed_at f.place (message_of f.body))
-    (λ f m e. message_keeps_place f.place (message_of f.body) m e) frames up
-  where
-    kept_place : (place : ℕ) (message : Message) (m : Placed) → Some (record { place = place; message = message }) ≡ Some m → m.place ≡ place
-    kept_place place message m e = let made : Placed = record { place = place; message = message } in let same : made ≡ m = cc in
-        sym (ap (λ (p : Placed). p.place) same)
-
-    message_keeps_place : (place : ℕ) (message : Message) (m : Placed) → placed_at place message ≡ Some m → m.place ≡ place
-    message_keeps_place place Skipped m e = absurd (cc)
-    message_keeps_place place (Add x) m e = kept_place place (Add x) m e
-    message_keeps_place place (Executed x) m e = kept_place place (Executed x) m e
-    message_keeps_place place (ExecutedAt x) m e = kept_place place (ExecutedAt x) m e
-    message_keeps_place place (Replace x) m e = kept_place place (Replace x) m e
-    message_keeps_place place (Trade x) m e = kept_place place (Trade x) m e
-    message_keeps_place place (Cross x) m e = kept_place place (Cross x) m e
-    message_keeps_place place (Broken x) m e = kept_place place (Broken x) m e
-    message_keeps_place place (Directory x) m e = kept_place place (Directory x) m e
+    (λ f m e. ap (λ (m : Placed). m.place) (placed_is f.place (message_of f.body) m e)) frames up

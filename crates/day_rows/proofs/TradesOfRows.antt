@@ -1,50 +1,23 @@
 -- The trades of a message list are, by place, the priced executions and the sales with a price of their own.
-use Rattle.std.proofs.Common.{◌≡◌, ℕ, Bool, true, List, [], ◌∷◌, ◌++◌, map, nat_eq, All, Less, arith, Option, Some, None, option_map, option_to_list, cond}
-use Rattle.std.proofs.Common.{◌==◌, false, filter_map, flat_map, IsPermutation, refl, sym, ap, ap₂, ◌∙◌, subst}
-use Rattle.std.specs.List.{AllByRecursion, IsDistinct, cons_option}
-use Rattle.std.proofs.lemmas.Bool.Decides.{nat_tests}
-use Rattle.std.proofs.lemmas.List.Elements.{All-append, All-filter, All-from_recursion, recursion_from_All}
-use Rattle.std.proofs.lemmas.Map.Keys.{IsDistinct-IsPermutation}
+use Rattle.std.proofs.Common.{◌≡◌, ℕ, Bool, List, ◌++◌, arith, Some, option_to_list, filter_map, flat_map, IsPermutation, sym, ap, ap₂, ◌∙◌, subst}
 use Rattle.std.specs.List.Sorted.{IsStrictlySortedBy}
-use Rattle.std.specs.Ordering.{nat_cmp}
 use Rattle.std.proofs.lemmas.Cmp.{nat_cmp_total, on_total}
 use Rattle.std.proofs.lemmas.List.Kept.{IsStrictlySortedBy-filter}
-use Rattle.std.proofs.lemmas.List.Sorted.{All-permutation, IsPermutation-map, IsPermutation-sym, IsPermutation-trans}
+use Rattle.std.proofs.lemmas.List.Sorted.{IsPermutation-sym, IsPermutation-trans}
 use Rattle.itch_messages.specs.declared.message.Message.{Message}
-use Rattle.itch_messages.specs.declared.message.Message.TheVariants.{Add, Executed, ExecutedAt, Replace, Trade, Cross, Broken, Directory, Skipped}
 use Rattle.row_types.specs.declared.order.OrderRow.{OrderRow}
 use Rattle.lists.proofs.Lists.{filter_map_as_flat_map, filter_map-flat_map, IsPermutation-filter, IsPermutation-both}
 use Rattle.lists.proofs.Order.{same_from_permutation, sorted-filter_map}
-use Rattle.row_types.specs.declared.trade.Execution.{Execution}
 use Rattle.row_types.specs.declared.trade.Sale.{Sale}
-use Rattle.probe.specs.Pricing.{price_of, sale_at, sale_of, priced}
+use Rattle.probe.specs.Pricing.{sale_of, priced}
 use Rattle.probe.specs.Trades.{is_kept, kept}
-use Rattle.row_types.specs.declared.trade.Kind.TheVariants.{C}
 use Rattle.row_types.specs.SalesByPlace.{place_cmp}
-use Rattle.itch_messages.specs.Body.{message_of}
-use Rattle.day_file.specs.Frames.{PlacedBody}
-use Rattle.row_types.specs.declared.directory.DirectoryRow.{DirectoryRow}
-use Rattle.day_rows.specs.Messages.{Placed, placed_at, messages_of, order_row_at, execution_at, own_priced_at, directory_row_at, order_rows, executions}
-use Rattle.day_rows.specs.Messages.{own_priced_sales, break_numbers, directory_rows}
-use Rattle.day_rows.specs.Messages.{trade_at, trades}
-use Rattle.day_rows.specs.DayRows.{AreByPlace, IsStamped}
+use Rattle.day_rows.specs.Messages.{Placed, execution_at, own_priced_at, order_rows, executions, own_priced_sales, break_numbers, trade_at, trades}
+use Rattle.day_rows.specs.DayRows.{AreByPlace}
 
-one_trade : (rows : List OrderRow) (place : ℕ) (message : Message)
-    → option_to_list (trade_at rows place message)
+one_trade : (rows : List OrderRow) (place : ℕ) (message : Message) → option_to_list (trade_at rows place message)
     ≡ filter_map (sale_of rows) (option_to_list (execution_at place message)) ++ option_to_list (own_priced_at place message)
-one_trade rows place (Add add) = refl
-one_trade rows place (Executed executed) = go (trade_at rows place (Executed executed))
-  where
-    go : (o : Option Sale) → option_to_list o ≡ cons_option o [] ++ []
-    go None = refl
-    go (Some sale) = refl
-one_trade rows place (ExecutedAt executed) = refl
-one_trade rows place (Replace replace) = refl
-one_trade rows place (Trade trade) = refl
-one_trade rows place (Cross cross) = refl
-one_trade rows place (Broken broken) = refl
-one_trade rows place (Directory directory) = refl
-one_trade rows place Skipped = refl
+one_trade rows place message = grind arith
 
 -- the trades are the priced executions and the sales with a price of their own
 pub trades_are_both : (rows : List OrderRow) (messages : List Placed)
@@ -60,49 +33,11 @@ trades_are_both rows messages =
     let second : flat_map g messages ≡ own_priced_sales messages = sym (filter_map_as_flat_map (λ m. own_priced_at m.place m.message) messages) in
     rw whole (subst (IsPermutation (flat_map (λ m. f m ++ g m) messages)) (ap₂ ◌++◌ first second) (IsPermutation-both f g messages))
 
-same_place : {made sale : Sale} → Some made ≡ Some sale → sale.place ≡ made.place
-same_place {made} {sale} e = let same : made ≡ sale = cc in sym (ap (λ (s : Sale). s.place) same)
-
-sale_keeps_place : (rows : List OrderRow) (execution : Execution) (sale : Sale) → sale_of rows execution ≡ Some sale → sale.place ≡ execution.place
-sale_keeps_place rows execution sale = go (price_of rows execution)
-  where
-    go : (o : Option ℕ) → option_map (sale_at execution) o ≡ Some sale → sale.place ≡ execution.place
-    go None e = absurd (cc)
-    go (Some price) e = let same : sale_at execution price ≡ sale = cc in sym (ap (λ (s : Sale). s.place) same)
-
 pub own_keeps_place : (place : ℕ) (message : Message) (sale : Sale) → own_priced_at place message ≡ Some sale → sale.place ≡ place
-own_keeps_place place (Add add) sale e = absurd (cc)
-own_keeps_place place (Executed executed) sale e = absurd (cc)
-own_keeps_place place (ExecutedAt executed) sale e = go (executed.printable == 89) e
-  where
-    go : (b : Bool) → cond b (Some (record {
-      place = place;
-      time = executed.header.time;
-      locate = executed.header.locate;
-      kind = C;
-      price = executed.price;
-      shares = executed.shares;
-      trade_no = executed.trade_no;
-    })) None ≡ Some sale → sale.place ≡ place
-    go true e = same_place e
-    go false e = absurd (cc)
-own_keeps_place place (Replace replace) sale e = absurd (cc)
-own_keeps_place place (Trade trade) sale e = same_place e
-own_keeps_place place (Cross cross) sale e = same_place e
-own_keeps_place place (Broken broken) sale e = absurd (cc)
-own_keeps_place place (Directory directory) sale e = absurd (cc)
-own_keeps_place place Skipped sale e = absurd (cc)
+own_keeps_place place message sale e = grind arith
 
 trade_keeps_place : (rows : List OrderRow) (place : ℕ) (message : Message) (sale : Sale) → trade_at rows place message ≡ Some sale → sale.place ≡ place
-trade_keeps_place rows place (Executed executed) sale e = sale_keeps_place rows _ sale e
-trade_keeps_place rows place (Add add) sale e = own_keeps_place place (Add add) sale e
-trade_keeps_place rows place (ExecutedAt executed) sale e = own_keeps_place place (ExecutedAt executed) sale e
-trade_keeps_place rows place (Replace replace) sale e = own_keeps_place place (Replace replace) sale e
-trade_keeps_place rows place (Trade trade) sale e = own_keeps_place place (Trade trade) sale e
-trade_keeps_place rows place (Cross cross) sale e = own_keeps_place place (Cross cross) sale e
-trade_keeps_place rows place (Broken broken) sale e = own_keeps_place place (Broken broken) sale e
-trade_keeps_place rows place (Directory directory) sale e = own_keeps_place place (Directory directory) sale e
-trade_keeps_place rows place Skipped sale e = own_keeps_place place Skipped sale e
+trade_keeps_place rows place message sale e = grind arith
 
 -- the trades stand by place, since the messages do
 pub trades_by_place : (messages : List Placed) → AreByPlace messages → IsStrictlySortedBy place_cmp (trades messages)

@@ -5,6 +5,7 @@ ghost use Rattle.day_rows.specs.Messages.{Placed, counted};
 
 /// The law of rows: those of joined lists of messages are the joined rows. It does nothing when it
 /// runs.
+#[tactic(auto, using(crate::proofs::JoinedRows::joined_laws))]
 pub fn rows_are_joined()
     ensures two { (one other : List Placed) →
         rows_of (one ++ other) ≡ joined (rows_of one) (rows_of other) }
@@ -14,6 +15,7 @@ pub fn rows_are_joined()
 
 /// The law of counted messages: those of joined lists are the joined counted ones, and without a moment
 /// all count. It does nothing when it runs.
+#[tactic(auto, using(crate::proofs::CountedMessages::counted_laws))]
 pub fn counted_are_joined()
     ensures two { (as_of : Option ℕ) (one other : List Placed) →
         counted as_of (one ++ other) ≡ counted as_of one ++ counted as_of other }

@@ -3,29 +3,27 @@ use Rattle.std.proofs.Common.{◌≡◌, ℕ, ◌+◌, ◌<◌, ◌≤◌, Bool,
 use Rattle.std.proofs.Common.{◌∙◌, ap, arith, inl, inr, ⊎_elim, subst, subst₂}
 use Rattle.std.proofs.lemmas.Grind.{get_or-set_at}
 use Rattle.std.proofs.lemmas.List.{get_or-set_other, take_all}
-use Rattle.std.proofs.lemmas.Bool.{cases_lt, le-ltb, lt-ltb, or_left, or_right}
+use Rattle.std.proofs.lemmas.Bool.{both_ways, cases_lt, le-ltb, lt-ltb, or_from, or_left, or_right}
 use Rattle.std.proofs.lemmas.Bool.Decides.{eqb_tells}
 use Rattle.std.specs.Cmp.{IsEquivalence}
 use Rattle.std.specs.Cmp.Lexicographic.{as_long}
 use Rattle.std.specs.FinSet.{union}
 use Rattle.gathering.specs.Adding.{same_inputs}
-use Rattle.gathering.specs.Kept.{IsFolded, covered_tasks, either, unless}
+use Rattle.gathering.specs.Kept.{IsFolded, IsLonger, covered_tasks, either, unless}
 use Rattle.gathering.specs.Views.{PieceView, IsComplete, belongs}
-use Rattle.gathering.proofs.CoveredTasks.{covered-union}
+use Rattle.gathering.proofs.CoveredTasks.{contains-covered, covered-union}
 use Rattle.gathering.proofs.EqualInputs.{same-take}
-use Rattle.gathering.proofs.FirstMissing.{view, complete_from}
 use Rattle.gathering.proofs.KeptPieces.{IsKept-file, IsKept-drop, IsKept-merge, is_some-either}
 
--- the greater of two numbers p and q is r, and c is what goes with it
-pub record IsLonger {C : Type 0} (p q r : ℕ) (a b c : C) : Type 0 where
-  pub longer : p < q → (r ≡ q) × (c ≡ b)
-  pub own : q ≤ p → (r ≡ p) × (c ≡ a)
+module _ {A C : Type 0} {eq : A → A → Bool} {IsTotalOf : List A → C → Type 0} {inputs : List A} {p : ℕ} {total : C}
+    {places : List (Option (PieceView A))} (folded : IsFolded eq IsTotalOf inputs p total places) where
+  -- each folded input has a place
+  pub fits : p ≤ length places
+  fits = omega (arith, folded.kept.one_each, folded.within)
 
-module _ {A C : Type 0} (eq : A → A → Bool) (IsTotalOf : List A → C → Type 0) (inputs : List A) where
   -- the piece of the place p is added and dropped
-  pub IsFolded-step : (p : ℕ) (total new : C) (places : List (Option (PieceView A))) → IsFolded eq IsTotalOf inputs p total places
-      → p < length inputs → IsTotalOf (take (p + 1) inputs) new → IsFolded eq IsTotalOf inputs (p + 1) new (set places p None)
-  IsFolded-step p total new places folded h new_is =
+  pub IsFolded-step : {new : C} → p < length inputs → IsTotalOf (take (p + 1) inputs) new → IsFolded eq IsTotalOf inputs (p + 1) new (set places p None)
+  IsFolded-step h new_is =
       let here : p < length places = let e = folded.kept.one_each in omega arith in
       record {
         kept = IsKept-drop eq inputs places p here folded.kept;
@@ -40,10 +38,9 @@ module _ {A C : Type 0} (eq : A → A → Bool) (IsTotalOf : List A → C → Ty
       }
 
   -- a piece is filed from p on
-  pub IsFolded-file : (p : ℕ) (total : C) (places : List (Option (PieceView A))) (piece : PieceView A)
-      → IsFolded eq IsTotalOf inputs p total places → p ≤ piece.number → belongs eq inputs piece ≡ true
+  pub IsFolded-file : (piece : PieceView A) → p ≤ piece.number → belongs eq inputs piece ≡ true
       → IsFolded eq IsTotalOf inputs p total (set places piece.number (Some piece))
-  IsFolded-file p total places piece folded from own = record {
+  IsFolded-file piece from own = record {
     kept = IsKept-file eq inputs places piece folded.kept own;
     within = folded.within;
     total_is = folded.total_is;
@@ -51,20 +48,19 @@ module _ {A C : Type 0} (eq : A → A → Bool) (IsTotalOf : List A → C → Ty
   }
 
   -- where no task is missing and the place p is empty, the total is whole
-  pub whole : (p : ℕ) (total : C) (places : List (Option (PieceView A))) (folded : IsFolded eq IsTotalOf inputs p total places)
-      → IsComplete (view inputs p places folded.kept.one_each folded.within) → get_or places p None ≡ None → IsTotalOf inputs total
-  whole p total places folded all gap =
+  pub whole : IsComplete (record { inputs = inputs; covered = covered_tasks p places }) → get_or places p None ≡ None → IsTotalOf inputs total
+  whole all gap =
       ⊎_elim
       (λ below.
-      let some = complete_from inputs p places folded.kept.one_each folded.within all p (omega arith) below in
-      absurd (cc))
+      let free = contains-covered p places fits p ∙ or_from _ _ (le-ltb p p (omega arith)) (ap is_some gap) in
+      absurd (both_ways _ free (all p below)))
       (λ past. subst (λ xs. IsTotalOf xs total) (take_all p inputs past) folded.total_is)
       (cases_lt p (length inputs))
 
 -- two are merged: `r` is the longer prefix of `p` and `q`, and `both` are the pieces of either from there on
 module _
-    {A C : Type 0} (eq : A → A → Bool) (IsTotalOf : List A → C → Type 0) (inputs others : List A) (same : same_inputs eq inputs others ≡ true)
-    (p q r : ℕ) (a b c : C) (own their both : List (Option (PieceView A)))
+    {A C : Type 0} {eq : A → A → Bool} {IsTotalOf : List A → C → Type 0} {inputs others : List A} {p q r : ℕ} {a b c : C}
+    {own their : List (Option (PieceView A))} (both : List (Option (PieceView A))) (same : same_inputs eq inputs others ≡ true)
     (folded : IsFolded eq IsTotalOf inputs p a own) (theirs : IsFolded eq IsTotalOf others q b their)
     (chosen : IsLonger p q r a b c) (count : length both ≡ length own)
     (united : (k : ℕ) → get_or both k None ≡ unless (nat_lt k r) (either (get_or own k None) (get_or their k None)))
@@ -114,8 +110,7 @@ module _
     pub covered-merge : covered_tasks r both ≡ union (covered_tasks p own) (covered_tasks q their)
     covered-merge =
         covered-union p q r own their both
-        (omega (arith, folded.kept.one_each, folded.within))
-        (omega (arith, theirs.kept.one_each, theirs.within))
+        (fits folded) (fits theirs)
         (⊎_elim
         (λ less.
         let e = (chosen.longer less).0 in let n = as_long eq inputs others same in

@@ -31,6 +31,11 @@ module _ {A : Type 0} (eq : A → A → Bool) where
     pub total_is : IsTotalOf (take p inputs) total
     pub dropped : (k : ℕ) → k < p → get_or places k None ≡ None
 
+-- the greater of two numbers p and q is r, and of what goes with them c goes with it
+pub record IsLonger {C : Type 0} (p q r : ℕ) (a b c : C) : Type 0 where
+  pub longer : p < q → (r ≡ q) × (c ≡ b)
+  pub own : q ≤ p → (r ≡ p) × (c ≡ a)
+
 -- what one of two places holds, the first before the second
 abbrev pub either : {X : Type 0} → Option X → Option X → Option X
 either (Some x) other = Some x

@@ -17,16 +17,6 @@ pub record GatheringView (A : Type 0) : Type 0 where
   pub covered : FinSet nat_cmp
 
 module _ {A : Type 0} where
-  -- pieces can be told apart by their numbers and inputs (for the model alone)
-  abbrev pub piece_code : Coded A → Coded (PieceView A)
-  piece_code a =
-      code_by
-      (ℕ × A)
-      (coded× coded_ℕ a)
-      (λ p. (p.number, p.input))
-      (λ q. record { number = q.0; input = q.1 })
-      (λ _. refl)
-
   -- gatherings can be told apart by their inputs and sets (for the model alone)
   abbrev pub gathering_code : Coded A → Coded (GatheringView A)
   gathering_code a =

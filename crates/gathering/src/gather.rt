@@ -4,14 +4,14 @@ ghost use Rattle.std.specs.Prelude.{OnOk, OnErr, MatchOption, length, if◌then�
 ghost use Rattle.std.specs.Arc.{arc_value};
 ghost use Rattle.std.specs.FinSet as set;
 ghost use Rattle.gathering.specs.Adding.{same_inputs};
-ghost use Rattle.gathering.specs.Kept.{IsFolded};
+ghost use Rattle.gathering.specs.Kept.{IsFolded, IsLonger};
 ghost use Rattle.gathering.specs.Refused.{IsRefusedFor, handed_back};
 ghost use Rattle.gathering.specs.Views.{belongs, merged, IsComplete, IsFirstMissing};
 
 use crate::OutOfMemory;
 use crate::inputs::Inputs;
 use crate::piece::Piece;
-use crate::places::{empty_places, first_empty, merge_places};
+use crate::places::{empty_places, merge_places};
 use crate::work::Work;
 use std::alloc::{Allocator, Global};
 use std::marker::Model;
@@ -184,7 +184,12 @@ impl<W: Work, A: Allocator> Gathering<W, A> {
     pub fn first_missing(&self) -> Option<u32>
         ensures { MatchOption result (IsComplete self.now) (λ task. IsFirstMissing self.now task) }
     {
-        first_empty(&self.places, self.folded, self.inputs.count())
+        for task in self.folded..self.inputs.count() {
+            if !self.covers(task) {
+                return Some(task);
+            }
+        }
+        None
     }
 
     /// The total of all inputs, in order. It adds what is not folded yet, and runs no task.
@@ -198,7 +203,7 @@ impl<W: Work, A: Allocator> Gathering<W, A> {
         ensures refused { IfErr result (λ refused. IsRefusedFor self refused) }
         ensures handed_back { IfErr result (λ refused. handed_back refused ≡ self) }
     {
-        if self.first_missing().is_some() {
+        if let Some(_) = self.first_missing() {
             return Err(TotalRefused::Missing { gathering: self });
         }
         let Gathering {
@@ -242,10 +247,7 @@ fn is_own<W: Work>(inputs: &Inputs<W>, piece: &Piece<W>) -> bool
 
 /// Of two numbers of folded inputs, each with their total, keeps the greater.
 fn keep_longer<T: Drop>(own_folded: &mut u32, own_total: &mut T, folded: u32, total: T)
-    ensures longer { own_folded.old < folded
-        → (own_folded.new ≡ folded) × (own_total.new ≡ total) }
-    ensures own { folded ≤ own_folded.old
-        → (own_folded.new ≡ own_folded.old) × (own_total.new ≡ own_total.old) }
+    ensures { IsLonger own_folded.old folded own_folded.new own_total.old total own_total.new }
 {
     if *own_folded < folded {
         *own_folded = folded;

@@ -1,6 +1,5 @@
 //! The inputs of all tasks.
-ghost use Rattle.std.specs.Prelude.{◌≡◌, ◌<◌, ◌≤◌, OnOk, length, map, get_or, slice_get};
-ghost use Rattle.std.specs.Prelude.{None, Some};
+ghost use Rattle.std.specs.Prelude.{◌≡◌, ◌<◌, ◌≤◌, List, OnOk, length, map, get_or, slice_get, None, Some};
 ghost use Rattle.std.specs.Arc.{arc_value};
 ghost use Rattle.lists.specs.declared.limits.TheConstants.{MOST_TASKS};
 ghost use Rattle.gathering.specs.Adding.{same_inputs};
@@ -23,10 +22,6 @@ pub struct Inputs<W: Work> {
 }
 
 impl<W: Work> Model for Inputs<W> {
-    ghost use Rattle.std.specs.Prelude.{List, length, map, ◌≤◌};
-    ghost use Rattle.std.specs.Arc.{arc_value};
-    ghost use Rattle.lists.specs.declared.limits.TheConstants.{MOST_TASKS};
-
     ghost Value = { List W.Input };
 
     ghost view = { λ a. map arc_value a.items.items };

@@ -1,6 +1,7 @@
 //! What one task gave.
 ghost use Rattle.std.specs.Prelude.{◌≡◌, IfOk};
 ghost use Rattle.std.specs.Arc.{arc_value};
+ghost use Rattle.gathering.specs.Views.{PieceView};
 
 use crate::OutOfMemory;
 use crate::work::Work;
@@ -20,10 +21,6 @@ pub struct Piece<W: Work> {
 }
 
 impl<W: Work> Model for Piece<W> {
-    ghost use Rattle.std.specs.Prelude.{◌≡◌};
-    ghost use Rattle.std.specs.Arc.{arc_value};
-    ghost use Rattle.gathering.specs.Views.{PieceView, piece_code};
-
     ghost Value = { PieceView W.Input };
 
     ghost view = { λ a. record { number = a.number; input = arc_value a.input } };

@@ -1,6 +1,5 @@
 //! Places that hold something or nothing.
-ghost use Rattle.std.specs.Prelude.{◌≡◌, ◌<◌, ◌≤◌, ℕ, true, List, IfOk, MatchOption, length};
-ghost use Rattle.std.specs.Prelude.{get_or, is_some, nat_lt, replicate, None};
+ghost use Rattle.std.specs.Prelude.{◌≡◌, ℕ, IfOk, length, get_or, nat_lt, replicate, None};
 ghost use Rattle.gathering.specs.Kept.{either, unless};
 
 use crate::OutOfMemory;
@@ -18,30 +17,6 @@ pub(crate) fn empty_places<T: Drop, A: Allocator>(
         places.push(None)?;
     }
     Ok(places)
-}
-
-/// The first place from a given one on that is empty.
-pub(crate) fn first_empty<T, A: Allocator>(
-    places: &Vec<Option<T>, A>,
-    from: u32,
-    count: u32,
-) -> Option<u32>
-    requires count { length places.now.items ≡ count }
-    requires in_range { from ≤ count }
-    ensures { MatchOption result
-        ((k : ℕ) → from ≤ k → k < length places.now.items
-        → is_some (get_or places.now.items k None) ≡ true)
-        (λ at. (at < length places.now.items)
-        × (from ≤ at)
-        × (get_or places.now.items at None ≡ None)
-        × ((k : ℕ) → from ≤ k → k < at → is_some (get_or places.now.items k None) ≡ true)) }
-{
-    for at in from..count {
-        if places[at as usize].is_none() {
-            return Some(at);
-        }
-    }
-    None
 }
 
 /// Moves what the others hold into the places that are empty, and empties the places below `from`.

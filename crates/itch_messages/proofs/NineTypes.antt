@@ -1,14 +1,13 @@
 -- The nine types, and what a body is by its type.
-use Rattle.std.proofs.Common.{◌≡◌, ℕ, Bool, true, false, cond, eqb, List, length, Option, None, Some, refl, sym, ap, ◌∙◌, subst, ⊎_elim}
-use Rattle.std.proofs.lemmas.Bool.{cases_Bool, eqb-true, eq-eqb}
+use Rattle.std.proofs.Common.{◌≡◌, ℕ, Bool, true, false, cond, eqb, List, length, Option, None, Some, refl, sym, subst, arith}
+use Rattle.std.proofs.lemmas.Bool.{eqb-true, eq-eqb}
 use Rattle.itch_messages.specs.Body.{has_wrong_length, is_skipped, is_whole, kind_of, message_of, message_of_kind}
 use Rattle.itch_messages.specs.Layout.{length_of}
 use Rattle.itch_messages.specs.declared.message.Message.TheVariants.{Skipped}
 
 -- one type of a list of types: it is the one, or the rest has it
-pub one_kind : (P : ℕ → ℕ → Type 0) (this wanted_here : ℕ) (rest : Option ℕ) (kind wanted : ℕ) → P this wanted_here
-    → (rest ≡ Some wanted → P kind wanted) → (b : Bool) → eqb kind this ≡ b
-    → cond b (Some wanted_here) rest ≡ Some wanted → P kind wanted
+one_kind : (P : ℕ → ℕ → Type 0) (this wanted_here : ℕ) (rest : Option ℕ) (kind wanted : ℕ) → P this wanted_here
+    → (rest ≡ Some wanted → P kind wanted) → (b : Bool) → eqb kind this ≡ b → cond b (Some wanted_here) rest ≡ Some wanted → P kind wanted
 one_kind P this here rest kind wanted holds others true is found =
     let same_kind : this ≡ kind = sym (eqb-true kind this is) in
     let same_length : here ≡ wanted = cc in
@@ -36,23 +35,17 @@ pub right_of_whole : (body : List ℕ) → length_of (kind_of body) ≡ Some (le
 right_of_whole body whole = rw (whole, eq-eqb (length body) (length body) refl) refl
 
 -- it stands for the message of its type
-pub message_of_whole : (body : List ℕ) → length_of (kind_of body) ≡ Some (length body)
-    → message_of body ≡ message_of_kind (kind_of body) body
+pub message_of_whole : (body : List ℕ) → length_of (kind_of body) ≡ Some (length body) → message_of body ≡ message_of_kind (kind_of body) body
 message_of_whole body whole = rw (whole, eq-eqb (length body) (length body) refl) refl
 
 -- a body that passes the test of the table has its type's length
 pub whole_of_test : (body : List ℕ) → is_whole body ≡ true → length_of (kind_of body) ≡ Some (length body)
-whole_of_test body passes = go (length_of (kind_of body)) refl
-  where
-    go : (found : Option ℕ) → length_of (kind_of body) ≡ found → length_of (kind_of body) ≡ Some (length body)
-    go None is = let fails : is_whole body ≡ false = rw is refl in absurd (cc)
-    go (Some wanted) is =
-        let test : is_whole body ≡ eqb (length body) wanted = rw is refl in
-        is ∙ ap Some (sym (eqb-true (length body) wanted (sym test ∙ passes)))
+whole_of_test body passes = grind arith
 
 -- a body that stands for a message has its type's length
 pub whole_of_message : (body : List ℕ) → is_skipped (message_of body) ≡ false → length_of (kind_of body) ≡ Some (length body)
-whole_of_message body read = ⊎_elim (whole_of_test body) (λ fails. absurd (skipped fails)) (cases_Bool (is_whole body))
-  where
-    skipped : is_whole body ≡ false → ⊥
-    skipped fails = let none : message_of body ≡ Skipped = rw fails refl in absurd (cc (ap is_skipped none))
+whole_of_message body read = grind arith
+
+-- a body of a wrong length stands for no message
+pub skipped_of_wrong_length : (body : List ℕ) → has_wrong_length body ≡ true → message_of body ≡ Skipped
+skipped_of_wrong_length body wrong = grind arith

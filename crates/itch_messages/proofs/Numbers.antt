@@ -31,8 +31,7 @@ AreBytes-bytes_high_first (suc n) x =
     All-cons (λ byte. byte < 256) (byte_at n x) (bytes_high_first n x) (byte_at-lt n x) (AreBytes-bytes_high_first n x)
 
 -- n bytes that spell one number are one list
-pub big_from-tells_apart : (n : ℕ) (xs ys : List ℕ) → length xs ≡ n → length ys ≡ n → AreBytes xs → AreBytes ys
-    → big_from 0 n xs ≡ big_from 0 n ys → xs ≡ ys
+pub big_from-tells_apart : (n : ℕ) (xs ys : List ℕ) → length xs ≡ n → length ys ≡ n → AreBytes xs → AreBytes ys → big_from 0 n xs ≡ big_from 0 n ys → xs ≡ ys
 big_from-tells_apart n [] [] lx ly bx by same = refl
 big_from-tells_apart n [] (y ∷ ys) lx ly bx by same = absurd (omega arith)
 big_from-tells_apart n (x ∷ xs) [] lx ly bx by same = absurd (omega arith)
@@ -47,8 +46,7 @@ big_from-tells_apart (suc n) (x ∷ xs) (y ∷ ys) lx ly bx by same =
     λ i. parts.0 i ∷ rest i
 
 -- the first n bytes of a list are the bytes of the number that they spell
-pub bytes_high_first-big_from : (n : ℕ) (xs : List ℕ) → AreBytes xs → n ≤ length xs
-    → bytes_high_first n (big_from 0 n xs) ≡ take n xs
+pub bytes_high_first-big_from : (n : ℕ) (xs : List ℕ) → AreBytes xs → n ≤ length xs → bytes_high_first n (big_from 0 n xs) ≡ take n xs
 bytes_high_first-big_from n xs are within =
     let number : ℕ = big_from 0 n xs in
     let fits : number < 256 ^ n = big_from-lt 0 n xs (λ k. byte_in xs k are) in

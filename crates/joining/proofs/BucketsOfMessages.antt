@@ -1,12 +1,10 @@
 -- What all buckets of a message list have found is what the whole list has: its faults, and its sales in some order.
-use Rattle.std.proofs.Common.{◌≡◌, ℕ, ◌<◌, ◌+◌, Bool, List, [], ◌∷◌, ◌++◌, All, Option, option_map, filter, flat_map, length, map, nat_eq, IsPermutation}
-use Rattle.std.proofs.Common.{refl, sym, ap, ◌∙◌, subst, arith, not, ◌&&◌, ltb}
-use Rattle.std.proofs.lemmas.Bool.Decides.{nat_tests}
-use Rattle.std.proofs.lemmas.List.{length-append}
+use Rattle.std.proofs.Common.{◌≡◌, ℕ, ◌<◌, ◌+◌, Bool, List, ◌++◌, All, Option, option_map, filter, flat_map, length, map, IsPermutation, refl, sym, ap, ◌∙◌}
+use Rattle.std.proofs.Common.{subst, arith, not, ◌&&◌, ltb, length-append}
+use Rattle.std.proofs.lemmas.Simd.{map-map}
 use Rattle.std.proofs.lemmas.List.Elements.{All-filter}
 use Rattle.std.proofs.lemmas.List.Folds.{flat_map-map}
-use Rattle.std.proofs.lemmas.List.Sorted.{All-permutation, IsPermutation-append, IsPermutation-map, IsPermutation-sym, IsPermutation-trans, length_permutation}
-use Rattle.std.proofs.lemmas.Map.Keys.{IsDistinct-IsPermutation}
+use Rattle.std.proofs.lemmas.List.Sorted.{All-permutation, IsPermutation-append, IsPermutation-sym, IsPermutation-trans, length_permutation}
 use Rattle.lists.specs.Least.{least_by, numbers_below, part}
 use Rattle.lists.specs.declared.limits.TheConstants.{TRADE_LIMIT}
 use Rattle.lists.proofs.Least.{least_by-map}
@@ -14,18 +12,15 @@ use Rattle.lists.proofs.Lists.{filter-flat_map, filter_map-flat_map, filter_map-
 use Rattle.lists.proofs.Lists.{IsPermutation-filter_map}
 use Rattle.lists.proofs.Order.{TellsApart-from_distinct}
 use Rattle.lists.proofs.Parts.{parts_are_all}
-use Rattle.order_table.specs.Orders.{first_repeated, repeated_of}
-use Rattle.row_types.specs.declared.order.OrderRow.{OrderRow}
+use Rattle.order_table.specs.Orders.{OrderRow, first_repeated, repeated_of}
 use Rattle.order_table.specs.declared.table.Repeated.{Repeated}
 use Rattle.order_table.proofs.PartRows.{repeated_of_parts}
-use Rattle.probe.specs.Pricing.{first_unknown, priced, sale_of, unknown_of}
+use Rattle.probe.specs.Pricing.{Execution, Sale, Unknown, first_unknown, priced, sale_of, unknown_of}
 use Rattle.probe.specs.Selection.{admits}
 use Rattle.probe.specs.Trades.{is_kept, kept}
-use Rattle.row_types.specs.declared.trade.Execution.{Execution}
-use Rattle.row_types.specs.declared.trade.Sale.{Sale}
-use Rattle.row_types.specs.declared.trade.Unknown.{Unknown}
 use Rattle.probe.proofs.KeptSales.{length-kept, length-priced}
 use Rattle.probe.proofs.PartSales.{first_unknown_of_parts, priced_in_part}
+use Rattle.time_and_sales.proofs.SortedByPlace.{differ_in_order}
 use Rattle.bars.specs.Bars.{all_sales}
 use Rattle.meaning.specs.Meaning.{Meaning}
 use Rattle.answers.specs.Answers.{asks_for}
@@ -35,7 +30,7 @@ use Rattle.day_rows.proofs.RowsByPlace.{executions_distinct, kept_distinct, orde
 use Rattle.answers.proofs.SelectedSales.{keeps_asked}
 use Rattle.day_rows.proofs.StampedSales.{fits_all}
 use Rattle.morsel_rows.specs.Partitions.{partition_of}
-use Rattle.buckets.specs.FoundRows.{FoundView, found_of, sales_in}
+use Rattle.buckets.specs.FoundRows.{FoundView, sales_in}
 use Rattle.buckets.specs.Products.{product_of}
 use Rattle.joining.specs.Gathered.{AreListable, found_in}
 use Rattle.buckets.specs.Plans.{rising, selection_of}
@@ -72,18 +67,7 @@ lists_in n query messages =
 
 pub products_found : (n : ℕ) (query : Meaning) (messages : List Placed)
     → (found_in n query messages).products ≡ map (product_of query.what) (lists_in n query messages)
-products_found n query messages = go (numbers_below n)
-  where
-    breaks : List ℕ
-    breaks = rising (break_numbers messages)
-
-    asked : Sale → Bool
-    asked = admits (selection_of query (directory_rows messages))
-
-    go : (bs : List ℕ) → map (λ (f : FoundView). f.product) (map (λ b. found_of query.what breaks asked (partition_of n (rows_of messages) b)) bs)
-        ≡ map (product_of query.what) (map (λ b. sales_in breaks asked (partition_of n (rows_of messages) b)) bs)
-    go [] = refl
-    go (b ∷ bs) = ap (λ l. product_of query.what (sales_in breaks asked (partition_of n (rows_of messages) b)) ∷ l) (go bs)
+products_found n query messages = map-map _ _ (numbers_below n) ∙ sym (map-map _ _ (numbers_below n))
 
 -- what is kept of all buckets is, in some order, what is kept of all rows
 sales_of_parts : (n : ℕ) (breaks : List ℕ) (asked : Sale → Bool) (rows : DayRows) → 0 < n
@@ -132,9 +116,6 @@ lists_are n query messages some stamped =
     (selection_agrees query (directory_rows messages)) (every_fits messages stamped))
     (sales_of_parts n (rising (break_numbers messages)) asked (rows_of messages) some)
 
-flips : (a b : ℕ) → nat_eq a b ≡ nat_eq b a
-flips a b = grind (arith, nat_tests)
-
 -- and they can be listed together
 pub lists_listable : (n : ℕ) (query : Meaning) (messages : List Placed) → 0 < n → AreByPlace messages → AreStamped (rows_of messages)
     → length (executions messages) + length (own_priced_sales messages) < TRADE_LIMIT → AreListable (lists_in n query messages)
@@ -144,7 +125,7 @@ lists_listable n query messages some up stamped few =
     let are = lists_are n query messages some stamped in
     let back = IsPermutation-sym _ _ are in
     record {
-      apart = IsDistinct-IsPermutation nat_eq flips _ _ (IsPermutation-map (λ (s : Sale). s.place) _ _ back) (kept_distinct asked messages up);
+      apart = differ_in_order _ _ back (kept_distinct asked messages up);
       few = omega (
         arith,
         few,

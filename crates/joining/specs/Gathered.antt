@@ -1,23 +1,21 @@
 -- What all buckets of a message list have found, and the text of what they list.
 -- To be believed of a crate used by itself: the answer isn't defined by buckets.
-use Rattle.std.specs.Prelude.{◌≡◌, ℕ, ◌<◌, ◌+◌, List, length, map, All, Option, Some, None, nat_eq}
+use Rattle.std.specs.Prelude.{◌≡◌, ℕ, ◌<◌, ◌+◌, List, length, map, All, Option, Some, None, nat_eq, IsPermutation}
 use Rattle.std.specs.List.{IsDistinct}
-use Rattle.std.specs.List.Sorted.{IsPermutation}
 use Rattle.lists.specs.Least.{numbers_below}
 use Rattle.lists.specs.declared.limits.TheConstants.{TRADE_LIMIT}
 use Rattle.order_table.specs.declared.table.Repeated.{Repeated}
 use Rattle.probe.specs.Selection.{admits}
 use Rattle.row_types.specs.declared.trade.Unknown.{Unknown}
-use Rattle.row_types.specs.declared.trade.Sale.{Sale}
 use Rattle.row_types.specs.SalesByPlace.{IsByPlace}
-use Rattle.time_and_sales.specs.Texts.{listing_text}
+use Rattle.time_and_sales.specs.Texts.{Sale, listing_text}
 use Rattle.row_types.specs.declared.directory.DirectoryRow.{DirectoryRow}
 use Rattle.bars.specs.Bars.{AreBarsOf, all_sales}
-use Rattle.bars.specs.Texts.{bars_text}
 use Rattle.bars.specs.declared.bar.Bar.{Bar}
+use Rattle.bars.specs.Texts.{bars_text}
 use Rattle.meaning.specs.Meaning.{Meaning}
+use Rattle.meaning.specs.declared.query.What.TheVariants.{Bars, Sales}
 use Rattle.meaning.specs.declared.query.What.{What}
-use Rattle.meaning.specs.declared.query.What.TheVariants.{Sales, Bars}
 use Rattle.day_rows.specs.DayRows.{AreByPlace, AreStamped, IsStamped, rows_of}
 use Rattle.outcomes.specs.declared.day_fault.DayFault.{DayFault}
 use Rattle.outcomes.specs.declared.day_fault.DayFault.TheVariants.{RepeatedReference, UnknownReference}
@@ -25,8 +23,8 @@ use Rattle.day_rows.specs.Messages.{Placed, break_numbers, directory_rows, execu
 use Rattle.morsel_rows.specs.Partitions.{partition_of}
 use Rattle.buckets.specs.FoundRows.{TotalView, all_found, found_of}
 use Rattle.buckets.specs.Products.{product_of}
-use Rattle.buckets.specs.declared.product.Product.{Product}
-use Rattle.buckets.specs.declared.product.Product.TheVariants.{Listed, Tabled}
+pub use Rattle.buckets.specs.declared.product.Product.{Product}
+pub use Rattle.buckets.specs.declared.product.Product.TheVariants.{Listed, Tabled}
 use Rattle.buckets.specs.Plans.{rising, selection_of}
 
 -- what is found in n buckets of the rows of messages

@@ -38,7 +38,7 @@ pub fn answer_in_ranges<R: Threads + Sync>(
         Some(fault) => Ok(Answer::Faulty(fault)),
         None => {
             let products = total.into_products();
-            let text = text_of(rt, alloc, query.what, products, names.names(), ranges)?;
+            let text = text_of(rt, alloc, query.what, &products, names.names(), ranges)?;
             Ok(Answer::Printed(text))
         }
     }
@@ -49,13 +49,13 @@ fn text_of<R: Threads + Sync>(
     rt: &R,
     alloc: Global,
     what: What,
-    products: Vec<Arc<Product, Global>>,
+    products: &[Arc<Product, Global>],
     names: &Names,
     ranges: u32,
 ) -> Result<Text, OutOfMemory>
-    requires products { (lists : List (List Sale)) × AreProductsOf what lists (map arc_value products.items) }
+    requires products { (lists : List (List Sale)) × AreProductsOf what lists (map arc_value products.now) }
     ensures { IfOk result (λ text. (lists : List (List Sale)) →
-        AreProductsOf what lists (map arc_value products.items) →
+        AreProductsOf what lists (map arc_value products.now) →
         IsTextOfAll what (λ locate. name_text locate (last_row names.now locate)) (all_sales lists) text) }
 {
     match what {
@@ -68,16 +68,16 @@ fn text_of<R: Threads + Sync>(
 fn text_of_sales<R: Threads + Sync>(
     rt: &R,
     alloc: Global,
-    products: Vec<Arc<Product, Global>>,
+    products: &[Arc<Product, Global>],
     names: &Names,
     ranges: u32,
 ) -> Result<Text, OutOfMemory>
-    requires products { (lists : List (List Sale)) × AreProductsOf Sales lists (map arc_value products.items) }
+    requires products { (lists : List (List Sale)) × AreProductsOf Sales lists (map arc_value products.now) }
     ensures { IfOk result (λ text. (lists : List (List Sale)) →
-        AreProductsOf Sales lists (map arc_value products.items) →
+        AreProductsOf Sales lists (map arc_value products.now) →
         IsTextOfAll Sales (λ locate. name_text locate (last_row names.now locate)) (all_sales lists) text) }
 {
-    let listings = listings(alloc, &products)?;
+    let listings = listings(alloc, products)?;
     text_of_listings(rt, alloc, &listings, names, ranges)
 }
 
@@ -85,17 +85,17 @@ fn text_of_sales<R: Threads + Sync>(
 fn text_of_bars<R: Threads + Sync>(
     rt: &R,
     alloc: Global,
-    products: Vec<Arc<Product, Global>>,
+    products: &[Arc<Product, Global>],
     width: u32,
     names: &Names,
     ranges: u32,
 ) -> Result<Text, OutOfMemory>
-    requires products { (lists : List (List Sale)) × AreProductsOf (Bars width) lists (map arc_value products.items) }
+    requires products { (lists : List (List Sale)) × AreProductsOf (Bars width) lists (map arc_value products.now) }
     ensures { IfOk result (λ text. (lists : List (List Sale)) →
-        AreProductsOf (Bars width) lists (map arc_value products.items) →
+        AreProductsOf (Bars width) lists (map arc_value products.now) →
         IsTextOfAll (Bars width) (λ locate. name_text locate (last_row names.now locate)) (all_sales lists) text) }
 {
-    let tables = tables(alloc, &products)?;
+    let tables = tables(alloc, products)?;
     text_of_tables(rt, alloc, &tables, names, ranges)
 }
 

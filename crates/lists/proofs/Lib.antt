@@ -2,5 +2,4 @@ pub mod Lists
 pub mod Least
 pub mod Parts
 pub mod Order
-pub mod IsLeast
 pub mod Among

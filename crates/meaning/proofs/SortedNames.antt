@@ -1,12 +1,9 @@
 -- A binary search of names in rising order finds those that are among them, and no others.
 use Rattle.std.proofs.Common.{◌≡◌, ℕ, ◌<◌, Bool, true, false, ◌||◌, List, [], ◌∷◌, map, get_or, Result, Ok, Err, Ordering, Less, Equal, Greater, is_ok, refl}
-use Rattle.std.proofs.Common.{sym, ap, ◌∙◌, ⊎_elim, arith, IsSorted, nat_cmp, length, subst, IsPermutation}
-use Rattle.std.specs.Borrow.{Bor}
+use Rattle.std.proofs.Common.{sym, ap, ◌∙◌, ⊎_elim, arith, IsSorted, nat_cmp, length, subst, IsPermutation, Bor, is_eq, bytes_eq}
 use Rattle.std.specs.Cmp.Lexicographic.{slice_cmp}
 use Rattle.std.specs.List.{list_any}
 use Rattle.std.specs.List.Sorted.{IsBinarySearchResult, IsSearchInRange}
-use Rattle.std.specs.Ordering.{is_eq}
-use Rattle.std.specs.Str.{bytes_eq}
 use Rattle.std.proofs.lemmas.Bool.{cases_lt}
 use Rattle.std.proofs.lemmas.Cmp.{nat_list_cmp_total}
 use Rattle.std.proofs.lemmas.List.Folds.{list_any_at, list_any_none}

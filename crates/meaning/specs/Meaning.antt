@@ -6,8 +6,8 @@ use Rattle.lists.specs.declared.limits.TheConstants.{SECONDS_OF_DAY}
 use Rattle.meaning.specs.Symbols.{is_symbol}
 use Rattle.meaning.specs.declared.query.What.{What}
 use Rattle.meaning.specs.declared.query.What.TheVariants.{Bars}
-use Rattle.probe.specs.declared.selection.Kinds.{Kinds}
-use Rattle.probe.specs.declared.selection.Span.{Span}
+pub use Rattle.probe.specs.declared.selection.Kinds.{Kinds}
+pub use Rattle.probe.specs.declared.selection.Span.{Span}
 
 -- a query: what is listed, up to which second messages count, and which sales by symbols, span and kinds
 pub record Meaning : Type 0 where

@@ -1,8 +1,7 @@
 -- The locates that a query selects.
 -- To be believed.
-use Rattle.std.specs.Prelude.{ℕ, ◌^◌, Bool, true, List, Option, Some, None, filter}
+use Rattle.std.specs.Prelude.{ℕ, ◌^◌, Bool, true, List, Option, Some, None, filter, bytes_eq}
 use Rattle.std.specs.List.{list_any}
-use Rattle.std.specs.Str.{bytes_eq}
 use Rattle.lists.specs.Least.{numbers_below}
 use Rattle.probe.specs.declared.selection.Locates.{Locates}
 use Rattle.probe.specs.declared.selection.Locates.TheVariants.{All, Listed}

@@ -1,4 +1,3 @@
-pub mod OneMoreRow
 pub mod Repeats
 pub mod RowsInOrder
 pub mod PartRows

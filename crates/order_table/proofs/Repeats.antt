@@ -1,124 +1,106 @@
--- The first repeated row of rows in order, where each row that repeats a reference follows one that gives it.
-use Rattle.std.proofs.Common.{◌≡◌, ℕ, ◌+◌, ◌-◌, ◌<◌, ◌≤◌, cond, eqb, List, length, map, take, get_or, Option, Some, None, filter, Contains}
-use Rattle.std.proofs.Common.{IsPermutation, refl, sym, ap, ◌∙◌, subst, arith, ◌≢◌, ⊎_elim}
+-- Which row repeats a reference, and the first that does: in any order, and in rows in order, where each repeats that of the row before it.
+use Rattle.std.proofs.Common.{◌≡◌, ℕ, suc, ◌+◌, ◌-◌, ◌<◌, ◌≤◌, ◌&&◌, cond, eqb, ltb, Bool, true, false, List, [], ◌∷◌, ◌++◌, length, map, take, get_or}
+use Rattle.std.proofs.Common.{Option, Some, None, filter, option_to_list, Contains, IsPermutation, refl, sym, ap, ◌∙◌, arith, ◌≢◌, inr, ⊎_elim}
+use Rattle.std.proofs.Math.Nat.{eq-or-lt_of_le}
 use Rattle.std.specs.List.{AllPairs, IsDistinct}
-use Rattle.std.proofs.lemmas.Bool.{cases_order, both_ways, eq-eqb, eqb-true, le-ltb}
+use Rattle.std.proofs.lemmas.Bool.{and_from, and_parts, both_ways, cases_lt, eq-eqb, eqb-true, false_from_ne_true, lt-ltb, ltb-true}
 use Rattle.std.proofs.lemmas.Cmp.{nat_eq_equiv}
-use Rattle.std.proofs.lemmas.List.{take_more, length-take, length-map, get_or-map, get_or-take, get_or_default}
-use Rattle.std.proofs.lemmas.List.Elements.{All-contains, All-take, All-contains_itself}
+use Rattle.std.proofs.lemmas.List.{append-nil, length-map, get_or-map, get_or_default}
+use Rattle.std.proofs.lemmas.List.Elements.{filter_more}
+use Rattle.std.proofs.lemmas.List.Folds.{Any-from_list_any, list_any_at}
 use Rattle.std.proofs.lemmas.List.Sorted.{list_any-IsPermutation, IsPermutation-map}
 use Rattle.std.proofs.lemmas.Map.Keys.{apart_from_distinct, IsDistinct-IsPermutation}
-use Rattle.lists.specs.Least.{least_by, TellsApart}
-use Rattle.order_table.specs.Orders.{OrderRow, first_row, is_repeated, first_repeated}
-use Rattle.order_table.specs.OneMoreRow.{earlier_row, repeating_row}
+use Rattle.lists.specs.Least.{least_by}
+use Rattle.order_table.specs.Orders.{OrderRow, is_repeated, first_repeated}
 use Rattle.order_table.specs.RowsInOrder.{MayFollow, IsInOrder}
 use Rattle.lists.proofs.Lists.{IsPermutation-filter}
-use Rattle.lists.proofs.Least.{least_by-permutation}
-use Rattle.lists.proofs.IsLeast.{IsLeastBy, least_is}
-use Rattle.lists.proofs.Order.{Contains-filter, Contains-from_filter, passes_filter, TellsApart-filter, TellsApart-from_distinct}
-use Rattle.order_table.proofs.OneMoreRow.{place_of, repeats, earlier_of, earlier_is, earlier_none, repeated_by, first_repeated_push}
+use Rattle.lists.proofs.Least.{best_by-append, better_option, least_by-permutation, lesser_ranks}
+use Rattle.lists.proofs.Order.{TellsApart-filter, TellsApart-from_distinct}
+use Rattle.order_table.proofs.RowsInOrder.{place_of, in_order_from_rising, not_above}
 
-module _ (rows : List OrderRow) (i : ℕ) (d : OrderRow) (some : 0 < i) (within : i < length rows)
-    (distinct : IsDistinct eqb (map place_of rows)) (up : IsInOrder rows) where
-  abbrev now : OrderRow
-  now = get_or rows i d
+abbrev repeats : OrderRow → OrderRow → Bool
+repeats row other = eqb other.order_no row.order_no && ltb other.place row.place
 
-  abbrev last : OrderRow
-  last = get_or rows (i - 1) d
+pub repeated_by : (rows : List OrderRow) (row : OrderRow) → is_repeated rows row ≡ true
+    → (other : OrderRow) × Contains rows other × (other.order_no ≡ row.order_no) × (other.place < row.place)
+repeated_by rows row h =
+    let a = Any-from_list_any (repeats row) rows h in
+    let p = and_parts _ _ a.4 in
+    (a.1, (a.0, a.2, a.3), eqb-true _ _ p.0, ltb-true _ _ p.1)
 
-  abbrev so_far : List OrderRow
-  so_far = take i rows
+-- ---- in rows in order
 
-  abbrev of_it : List OrderRow
-  of_it = filter (λ (row : OrderRow). eqb row.order_no now.order_no) so_far
+module _ (rows : List OrderRow) (up : IsInOrder rows) (d : OrderRow) where
+  follows : (i j : ℕ) → i ≤ j → j < length rows → MayFollow (get_or rows i d) (get_or rows j d)
+  follows i j p q =
+      ⊎_elim (λ (same : i ≡ j). rw same (inr (refl, omega arith))) (λ (less : i < j). up i j d less q) (eq-or-lt_of_le p)
 
-  inside : (n : ℕ) (x : OrderRow) → Contains (take n rows) x → Contains rows x
-  inside n x c = All-contains (Contains rows) (take n rows) x (All-take (Contains rows) n rows (All-contains_itself rows)) c
-
-  repeated_more : first_repeated (take (i + 1) rows) ≡ earlier_of (first_repeated so_far) (repeating_row (first_row so_far now.order_no) now)
-  repeated_more =
-      ap first_repeated (take_more rows i d within)
-      ∙ first_repeated_push so_far now
-      (subst (TellsApart place_of) (take_more rows i d within) (λ x y p q e. TellsApart-from_distinct place_of rows distinct x y (inside (i + 1) x p)
-      (inside (i + 1) y q) e))
-      (λ y c e. both_ways _
-      (apart_from_distinct eqb (map place_of rows) c.0 i 0 distinct (omega (arith, c.1, length-take i rows)) (omega (arith, within, length-map rows place_of)))
-      (eq-eqb _ _ (get_or-map place_of rows c.0 y 0 (omega (arith, c.1, length-take i rows, within))
-      ∙ ap place_of (sym (get_or-take i rows c.0 y (omega (arith, c.1, length-take i rows))) ∙ c.2) ∙ e ∙ sym (get_or-map place_of rows i d 0 within))))
-
-  follows : MayFollow last now
-  follows = up (i - 1) i d (omega (arith, some)) within
-
-  -- each row so far stands at or before the last one
-  no_later : (y : OrderRow) → Contains so_far y → y.order_no ≤ last.order_no
-  no_later y c =
-      let below : c.0 < i = omega (arith, c.1, length-take i rows) in
-      let here : get_or rows c.0 d ≡ y = get_or_default rows c.0 d y (omega (arith, below, within)) ∙ (sym (get_or-take i rows c.0 y below) ∙ c.2) in
+  -- no row repeats a reference that the row before it doesn't give
+  pub is_new : (i : ℕ) → i < length rows → (0 < i → (get_or rows (i - 1) d).order_no ≢ (get_or rows i d).order_no)
+      → is_repeated rows (get_or rows i d) ≡ false
+  is_new i within differs = false_from_ne_true _ (λ h.
+      let r = repeated_by rows (get_or rows i d) h in
+      let there : get_or rows r.1.0 d ≡ r.0 = get_or_default rows r.1.0 d r.0 r.1.1 ∙ r.1.2 in
       ⊎_elim
-      (λ e. subst (λ (z : OrderRow). z.order_no ≤ last.order_no) here
-      (subst (λ k. (get_or rows c.0 d).order_no ≤ (get_or rows k d).order_no) e (omega arith)))
-      (λ r. ⊎_elim
-      (λ l. subst (λ (z : OrderRow). z.order_no ≤ last.order_no) here
-      (⊎_elim (λ less. omega (arith, less)) (λ tied. omega (arith, tied.0)) (up c.0 (i - 1) d l (omega (arith, within)))))
-      (λ l. absurd (omega (arith, l, below))) r)
-      (cases_order c.0 (i - 1))
+      (λ (before : r.1.0 < i).
+      let up_to_last = not_above (get_or rows r.1.0 d) (get_or rows (i - 1) d) (follows r.1.0 (i - 1) (omega arith) (omega arith)) in
+      let from_last = not_above (get_or rows (i - 1) d) (get_or rows i d) (follows (i - 1) i (omega arith) within) in
+      differs (omega arith) (omega (arith, up_to_last, from_last, r.2, ap (λ (z : OrderRow). z.order_no) there)))
+      (λ (after : i ≤ r.1.0).
+      ⊎_elim (λ less. absurd (omega (arith, less, r.2, ap (λ (z : OrderRow). z.order_no) there)))
+      (λ tied. absurd (omega (arith, tied.1, r.3, ap place_of there))) (follows i r.1.0 after r.1.1))
+      (cases_lt r.1.0 i))
 
-  last_so_far : Contains so_far last
-  last_so_far = (
-    i - 1,
-    omega (arith, some, within, length-take i rows),
-    get_or-take i rows (i - 1) last (omega (arith, some)) ∙ get_or_default rows (i - 1) last d (omega (arith, within)),
-  )
+  -- and each repeats the one that it gives
+  pub is_again : (i : ℕ) → 0 < i → i < length rows → IsDistinct eqb (map place_of rows) → (get_or rows (i - 1) d).order_no ≡ (get_or rows i d).order_no
+      → is_repeated rows (get_or rows i d) ≡ true
+  is_again i some within distinct same =
+      let n = length-map rows place_of in
+      let last : get_or (map place_of rows) (i - 1) 0 ≡ (get_or rows (i - 1) d).place = get_or-map place_of rows (i - 1) d 0 (omega arith) in
+      let now : get_or (map place_of rows) i 0 ≡ (get_or rows i d).place = get_or-map place_of rows i d 0 within in
+      let apart = apart_from_distinct eqb (map place_of rows) (i - 1) i 0 distinct (omega arith) (omega (arith, n)) in
+      let differ : (get_or rows (i - 1) d).place ≢ (get_or rows i d).place = λ e. both_ways _ apart (eq-eqb _ _ (last ∙ e ∙ sym now)) in
+      ⊎_elim (λ less. absurd (omega (arith, less, same)))
+      (λ tied. list_any_at (repeats (get_or rows i d)) rows (i - 1) d (omega arith)
+      (and_from _ _ (eq-eqb _ _ same) (lt-ltb _ _ (omega (arith, tied.1, differ)))))
+      (follows (i - 1) i (omega arith) within)
 
-  nothing_repeats : last.order_no ≢ now.order_no → (o : Option OrderRow) → IsLeastBy place_of of_it o → repeating_row o now ≡ None
-  nothing_repeats differs None h = refl
-  nothing_repeats differs (Some k) h =
-      let c = Contains-from_filter _ so_far k h.0 in
-      let same = eqb-true _ _ (passes_filter (λ (row : OrderRow). eqb row.order_no now.order_no) so_far k h.0) in
-      absurd (differs (⊎_elim (λ less. absurd (omega (arith, less, same, no_later k c))) (λ tied. tied.0) follows))
+-- ---- the first repeated row of the rows so far
 
-  itself_repeats : last.order_no ≡ now.order_no → (o : Option OrderRow) → IsLeastBy place_of of_it o → repeating_row o now ≡ Some now
-  itself_repeats same None h =
-      absurd (h last (Contains-filter (λ (row : OrderRow). eqb row.order_no now.order_no) so_far last last_so_far (eq-eqb _ _ same)))
-  itself_repeats same (Some k) h =
-      let low = h.1 last (Contains-filter (λ (row : OrderRow). eqb row.order_no now.order_no) so_far last last_so_far (eq-eqb _ _ same)) in
-      let next : last.place ≤ now.place = ⊎_elim (λ less. absurd (omega (arith, less, same))) (λ tied. tied.1) follows in
-      ap (λ b. Some (cond b k now)) (le-ltb now.place k.place (omega (arith, low, next)))
+abbrev pub so_far : List OrderRow → ℕ → Option OrderRow
+so_far rows i = least_by place_of (filter (is_repeated rows) (take i rows))
 
-  -- the first repeated row, where one more row gives another reference than the row before it
-  pub repeated_stays : (repeated : Option OrderRow) → repeated ≡ first_repeated so_far → last.order_no ≢ now.order_no
-      → repeated ≡ first_repeated (take (i + 1) rows)
-  repeated_stays repeated before differs =
-      sym (repeated_more ∙ ap (earlier_of (first_repeated so_far)) (nothing_repeats differs (first_row so_far now.order_no) (least_is place_of of_it))
-      ∙ earlier_none (first_repeated so_far) ∙ sym before)
+pub none_first : (rows : List OrderRow) → IsInOrder rows → None ≡ so_far rows 1
+none_first [] up = refl
+none_first (first ∷ rows) up = rw (is_new (first ∷ rows) up first 0 (omega arith) (λ some. absurd (omega arith))) refl
 
-  -- and where it gives the same
-  pub repeated_new : (repeated : Option OrderRow) (earlier : OrderRow) → repeated ≡ first_repeated so_far → last.order_no ≡ now.order_no
-      → earlier ≡ earlier_row repeated now → Some earlier ≡ first_repeated (take (i + 1) rows)
-  repeated_new repeated earlier before same chosen =
-      ap Some chosen
-      ∙ sym (earlier_is repeated now)
-      ∙ ap (λ o. earlier_of o (Some now)) before
-      ∙ sym (repeated_more ∙ ap (earlier_of (first_repeated so_far)) (itself_repeats same (first_row so_far now.order_no) (least_is place_of of_it)))
+module _ (rows : List OrderRow) (i : ℕ) (d : OrderRow) (within : i < length rows) where
+  -- those so far, and this row if it is one
+  abbrev with_it : Bool → List OrderRow
+  with_it again = filter (is_repeated rows) (take i rows) ++ cond again (get_or rows i d ∷ []) []
+
+  pub one_new : is_repeated rows (get_or rows i d) ≡ false → so_far rows (i + 1) ≡ so_far rows i
+  one_new new =
+      ap (least_by place_of) (filter_more (is_repeated rows) rows i d within ∙ ap with_it new ∙ append-nil (filter (is_repeated rows) (take i rows)))
+
+  pub one_again : is_repeated rows (get_or rows i d) ≡ true → so_far rows (i + 1) ≡ least_by place_of (option_to_list (so_far rows i) ++ get_or rows i d ∷ [])
+  one_again again =
+      ap (least_by place_of) (filter_more (is_repeated rows) rows i d within ∙ ap with_it again)
+      ∙ best_by-append _ (lesser_ranks place_of) _ (get_or rows i d ∷ []) ∙ with_one (so_far rows i)
+    where
+      with_one : (o : Option OrderRow)
+          → better_option _ (lesser_ranks place_of) o (Some (get_or rows i d)) ≡ least_by place_of (option_to_list o ++ get_or rows i d ∷ [])
+      with_one None = refl
+      with_one (Some row) = refl
 
 -- references that rise repeat none
 pub none_repeated : (rows : List OrderRow) → AllPairs (λ x y. x.order_no < y.order_no) rows → first_repeated rows ≡ None
-none_repeated rows up = go (first_repeated rows) (least_is place_of (filter (is_repeated rows) rows))
+none_repeated rows up = ap (least_by place_of) (none_pass (is_repeated rows) rows (λ k d within.
+    is_new rows (in_order_from_rising rows up) d k within (λ some same. absurd (omega (arith, same, up (k - 1) k d (omega arith) within)))))
   where
-    go : (o : Option OrderRow) → IsLeastBy place_of (filter (is_repeated rows) rows) o → o ≡ None
-    go None h = refl
-    go (Some x) h =
-        let c = Contains-from_filter (is_repeated rows) rows x h.0 in
-        let r = repeated_by rows x (passes_filter (is_repeated rows) rows x h.0) in
-        let b = r.1 in
-        let there : get_or rows c.0 x ≡ x = c.2 in
-        let other : get_or rows b.0 x ≡ r.0 = get_or_default rows b.0 x r.0 b.1 ∙ b.2 in
-        absurd (⊎_elim
-        (λ e. omega (arith, r.3, ap place_of (sym there ∙ (ap (λ k. get_or rows k x) e ∙ other))))
-        (λ s. ⊎_elim
-        (λ l. omega (arith, up c.0 b.0 x l b.1, ap (λ (z : OrderRow). z.order_no) there, ap (λ (z : OrderRow). z.order_no) other, r.2))
-        (λ l. omega (arith, up b.0 c.0 x l c.1, ap (λ (z : OrderRow). z.order_no) there, ap (λ (z : OrderRow). z.order_no) other, r.2)) s)
-        (cases_order c.0 b.0))
+    none_pass : (p : OrderRow → Bool) (xs : List OrderRow) → ((k : ℕ) (d : OrderRow) → k < length xs → p (get_or xs k d) ≡ false) → filter p xs ≡ []
+    none_pass p [] h = refl
+    none_pass p (x ∷ xs) h = rw (h 0 x (omega arith)) (none_pass p xs (λ k d l. h (suc k) d (omega arith)))
 
 -- the same rows in another order have the same first repeated row
 pub repeated_as_given : (rows sorted : List OrderRow) → IsDistinct eqb (map place_of rows) → IsPermutation rows sorted

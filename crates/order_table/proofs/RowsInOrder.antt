@@ -1,31 +1,33 @@
 -- Of rows in the order of their references: that a sort gives it, which row comes first, and what a search finds.
-use Rattle.std.proofs.Common.{◌≡◌, ℕ, zero, suc, ◌<◌, ◌≤◌, Bool, true, false, cond, eqb, ltb, List, [], ◌∷◌, length, get_or, Some, None, filter}
-use Rattle.std.proofs.Common.{Ordering, nat_cmp, IsPermutation, refl, sym, ap, ◌∙◌, subst, arith, map, ◌≢◌, ◌⊎◌, inl, ⊎_elim}
+use Rattle.std.proofs.Common.{◌≡◌, ℕ, suc, ◌<◌, ◌≤◌, Bool, true, false, cond, eqb, ltb, List, [], ◌∷◌, length, get_or, slice_get, Some, None, filter}
+use Rattle.std.proofs.Common.{Ordering, nat_cmp, IsPermutation, refl, sym, ap, ◌∙◌, arith, map, ◌≢◌, ◌⊎◌, inl, inr, ⊎_elim}
+use Rattle.std.proofs.Math.Nat.{eq-or-lt_of_le}
 use Rattle.std.specs.Cmp.{IsTotalOrder}
-use Rattle.std.specs.List.{All, AllPairs, AllAdjacentBelow, IsAllAdjacentAnswer, IsDistinct, find}
+use Rattle.std.specs.List.{All, AllPairs, IsAllAdjacentAnswer, IsDistinct, find}
 use Rattle.std.specs.List.Sorted.{IsNonDecreasingBy, IsPartitionPoint, IsSortedByKey}
 use Rattle.std.specs.Ordering.{is_lt, ordering_then}
-use Rattle.std.proofs.lemmas.Bool.{cases_order, both_ways, eq-eqb, eqb-true, eqb-false, ltb-true, ltb-false, lt-ltb, le-ltb}
+use Rattle.std.proofs.lemmas.Bool.{cases_Bool, cases_lt, eq-eqb, eqb-true, ltb-true, ltb-false, le-ltb, ne_eqb}
 use Rattle.std.proofs.lemmas.Bool.Decides.{nat_tests}
 use Rattle.std.proofs.lemmas.Cmp.{nat_cmp_total, on_total, then_total}
+use Rattle.std.proofs.lemmas.List.{get_or_default}
 use Rattle.std.proofs.lemmas.List.Elements.{All-filter, filter_passes}
+use Rattle.std.proofs.lemmas.List.Folds.{find_at}
 use Rattle.std.proofs.lemmas.List.Sorted.{sorted_far, ranks_by}
-use Rattle.lists.specs.Least.{least_of, least_by}
+use Rattle.std.proofs.lemmas.List.Sums.{position_or_len_is}
+use Rattle.std.proofs.lemmas.Map.Keys.{Less-from_sorted, sorted_from_all_adjacent}
+use Rattle.std.proofs.lemmas.Option.{slice_get-get_or}
+use Rattle.lists.specs.Least.{least_of}
 use Rattle.order_table.specs.Orders.{OrderRow, first_row}
 use Rattle.order_table.specs.RowsInOrder.{MayFollow, IsInOrder}
 use Rattle.lists.proofs.Lists.{IsPermutation-filter}
 use Rattle.lists.proofs.Least.{least_by-permutation}
 use Rattle.lists.proofs.Order.{TellsApart-filter, TellsApart-from_distinct}
-use Rattle.order_table.proofs.OneMoreRow.{place_of}
+
+abbrev pub place_of : OrderRow → ℕ
+place_of row = row.place
 
 abbrev number_of : OrderRow → ℕ
 number_of row = row.order_no
-
-pairs_tail : {X : Type 0} (R : X → X → Type 0) (x : X) (xs : List X) → AllPairs R (x ∷ xs) → AllPairs R xs
-pairs_tail R x xs h i j d p q = h (suc i) (suc j) d (omega (arith, p)) (omega (arith, q))
-
-pairs_head : {X : Type 0} (R : X → X → Type 0) (x : X) (xs : List X) → AllPairs R (x ∷ xs) → All (R x) xs
-pairs_head R x xs h k d l = h 0 (suc k) d (omega arith) (omega (arith, l))
 
 -- ---- what a sort gives
 
@@ -47,48 +49,24 @@ in_order_from_sorted rows up i j d p q =
 
 -- ---- references that rise
 
-below_on : {X : Type 0} (f : X → ℕ) (x y z : X) → ltb (f x) (f y) ≡ true → ltb (f y) (f z) ≡ true → ltb (f x) (f z) ≡ true
-below_on f x y z a b = lt-ltb _ _ (omega (arith, ltb-true _ _ a, ltb-true _ _ b))
-
--- of elements by a test that goes on from each to the next
-module _ {X : Type 0} (test : X → X → Bool) (goes_on : (x y z : X) → test x y ≡ true → test y z ≡ true → test x z ≡ true) (rows : List X) where
-  tested_pairs : AllAdjacentBelow (λ x y. true ≡ test x y) rows (length rows) → AllPairs (λ x y. test x y ≡ true) rows
-  tested_pairs h i zero d p q = absurd (omega (arith, p))
-  tested_pairs h i (suc j) d p q =
-      let one : test (get_or rows j d) (get_or rows (suc j) d) ≡ true =
-      subst (λ k. test (get_or rows j d) (get_or rows k d) ≡ true) (omega arith) (sym (h j d (omega (arith, q)))) in
-      ⊎_elim
-      (λ e. subst (λ k. test (get_or rows k d) (get_or rows (suc j) d) ≡ true) (sym e) one)
-      (λ r. ⊎_elim (λ l. goes_on _ _ _ (tested_pairs h i j d l (omega (arith, q))) one) (λ l. absurd (omega (arith, l, p))) r)
-      (cases_order i j)
-
-  pairs_from_answer : (all : Bool) → IsAllAdjacentAnswer (λ x y b. b ≡ test x y) rows all → all ≡ true → AllPairs (λ x y. test x y ≡ true) rows
-  pairs_from_answer true h e = tested_pairs h
-  pairs_from_answer false h e = absurd (both_ways false refl e)
-
 -- of elements by a number
 module _ {X : Type 0} (f : X → ℕ) (rows : List X) where
   pub rising_from_answer : (rises : Bool) → IsAllAdjacentAnswer (λ x y b. b ≡ ltb (f x) (f y)) rows rises
       → rises ≡ true → AllPairs (λ x y. f x < f y) rows
-  rising_from_answer rises h e i j d p q =
-      ltb-true _ _ (pairs_from_answer (λ x y. ltb (f x) (f y)) (below_on f) rows rises h e i j d p q)
-
-  pairs_do_not_fall : (R : X → X → Type 0) → ((x y : X) → R x y → f x ≤ f y) → AllPairs R rows → IsNonDecreasingBy f rows
-  pairs_do_not_fall R below up i j d p q =
-      ⊎_elim
-      (λ e. subst (λ k. f (get_or rows i d) ≤ f (get_or rows k d)) e (omega arith))
-      (λ r. ⊎_elim (λ l. below _ _ (up i j d l q)) (λ l. absurd (omega (arith, l, p))) r)
-      (cases_order i j)
+  rising_from_answer true h e = λ i j d p q.
+      let sorted = sorted_from_all_adjacent (on_total f nat_cmp_total) rows d (λ k within. let test = h k d within in grind (arith, nat_tests)) in
+      let less = Less-from_sorted (λ x y. nat_cmp (f x) (f y)) rows i j d sorted p q in grind (arith, nat_tests)
+  rising_from_answer false h e = absurd (cc)
 
   pub rising_does_not_fall : AllPairs (λ x y. f x < f y) rows → IsNonDecreasingBy f rows
-  rising_does_not_fall = pairs_do_not_fall (λ x y. f x < f y) (λ x y h. omega (arith, h))
+  rising_does_not_fall up i j d p q =
+      ⊎_elim (λ (e : i ≡ j). rw e (omega arith)) (λ (l : i < j). let below = up i j d l q in omega arith) (eq-or-lt_of_le p)
 
 pub in_order_from_rising : (rows : List OrderRow) → AllPairs (λ x y. x.order_no < y.order_no) rows → IsInOrder rows
 in_order_from_rising rows up i j d p q = inl (up i j d p q)
 
-pub references_do_not_fall : (rows : List OrderRow) → IsInOrder rows → IsNonDecreasingBy (λ row. row.order_no) rows
-references_do_not_fall rows =
-    pairs_do_not_fall number_of rows MayFollow (λ x y h. ⊎_elim (λ less. omega (arith, less)) (λ tied. omega (arith, tied.0)) h)
+pub not_above : (row next : OrderRow) → MayFollow row next → row.order_no ≤ next.order_no
+not_above row next h = ⊎_elim (λ less. omega (arith, less)) (λ tied. omega (arith, tied.0)) h
 
 -- ---- the first row of a reference
 
@@ -101,19 +79,19 @@ least_head row (other ∷ rows) low =
 -- in rows in order it comes first
 pub first_is_least : (rows : List OrderRow) (q : ℕ) → IsInOrder rows → find (λ row. eqb row.order_no q) rows ≡ first_row rows q
 first_is_least [] q up = refl
-first_is_least (row ∷ rows) q up = go (first_is_least rows q (pairs_tail MayFollow row rows up)) (eqb row.order_no q) refl
+first_is_least (row ∷ rows) q up =
+    let others = filter (λ (other : OrderRow). eqb other.order_no q) rows in
+    let more = first_is_least rows q (λ i j d p r. up (suc i) (suc j) d (omega arith) (omega arith)) in
+    elim (cases_Bool (eqb row.order_no q)) [
+      | inl e ↦ (rw e (ap Some (sym (least_head row others (low (eqb-true _ _ e))))))
+      | inr e ↦ (rw e more)
+    ]
   where
     low : row.order_no ≡ q → All (λ (other : OrderRow). row.place ≤ other.place) (filter (λ (other : OrderRow). eqb other.order_no q) rows)
     low e k d l =
         let passes = eqb-true _ _ (filter_passes (λ (other : OrderRow). eqb other.order_no q) rows k d l) in
         ⊎_elim (λ less. absurd (omega (arith, less, passes, e))) (λ tied. tied.1)
-        (All-filter (λ (other : OrderRow). eqb other.order_no q) (MayFollow row) rows (pairs_head MayFollow row rows up) k d l)
-
-    go : find (λ (other : OrderRow). eqb other.order_no q) rows ≡ first_row rows q → (b : Bool) → eqb row.order_no q ≡ b
-        → cond b (Some row) (find (λ (other : OrderRow). eqb other.order_no q) rows)
-        ≡ least_by place_of (let of_it = filter (λ (other : OrderRow). eqb other.order_no q) rows in cond b (row ∷ of_it) of_it)
-    go more true e = ap Some (sym (least_head row (filter (λ (other : OrderRow). eqb other.order_no q) rows) (low (eqb-true _ _ e))))
-    go more false e = more
+        (All-filter (λ (other : OrderRow). eqb other.order_no q) (MayFollow row) rows (λ i e r. up 0 (suc i) e (omega arith) (omega arith)) k d l)
 
 -- and so it does where they were given in another order
 pub first_as_given : (rows sorted : List OrderRow) (q : ℕ) → IsDistinct eqb (map place_of rows) → IsPermutation rows sorted → IsInOrder sorted
@@ -125,72 +103,39 @@ first_as_given rows sorted q distinct h up =
 
 -- ---- what a search finds
 
-none_above : (rows : List OrderRow) (q : ℕ) → All (λ row. q < row.order_no) rows → find (λ row. eqb row.order_no q) rows ≡ None
-none_above [] q above = refl
-none_above (row ∷ rows) q above = go (none_above rows q (λ k d l. above (suc k) d (omega (arith, l)))) (eqb row.order_no q) refl
-  where
-    go : find (λ (other : OrderRow). eqb other.order_no q) rows ≡ None → (b : Bool) → eqb row.order_no q ≡ b
-        → cond b (Some row) (find (λ (other : OrderRow). eqb other.order_no q) rows) ≡ None
-    go more true e = absurd (omega (arith, eqb-true _ _ e, above 0 row (omega arith)))
-    go more false e = more
-
 -- before the index are the rows of lesser references, from it on the others
 abbrev pub Point : List OrderRow → ℕ → ℕ → Type 0
 Point rows q i = IsPartitionPoint (λ row. ltb row.order_no q ≡ true) (λ row. ltb row.order_no q ≡ false) rows i
 
-tail_point : (row : OrderRow) (rows : List OrderRow) (q i : ℕ) → Point (row ∷ rows) q (suc i) → Point rows q i
-tail_point row rows q i h =
-    (λ k d a b. h.0 (suc k) d (omega arith) (omega (arith, b)), λ k d a b. h.1 (suc k) d (omega (arith, a)) (omega (arith, b)))
+abbrev gives : ℕ → OrderRow → Bool
+gives q row = eqb row.order_no q
 
-not_the_head : (row : OrderRow) (rows : List OrderRow) (q i : ℕ) → Point (row ∷ rows) q (suc i)
-    → find (λ other. eqb other.order_no q) (row ∷ rows) ≡ find (λ other. eqb other.order_no q) rows
-not_the_head row rows q i h = go (eqb row.order_no q) refl
-  where
-    go : (b : Bool) → eqb row.order_no q ≡ b
-        → cond b (Some row) (find (λ (other : OrderRow). eqb other.order_no q) rows) ≡ find (λ (other : OrderRow). eqb other.order_no q) rows
-    go true e = absurd (omega (arith, eqb-true _ _ e, ltb-true _ _ (h.0 0 row (omega arith) (omega arith))))
-    go false e = refl
-
-found_at : (rows : List OrderRow) (q i : ℕ) (d : OrderRow) → IsNonDecreasingBy (λ row. row.order_no) rows → Point rows q i → i < length rows
-    → find (λ row. eqb row.order_no q) rows ≡ cond (eqb (get_or rows i d).order_no q) (Some (get_or rows i d)) None
-found_at [] q i d up h within = absurd (omega (arith, within))
-found_at (row ∷ rows) q (suc i) d up h within =
-    not_the_head row rows q i h
-    ∙ found_at rows q i d (λ k l e a b. up (suc k) (suc l) e (omega (arith, a)) (omega (arith, b))) (tail_point row rows q i h) (omega (arith, within))
-found_at (row ∷ rows) q zero d up h within = go (eqb row.order_no q) refl
-  where
-    go : (b : Bool) → eqb row.order_no q ≡ b → cond b (Some row) (find (λ (other : OrderRow). eqb other.order_no q) rows) ≡ cond b (Some row) None
-    go true e = refl
-    go false e =
-        none_above rows q (λ k f l.
-        let least = ltb-false _ _ (h.1 0 row (omega arith) (omega arith)) in
-        ⊎_elim
-        (λ same. absurd (eqb-false _ _ e same))
-        (λ r. ⊎_elim
-        (λ less. absurd (omega (arith, less, least)))
-        (λ more. omega (arith, more, up 0 (suc k) f (omega arith) (omega (arith, l)))) r)
-        (cases_order row.order_no q))
-
-found_nowhere : (rows : List OrderRow) (q i : ℕ) → Point rows q i → length rows ≤ i → find (λ row. eqb row.order_no q) rows ≡ None
-found_nowhere [] q i h past = refl
-found_nowhere (row ∷ rows) q zero h past = absurd (omega (arith, past))
-found_nowhere (row ∷ rows) q (suc i) h past = not_the_head row rows q i h ∙ found_nowhere rows q i (tail_point row rows q i h) (omega (arith, past))
+none_gives : (rows : List OrderRow) (q : ℕ) → ((k : ℕ) (d : OrderRow) → k < length rows → (get_or rows k d).order_no ≢ q) → find (gives q) rows ≡ None
+none_gives [] q differ = refl
+none_gives (row ∷ rows) q differ =
+    rw (ne_eqb row.order_no q (differ 0 row (omega arith))) (none_gives rows q (λ k d l. differ (suc k) d (omega (arith, l))))
 
 module _ (rows read : List OrderRow) (e : read ≡ rows) (q at : ℕ) (up : IsNonDecreasingBy (λ row. row.order_no) rows) (point : Point rows q at) where
-  there : (row : OrderRow) → at < length read → row ≡ get_or read at row → find (λ other. eqb other.order_no q) rows ≡ cond (eqb row.order_no q) (Some row) None
-  there row within here =
-      found_at rows q at row up point (subst (λ l. at < length l) e within)
-      ∙ ap (λ (r : OrderRow). cond (eqb r.order_no q) (Some r) None) (sym (here ∙ ap (λ l. get_or l at row) e))
+  less : (k : ℕ) (d : OrderRow) → k < at → (get_or rows k d).order_no ≢ q
+  less k d below same = omega (arith, same, ltb-true _ _ (point.0 k d (omega arith) below))
+
+  none_at : (at < length rows → (d : OrderRow) → (get_or rows at d).order_no ≢ q) → None ≡ find (gives q) rows
+  none_at differs = sym (none_gives rows q (λ k d within. ⊎_elim (less k d)
+      (λ above same. differs (omega (arith, above, within)) d
+      (omega (arith, same, up at k d above within, ltb-false _ _ (point.1 at d (omega arith) (omega (arith, above, within))))))
+      (cases_lt k at)))
 
   pub found_itself : (row : OrderRow) → at < length read → row ≡ get_or read at row → row.order_no ≡ q → Some row ≡ find (λ other. eqb other.order_no q) rows
-  found_itself row within here same = sym (there row within here ∙ ap (λ b. cond b (Some row) None) (eq-eqb _ _ same))
+  found_itself row within here same =
+      let inside : at < length rows = omega (arith, within, ap length e) in
+      let now : row ≡ get_or rows at row = here ∙ ap (λ l. get_or l at row) e in
+      let first = position_or_len_is (gives q) rows at row (omega (arith, inside)) (λ k below. ne_eqb _ _ (less k row below))
+      (λ _. eq-eqb _ _ (ap number_of (sym now) ∙ same)) in
+      sym (find_at (gives q) rows ∙ ap (slice_get rows) first ∙ slice_get-get_or rows at row inside ∙ ap Some (sym now))
 
   pub found_another : (row : OrderRow) → at < length read → row ≡ get_or read at row → row.order_no ≢ q → None ≡ find (λ other. eqb other.order_no q) rows
-  found_another row within here other = sym (there row within here ∙ go (eqb row.order_no q) refl)
-    where
-      go : (b : Bool) → eqb row.order_no q ≡ b → cond b (Some row) None ≡ None
-      go true f = absurd (other (eqb-true _ _ f))
-      go false f = refl
+  found_another row within here other = none_at (λ inside d same.
+      other (ap number_of (here ∙ ap (λ l. get_or l at row) e ∙ get_or_default rows at row d inside) ∙ same))
 
   pub found_none : length read ≤ at → None ≡ find (λ other. eqb other.order_no q) rows
-  found_none past = sym (found_nowhere rows q at point (subst (λ l. length l ≤ at) e past))
+  found_none past = none_at (λ inside d same. absurd (omega (arith, inside, past, ap length e)))

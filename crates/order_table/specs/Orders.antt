@@ -1,7 +1,6 @@
 -- Order rows: which row prices a reference, which row repeats one, and what a table keeps.
 -- To be believed.
-use Rattle.std.specs.Prelude.{◌≡◌, ℕ, ◌==◌, nat_lt, Bool, ◌&&◌, if◌then◌else◌}
-use Rattle.std.specs.Prelude.{List, Option, Some, None, filter}
+use Rattle.std.specs.Prelude.{◌≡◌, ℕ, ◌==◌, nat_lt, Bool, ◌&&◌, if◌then◌else◌, List, Option, Some, None, filter}
 use Rattle.std.specs.List.{find, list_any}
 pub use Rattle.row_types.specs.declared.order.OrderRow.{OrderRow}
 pub use Rattle.order_table.specs.declared.table.OrderTable.{OrderTable}

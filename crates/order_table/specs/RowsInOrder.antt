@@ -1,7 +1,6 @@
 -- The order in which a table has its rows: by reference, and those of one reference by place.
 -- Derived: it says how the code has its rows, and no answer is defined by it.
-use Rattle.std.specs.Prelude.{◌≡◌, ◌⊎◌, ◌<◌, ◌≤◌, List}
-use Rattle.std.specs.List.{AllPairs}
+use Rattle.std.specs.Prelude.{◌≡◌, ◌⊎◌, ◌<◌, ◌≤◌, List, AllPairs}
 use Rattle.order_table.specs.Orders.{OrderRow}
 
 -- the second row may come after the first

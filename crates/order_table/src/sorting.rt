@@ -1,12 +1,13 @@
 //! Rows in the order of their references.
-ghost use Rattle.std.specs.Prelude.{◌≡◌, ◌<◌, IsTrue, map, nat_eq};
+ghost use Rattle.std.specs.Prelude.{◌≡◌, ◌<◌, ◌++◌, ◌∷◌, [], IsTrue, Some, map, nat_eq, option_to_list};
 ghost use Rattle.std.specs.List.{AllPairs, IsDistinct};
 ghost use Rattle.std.specs.List.Sorted.{IsPermutation};
-ghost use Rattle.order_table.specs.OneMoreRow.{earlier_row};
+ghost use Rattle.lists.specs.Least.{least_by};
 ghost use Rattle.order_table.specs.Orders.{first_repeated};
 ghost use Rattle.order_table.specs.RowsInOrder.{IsInOrder};
 
 use row_types::OrderRow;
+use std::alloc::Allocator;
 
 /// Whether each reference is above those before it.
 pub(crate) fn rises(rows: &[OrderRow]) -> bool
@@ -16,9 +17,9 @@ pub(crate) fn rises(rows: &[OrderRow]) -> bool
 }
 
 /// Puts the rows in order: by their references, and those of one reference by their places. It takes no memory.
-pub(crate) fn put_in_order(rows: &mut [OrderRow])
-    ensures permutation { IsPermutation rows.old rows.new }
-    ensures in_order { IsInOrder rows.new }
+pub(crate) fn put_in_order<A: Allocator>(rows: &mut Vec<OrderRow, A>)
+    ensures permutation { IsPermutation rows.old.items rows.new.items }
+    ensures in_order { IsInOrder rows.new.items }
 {
     rows.sort_unstable_by_key(|row: &OrderRow| (row.order_no, row.place));
 }
@@ -41,7 +42,7 @@ pub(crate) fn first_repeated(rows: &[OrderRow]) -> Option<OrderRow>
 
 /// The earlier of the row so far, if there is one, and one more.
 fn earlier(kept: Option<OrderRow>, row: OrderRow) -> OrderRow
-    ensures { result ≡ earlier_row kept row }
+    ensures { Some result ≡ least_by (λ row. row.place) (option_to_list kept ++ row ∷ []) }
 {
     match kept {
         Some(kept) if kept.place <= row.place => kept,

@@ -54,20 +54,24 @@ impl<A: Allocator + Clone> OrderTable<A> {
         ensures table { IsTableOf rows.items result.table }
         ensures repeated { result.repeated ≡ option_map repeated_of (first_repeated rows.items) }
     {
-        let repeated = if rises(&rows) {
-            None
-        } else {
-            put_in_order(rows.as_mut_slice());
-            first_repeated(&rows)
-        };
+        if rises(&rows) {
+            return Built {
+                table: OrderTable {
+                    rows: SortedRows::new(rows),
+                },
+                repeated: None,
+            };
+        }
+        put_in_order(&mut rows);
+        let repeated = first_repeated(&rows).map(|row| Repeated {
+            place: row.place,
+            order_no: row.order_no,
+        });
         Built {
             table: OrderTable {
                 rows: SortedRows::new(rows),
             },
-            repeated: repeated.map(|row| Repeated {
-                place: row.place,
-                order_no: row.order_no,
-            }),
+            repeated,
         }
     }
 

@@ -6,7 +6,7 @@ use Rattle.lists.proofs.Lists.{filters_commute, filter_map_on_filter}
 use Rattle.lists.proofs.Order.{TellsApart-filter}
 use Rattle.lists.proofs.Parts.{least_of_parts}
 use Rattle.order_table.specs.Parts.{part_rows}
-use Rattle.order_table.proofs.PartRows.{price_in_part}
+use Rattle.order_table.proofs.PartRows.{price_where}
 use Rattle.probe.specs.Parts.{part_executions}
 use Rattle.probe.specs.Pricing.{Execution, first_unknown, is_unknown, priced, sale_at, sale_of}
 
@@ -15,7 +15,7 @@ pub priced_in_part : (n b : ℕ) (rows : List OrderRow) (executions : List Execu
     → priced (part_rows n rows b) (part_executions n executions b) ≡ priced rows (part_executions n executions b)
 priced_in_part n b rows executions =
     filter_map_on_filter (sale_of (part_rows n rows b)) (sale_of rows) (λ (execution : Execution). eqb (execution.order_no % n) b)
-    (λ execution h. ap (option_map (sale_at execution)) (price_in_part n b rows execution.order_no execution.place h)) executions
+    (λ execution h. ap (option_map (sale_at execution)) (price_where (λ order_no. eqb (order_no % n) b) rows execution.order_no execution.place h)) executions
 
 -- and the least of the parts' first unknown executions is the whole's
 pub first_unknown_of_parts : (n : ℕ) (rows : List OrderRow) (executions : List Execution) → 0 < n → TellsApart (λ execution. execution.place) executions
@@ -30,4 +30,4 @@ first_unknown_of_parts n rows executions some apart =
         ≡ least_by (λ execution. execution.place) (part_executions n (filter (is_unknown rows) executions) b)
     each b = ap (least_by (λ (execution : Execution). execution.place))
         (filters_commute (is_unknown (part_rows n rows b)) (is_unknown rows) (λ (execution : Execution). eqb (execution.order_no % n) b)
-        (λ execution h. ap is_none (price_in_part n b rows execution.order_no execution.place h)) executions)
+        (λ execution h. ap is_none (price_where (λ order_no. eqb (order_no % n) b) rows execution.order_no execution.place h)) executions)

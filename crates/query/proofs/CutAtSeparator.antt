@@ -1,7 +1,6 @@
 -- A text is parted at its first separator.
-use Rattle.std.proofs.Common.{◌≡◌, ℕ, ◌+◌, ◌-◌, ◌^◌, ◌<◌, Bool, true, false, cond, List, [], ◌∷◌, length, take, drop, Option, Some, None, refl}
-use Rattle.std.proofs.Common.{◌∙◌, subst, arith, ltb, nat_lt}
-use Rattle.std.specs.Prelude.{position, ◌==◌, MatchOption}
+use Rattle.std.proofs.Common.{◌≡◌, ℕ, ◌+◌, ◌-◌, ◌^◌, ◌<◌, Bool, true, false, cond, List, [], ◌∷◌, length, take, drop, Option, Some, None, refl, ◌∙◌, subst}
+use Rattle.std.proofs.Common.{arith, ltb, nat_lt, position, ◌==◌, MatchOption, Bor}
 use Rattle.std.specs.List.{position_or_len}
 use Rattle.std.proofs.lemmas.List.Splits.{slice_split_first, slice_split_none}
 use Rattle.std.proofs.lemmas.List.{take_rest}
@@ -10,7 +9,6 @@ use Rattle.std.proofs.lemmas.Bool.{cond-true, cond-false, false_from_ne_true}
 use Rattle.std.proofs.lemmas.Bool.Decides.{nat_tests}
 use Rattle.std.proofs.lemmas.List.Sums.{fails_before_first}
 use borrow.Author.Tests.{ltb-true, ltb-false}
-use Rattle.std.specs.Borrow.{Bor}
 use Rattle.query.specs.Words.{word, parts, words_from}
 use Rattle.query.specs.TextLeft.{after_part, words_left, IsInText}
 

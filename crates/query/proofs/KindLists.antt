@@ -5,8 +5,7 @@ use Rattle.std.proofs.lemmas.Bool.{and_parts}
 use Rattle.std.proofs.lemmas.Option.{cond_some}
 use Rattle.query.specs.Words.{parts}
 use Rattle.query.specs.Values.{is_kind, letters_of, kinds_of}
-use Rattle.meaning.specs.Meaning.{has_some}
-use Rattle.probe.specs.declared.selection.Kinds.{Kinds}
+use Rattle.meaning.specs.Meaning.{Kinds, has_some}
 use Rattle.query.proofs.WordByWord.{reading}
 
 -- a kind's first byte is a letter

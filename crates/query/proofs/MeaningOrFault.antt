@@ -8,13 +8,12 @@ use Rattle.query.specs.Values.{count_of, unit_of, time_of, symbols_of, kinds_of}
 use Rattle.meaning.specs.Meaning.{Meaning, is_width}
 use Rattle.query.specs.Said.{Said, meaning_of}
 use Rattle.query.specs.Taken.{IsRefused}
-use Rattle.query.specs.Grammar.{Conditions, More, Filter, Moment, Means}
-use Rattle.query.specs.Grammar.{symbol, time, kind, done, further, all, those, any_moment, up_to, sales, bars}
-use Rattle.query.specs.Faults.{Next, Step, expecting, valued, opening, step, ended, continued, read_from}
+use Rattle.query.specs.Grammar.{Conditions, Linked, Moment, Means}
+use Rattle.query.specs.Grammar.{symbol, time, kind, done, further, any_moment, up_to, sales, bars}
+use Rattle.query.specs.Faults.{Next, QueryFault, Step, continued, ended, expecting, opening, read_from, step, valued}
 use Rattle.query.specs.Faults.{first_query_fault}
-use Rattle.query.specs.Faults.{query, number, unit, moment, of_after_as, moment_time, filter, condition, symbol_in, symbols, time_from, first_time}
-use Rattle.query.specs.Faults.{time_until, second_time, kind_in, kinds, more}
-use Rattle.outcomes.specs.declared.query_fault.QueryFault.{QueryFault}
+use Rattle.query.specs.Faults.{query, number, unit, moment, of_after_as, moment_time, condition, symbol_in, symbols, time_from, first_time}
+use Rattle.query.specs.Faults.{time_until, second_time, kind_in, kinds, linked}
 use Rattle.outcomes.specs.declared.query_fault.QueryFault.TheVariants.{UnknownWord, OutOfMemory}
 
 -- ---- what the grammar gives a meaning is read
@@ -23,24 +22,19 @@ mutual
   unfolding read_from step
 
   pub conditions_read : {said : Said} {ws : List Word} {q : Meaning} → Conditions said ws q → read_from (condition said) ws ≡ Ok q
-  conditions_read (symbol new list rest) = rw (new, list) (more_read rest)
-  conditions_read (time new first second rises rest) = rw (new, first, second, rises) (more_read rest)
-  conditions_read (kind new list rest) = rw (new, list) (more_read rest)
+  conditions_read (symbol new list rest) = rw (new, list) (linked_read rest)
+  conditions_read (time new first second rises rest) = rw (new, first, second, rises) (linked_read rest)
+  conditions_read (kind new list rest) = rw (new, list) (linked_read rest)
 
-  pub more_read : {said : Said} {ws : List Word} {q : Meaning} → More said ws q → read_from (more said) ws ≡ Ok q
-  more_read done = refl
-  more_read (further rest) = conditions_read rest
-
-pub filter_read : {said : Said} {ws : List Word} {q : Meaning} → Filter said ws q → read_from (filter said) ws ≡ Ok q
-unfolding read_from step
-filter_read all = refl
-filter_read (those rest) = conditions_read rest
+  pub linked_read : {link : List ℕ} {said : Said} {ws : List Word} {q : Meaning} → Linked link said ws q → read_from (linked link said) ws ≡ Ok q
+  linked_read done = refl
+  linked_read {link} (further rest) = rw ((bytes_eq-Decides link link).1 refl) (conditions_read rest)
 
 pub moment_read : {said : Said} {ws : List Word} {q : Meaning} → Moment said ws q → read_from (moment said) ws ≡ Ok q
 unfolding read_from step
-moment_read (any_moment all) = refl
-moment_read (any_moment (those rest)) = conditions_read rest
-moment_read (up_to last rest) = rw last (filter_read rest)
+moment_read (any_moment done) = refl
+moment_read (any_moment (further rest)) = conditions_read rest
+moment_read (up_to last rest) = rw last (linked_read rest)
 
 pub means_read : {ws : List Word} {q : Meaning} → Means ws q → read_from query ws ≡ Ok q
 unfolding read_from step
@@ -57,7 +51,6 @@ Completes (unit at count) ws q = (a : ℕ) (bytes : List ℕ) → count_of bytes
 Completes (moment said) ws q = Moment said ws q
 Completes (of_after_as said) ws q = (a : ℕ) → Moment said (word a (codes "as") ∷ ws) q
 Completes (moment_time said) ws q = (a b : ℕ) → Moment said (word a (codes "as") ∷ word b (codes "of") ∷ ws) q
-Completes (filter said) ws q = Filter said ws q
 Completes (condition said) ws q = Conditions said ws q
 Completes (symbol_in said) ws q = (a : ℕ) → said.symbols ≡ None → Conditions said (word a (codes "symbol") ∷ ws) q
 Completes (symbols said) ws q = (a b : ℕ) → said.symbols ≡ None → Conditions said (word a (codes "symbol") ∷ word b (codes "in") ∷ ws) q
@@ -69,7 +62,7 @@ Completes (second_time said since) ws q = (a b c d : ℕ) (first : List ℕ) →
     → Conditions said (word a (codes "time") ∷ word b (codes "from") ∷ word c first ∷ word d (codes "until") ∷ ws) q
 Completes (kind_in said) ws q = (a : ℕ) → said.kinds ≡ None → Conditions said (word a (codes "kind") ∷ ws) q
 Completes (kinds said) ws q = (a b : ℕ) → said.kinds ≡ None → Conditions said (word a (codes "kind") ∷ word b (codes "in") ∷ ws) q
-Completes (more said) ws q = More said ws q
+Completes (linked link said) ws q = Linked link said ws q
 
 -- the words that come after a step complete those before them
 abbrev Follows : Step → List Word → Meaning → Type 0
@@ -120,11 +113,10 @@ completed (unit at count) w ws q h = λ a bytes is_count.
 completed (moment said) w ws q h =
     elim (either (codes "as") w _ _ ws q h) [
       | inl x ↦ rw x.0 (x.1 w.at)
-      | inr x ↦ let where_word = expected (codes "where") (condition said) w ws q x in rw where_word.0 (any_moment (those where_word.1))
+      | inr x ↦ let where_word = expected (codes "where") (condition said) w ws q x in rw where_word.0 (any_moment (further where_word.1))
     ]
 completed (of_after_as said) w ws q h = λ a. let x = expected (codes "of") (moment_time said) w ws q h in rw x.0 (x.1 a w.at)
 completed (moment_time said) w ws q h = λ a b. let x = has_value (time_of w.bytes) _ _ ws q h in up_to x.1 x.2
-completed (filter said) w ws q h = let x = expected (codes "where") (condition said) w ws q h in rw x.0 (those x.1)
 completed (condition said) w ws q h =
     elim (either (codes "symbol") w _ _ ws q h) [
       | inl x ↦ let new = is_new said.symbols w (symbol_in said) ws q x.1 in rw x.0 (new.1 w.at new.0)
@@ -145,12 +137,11 @@ completed (second_time said since) w ws q h = λ a b c d first new is_first.
     let rises = passed (nat_lt since x.0) _ _ ws q x.2 in time new is_first x.1 rises.0 rises.1
 completed (kind_in said) w ws q h = λ a new. let x = expected (codes "in") (kinds said) w ws q h in rw x.0 (x.1 a w.at new)
 completed (kinds said) w ws q h = λ a b new. let x = has_value (kinds_of w.bytes) _ _ ws q h in kind new x.1 x.2
-completed (more said) w ws q h = let x = expected (codes "and") (condition said) w ws q h in rw x.0 (further x.1)
+completed (linked link said) w ws q h = let x = expected link (condition said) w ws q h in rw x.0 (further x.1)
 
 ended_so : (next : Next) (q : Meaning) → ended next ≡ Ok q → Completes next [] q
-ended_so (moment said) q e = let same : meaning_of said ≡ q = cc in subst (λ m. Moment said [] m) same (any_moment all)
-ended_so (filter said) q e = let same : meaning_of said ≡ q = cc in subst (λ m. Filter said [] m) same all
-ended_so (more said) q e = let same : meaning_of said ≡ q = cc in subst (λ m. More said [] m) same done
+ended_so (moment said) q e = let same : meaning_of said ≡ q = cc in subst (λ m. Moment said [] m) same (any_moment done)
+ended_so (linked link said) q e = let same : meaning_of said ≡ q = cc in subst (λ m. Linked link said [] m) same done
 ended_so _ q e = absurd (cc)
 
 pub read_means : (ws : List Word) (next : Next) (q : Meaning) → read_from next ws ≡ Ok q → Completes next ws q

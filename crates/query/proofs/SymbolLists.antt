@@ -1,6 +1,5 @@
 -- Lists of symbols, part by part.
-use Rattle.std.proofs.Common.{◌≡◌, ◌==◌, ℕ, true, List, length, nat_lt, arith, append-nil}
-use Rattle.std.proofs.lemmas.Bool.{lt-ltb}
+use Rattle.std.proofs.Common.{◌≡◌, ◌==◌, ℕ, true, List, length, nat_lt, arith, append-nil, lt-ltb}
 use Rattle.std.proofs.lemmas.List.Folds.{list_all-append}
 use Rattle.std.proofs.lemmas.List.Splits.{length-slice_split}
 use Rattle.query.specs.Words.{parts}

@@ -1,11 +1,9 @@
 -- What words lead to, one word after another, as a parser takes them.
-use Rattle.std.proofs.Common.{◌≡◌, ◌≢◌, ◌&&◌, List, [], ◌∷◌, refl, ap, ◌∙◌, arith}
-use Rattle.std.specs.Prelude.{Ok, Err, codes}
+use Rattle.std.proofs.Common.{◌≡◌, ◌≢◌, ◌&&◌, List, [], ◌∷◌, refl, ap, ◌∙◌, arith, Ok, Err, codes}
 use Rattle.std.proofs.lemmas.Bool.{or_right}
 use Rattle.query.specs.Words.{Word, reads_as, begins_list}
-use Rattle.query.specs.Faults.{Next, Step, step, ended, continued, read_from}
+use Rattle.query.specs.Faults.{Next, QueryFault, Step, continued, ended, read_from, step}
 use Rattle.query.specs.Taken.{IsLater, IsRefused}
-use Rattle.outcomes.specs.declared.query_fault.QueryFault.{QueryFault}
 use Rattle.outcomes.specs.declared.query_fault.QueryFault.TheVariants.{OutOfMemory}
 
 pub reads : (next : Next) (w : Word) (rest : List Word) → read_from next (w ∷ rest) ≡ continued (step next w) (λ t. read_from t rest)

@@ -6,11 +6,11 @@ use Rattle.std.specs.Result.{result_err}
 use Rattle.query.specs.Words.{Word, reads_as}
 use Rattle.query.specs.Values.{count_of, unit_of, time_of, symbols_of, kinds_of}
 use Rattle.meaning.specs.Meaning.{Meaning, is_width}
+use Rattle.meaning.specs.declared.query.What.TheVariants.{Bars, Sales}
 use Rattle.query.specs.Said.{Said, only, meaning_of}
-use Rattle.meaning.specs.declared.query.What.TheVariants.{Sales, Bars}
-use Rattle.outcomes.specs.declared.query_fault.QueryFault.{QueryFault}
-use Rattle.outcomes.specs.declared.query_fault.QueryFault.TheVariants.{UnknownWord, BadNumber, BadTime, Repeated, Incomplete}
-use Rattle.outcomes.specs.declared.query_fault.QueryFault.TheVariants.{EmptyRange}
+pub use Rattle.outcomes.specs.declared.query_fault.QueryFault.{QueryFault}
+pub use Rattle.outcomes.specs.declared.query_fault.QueryFault.TheVariants.{UnknownWord, BadNumber, BadTime, Repeated}
+pub use Rattle.outcomes.specs.declared.query_fault.QueryFault.TheVariants.{EmptyRange, Incomplete}
 
 -- what must come next, after what was said
 pub data Next : Type 0 where
@@ -22,8 +22,6 @@ pub data Next : Type 0 where
   moment : Said → Next
   of_after_as : Said → Next
   moment_time : Said → Next
-  -- the end, or `where`
-  filter : Said → Next
   condition : Said → Next
   symbol_in : Said → Next
   symbols : Said → Next
@@ -34,8 +32,8 @@ pub data Next : Type 0 where
   second_time : Said → ℕ → Next
   kind_in : Said → Next
   kinds : Said → Next
-  -- the end, or `and`
-  more : Said → Next
+  -- the end, or this word and conditions
+  linked : List ℕ → Said → Next
 
 -- what one word leads to: what must come next, or a fault
 abbrev pub Step : Type 0
@@ -83,7 +81,7 @@ wide at width = if is_width width then Ok (moment (only (Bars width))) else Err 
 abbrev pub bounded : Said → ℕ → ℕ → Step
 bounded said since until =
     if nat_lt since until
-    then Ok (more (record said { span = Some (record { since = since; until = until }) }))
+    then Ok (linked (codes "and") (record said { span = Some (record { since = since; until = until }) }))
     else Err EmptyRange
 
 -- what one more word leads to: what must come next then, or a fault
@@ -96,13 +94,12 @@ step (moment said) w = narrows said w
 step (of_after_as said) w = expecting (codes "of") (moment_time said) w
 step (moment_time said) w =
     valued (time_of w.bytes) (BadTime w.at) (λ time.
-    Ok (filter (record said { as_of = Some time })))
-step (filter said) w = expecting (codes "where") (condition said) w
+    Ok (linked (codes "where") (record said { as_of = Some time })))
 step (condition said) w = opens said w
 step (symbol_in said) w = expecting (codes "in") (symbols said) w
 step (symbols said) w =
     valued (symbols_of w.bytes) (UnknownWord w.at) (λ names.
-    Ok (more (record said { symbols = Some names })))
+    Ok (linked (codes "and") (record said { symbols = Some names })))
 step (time_from said) w = expecting (codes "from") (first_time said) w
 step (first_time said) w =
     valued (time_of w.bytes) (BadTime w.at) (λ since. Ok (time_until said since))
@@ -111,14 +108,13 @@ step (second_time said since) w = valued (time_of w.bytes) (BadTime w.at) (bound
 step (kind_in said) w = expecting (codes "in") (kinds said) w
 step (kinds said) w =
     valued (kinds_of w.bytes) (UnknownWord w.at) (λ some.
-    Ok (more (record said { kinds = Some some })))
-step (more said) w = expecting (codes "and") (condition said) w
+    Ok (linked (codes "and") (record said { kinds = Some some })))
+step (linked link said) w = expecting link (condition said) w
 
 -- what the end of the text leads to: the query, or the fault of an incomplete one
 abbrev pub ended : Next → Result Meaning QueryFault
 ended (moment said) = Ok (meaning_of said)
-ended (filter said) = Ok (meaning_of said)
-ended (more said) = Ok (meaning_of said)
+ended (linked link said) = Ok (meaning_of said)
 ended _ = Err Incomplete
 
 -- what comes after a step, or the step's fault

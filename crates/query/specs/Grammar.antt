@@ -4,10 +4,9 @@
 use Rattle.std.specs.Prelude.{◌≡◌, ℕ, ◌*◌, nat_lt, true, List, [], ◌∷◌, Some, None, codes}
 use Rattle.query.specs.Words.{Word, word}
 use Rattle.query.specs.Values.{count_of, unit_of, time_of, symbols_of, kinds_of}
-use Rattle.meaning.specs.Meaning.{Meaning, is_width}
+use Rattle.meaning.specs.Meaning.{Kinds, Meaning, is_width}
+use Rattle.meaning.specs.declared.query.What.TheVariants.{Bars, Sales}
 use Rattle.query.specs.Said.{Said, only, meaning_of}
-use Rattle.meaning.specs.declared.query.What.TheVariants.{Sales, Bars}
-use Rattle.probe.specs.declared.selection.Kinds.{Kinds}
 
 mutual
   -- the words after `where` or `and`, and the query that they make of what was said before them
@@ -16,7 +15,7 @@ mutual
         {said : Said} {a b c : ℕ} {list : List ℕ} {names : List (List ℕ)}
         {rest : List Word} {query : Meaning}
         → said.symbols ≡ None → symbols_of list ≡ Some names
-        → More (record said { symbols = Some names }) rest query
+        → Linked (codes "and") (record said { symbols = Some names }) rest query
         → Conditions said
         (word a (codes "symbol") ∷ word b (codes "in") ∷ word c list ∷ rest) query
     time :
@@ -24,7 +23,7 @@ mutual
         {rest : List Word} {query : Meaning}
         → said.span ≡ None → time_of first ≡ Some since → time_of second ≡ Some until
         → nat_lt since until ≡ true
-        → More (record said { span = Some (record { since = since; until = until }) }) rest query
+        → Linked (codes "and") (record said { span = Some (record { since = since; until = until }) }) rest query
         → Conditions said
         (word a (codes "time") ∷ word b (codes "from") ∷ word c first
         ∷ word d (codes "until") ∷ word e second ∷ rest) query
@@ -32,32 +31,25 @@ mutual
         {said : Said} {a b c : ℕ} {list : List ℕ} {kinds : Kinds}
         {rest : List Word} {query : Meaning}
         → said.kinds ≡ None → kinds_of list ≡ Some kinds
-        → More (record said { kinds = Some kinds }) rest query
+        → Linked (codes "and") (record said { kinds = Some kinds }) rest query
         → Conditions said
         (word a (codes "kind") ∷ word b (codes "in") ∷ word c list ∷ rest) query
 
-  -- the words after a condition: none, or `and` and further conditions
-  pub data More : Said → List Word → Meaning → Type 0 where
-    done : {said : Said} → More said [] (meaning_of said)
+  -- the words where conditions may follow: none, or the word before them, `where` or `and`, and conditions
+  pub data Linked : List ℕ → Said → List Word → Meaning → Type 0 where
+    done : {link : List ℕ} {said : Said} → Linked link said [] (meaning_of said)
     further :
-        {said : Said} {a : ℕ} {rest : List Word} {query : Meaning}
-        → Conditions said rest query → More said (word a (codes "and") ∷ rest) query
+        {link : List ℕ} {said : Said} {a : ℕ} {rest : List Word} {query : Meaning}
+        → Conditions said rest query → Linked link said (word a link ∷ rest) query
 
--- the words after what is listed and its moment: none, or `where` and conditions
-pub data Filter : Said → List Word → Meaning → Type 0 where
-  all : {said : Said} → Filter said [] (meaning_of said)
-  those :
-      {said : Said} {a : ℕ} {rest : List Word} {query : Meaning}
-      → Conditions said rest query → Filter said (word a (codes "where") ∷ rest) query
-
--- the words after what is listed: a filter, with `as of` and a time before it or not
+-- the words after what is listed: conditions after `where` or none, with `as of` and a time before it or not
 pub data Moment : Said → List Word → Meaning → Type 0 where
   any_moment :
       {said : Said} {rest : List Word} {query : Meaning}
-      → Filter said rest query → Moment said rest query
+      → Linked (codes "where") said rest query → Moment said rest query
   up_to :
       {said : Said} {a b c : ℕ} {moment : List ℕ} {time : ℕ} {rest : List Word} {query : Meaning}
-      → time_of moment ≡ Some time → Filter (record said { as_of = Some time }) rest query
+      → time_of moment ≡ Some time → Linked (codes "where") (record said { as_of = Some time }) rest query
       → Moment said (word a (codes "as") ∷ word b (codes "of") ∷ word c moment ∷ rest) query
 
 -- the grammar of a whole query, a rule for each of its forms: these words mean this query

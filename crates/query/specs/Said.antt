@@ -1,10 +1,8 @@
 -- The part of a query that was read.
 -- To be believed.
 use Rattle.std.specs.Prelude.{◌≡◌, ℕ, true, List, Option, Some, None, unwrap_or}
-use Rattle.meaning.specs.Meaning.{IsSound, Meaning, has_some}
+use Rattle.meaning.specs.Meaning.{IsSound, Kinds, Meaning, Span, has_some}
 use Rattle.meaning.specs.declared.query.What.{What}
-use Rattle.probe.specs.declared.selection.Kinds.{Kinds}
-use Rattle.probe.specs.declared.selection.Span.{Span}
 
 -- the part of a query that was read; a moment or condition that wasn't given is `None`
 pub record Said : Type 0 where

@@ -2,8 +2,7 @@
 -- Derived: it follows the code, and only private functions cite it.
 use Rattle.std.specs.Prelude.{◌≡◌, ◌≢◌, ◌<◌, true, List, length, Err}
 use Rattle.query.specs.Words.{Word, lists_symbols}
-use Rattle.query.specs.Faults.{Next, read_from}
-use Rattle.outcomes.specs.declared.query_fault.QueryFault.{QueryFault}
+use Rattle.query.specs.Faults.{Next, QueryFault, read_from}
 use Rattle.outcomes.specs.declared.query_fault.QueryFault.TheVariants.{OutOfMemory}
 
 -- the rest of some words, once one or more were taken: it lists symbols only where they do

@@ -1,10 +1,9 @@
 -- Words that stand for a value.
 -- To be believed.
-use Rattle.std.specs.Prelude.{ℕ, ◌+◌, ◌-◌, ◌*◌, ◌==◌, nat_lt, nat_le, Bool, ◌&&◌, ◌||◌, if◌then◌else◌, List}
-use Rattle.std.specs.Prelude.{length, fold, Option, Some, None, option_and_then, slice_index, codes}
+use Rattle.std.specs.Prelude.{ℕ, ◌+◌, ◌-◌, ◌*◌, ◌==◌, nat_lt, nat_le, Bool, ◌&&◌, ◌||◌, if◌then◌else◌, List, length}
+use Rattle.std.specs.Prelude.{fold, Option, Some, None, option_and_then, slice_index, codes, bytes_eq}
 use Rattle.std.specs.Char.{is_ascii_digit}
 use Rattle.std.specs.List.{list_all, list_any}
-use Rattle.std.specs.Str.{bytes_eq}
 use Rattle.query.specs.Words.{parts}
 use Rattle.meaning.specs.Symbols.{is_symbol}
 use Rattle.lists.specs.declared.limits.TheConstants.{SECONDS_OF_DAY}

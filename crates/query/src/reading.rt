@@ -1,6 +1,6 @@
 //! The part of a query that was read.
-ghost use Rattle.std.specs.Prelude.{◌≡◌, ◌≢◌, true, IfErr, OnOk, Ok, Err};
-ghost use Rattle.query.specs.Faults.{condition, filter, kind_in, moment, more, read_from, symbol_in, time_from};
+ghost use Rattle.std.specs.Prelude.{◌≡◌, ◌≢◌, true, IfErr, OnOk, Ok, Err, codes};
+ghost use Rattle.query.specs.Faults.{condition, kind_in, linked, moment, read_from, symbol_in, time_from};
 ghost use Rattle.query.specs.Said.{meaning_of, only};
 ghost use Rattle.query.specs.Taken.{IsLater, IsRefused};
 ghost use Rattle.query.specs.Words.{begins_list};
@@ -103,8 +103,8 @@ impl<A: Allocator + Clone> Reading<A> {
     /// Reads to the end of the text: nothing, or `where` and conditions.
     #[tactic(auto, using(crate::proofs::WordByWord::reading), unfolding(crate::specs::Faults::step))]
     fn read_filter(&mut self, alloc: &A, words: &mut Words<'_>) -> Result<(), QueryFault>
-        ensures ok { OnOk result (read_from (filter self.old) words.old ≡ Ok (meaning_of self.new)) }
-        ensures err { IfErr result (IsRefused (filter self.old) words.old) }
+        ensures ok { OnOk result (read_from (linked (codes "where") self.old) words.old ≡ Ok (meaning_of self.new)) }
+        ensures err { IfErr result (IsRefused (linked (codes "where") self.old) words.old) }
     {
         let Some(word) = words.next() else {
             return Ok(());
@@ -131,7 +131,7 @@ impl<A: Allocator + Clone> Reading<A> {
     #[tactic(auto, using(crate::proofs::WordByWord::reading), unfolding(crate::specs::Faults::step))]
     fn read_condition(&mut self, alloc: &A, words: &mut Words<'_>) -> Result<(), QueryFault>
         ensures ok { OnOk result (read_from (condition self.old) words.old
-            ≡ read_from (more self.new) words.new) }
+            ≡ read_from (linked (codes "and") self.new) words.new) }
         ensures err { IfErr result (IsRefused (condition self.old) words.old) }
         ensures later { OnOk result (IsLater words.old words.new) }
     {
@@ -161,7 +161,7 @@ impl<A: Allocator + Clone> Reading<A> {
     #[tactic(auto, using(crate::proofs::WordByWord::reading), unfolding(crate::specs::Faults::step))]
     fn read_symbols(&mut self, alloc: &A, words: &mut Words<'_>) -> Result<(), QueryFault>
         ensures ok { OnOk result (read_from (symbol_in self.old) words.old
-            ≡ read_from (more self.new) words.new) }
+            ≡ read_from (linked (codes "and") self.new) words.new) }
         ensures err { IfErr result (λ fault. fault ≢ QueryFault.OutOfMemory →
             read_from (symbol_in self.old) words.old ≡ Err fault) }
         ensures memory { IfErr result (λ fault. fault ≡ QueryFault.OutOfMemory →
@@ -180,7 +180,7 @@ impl<A: Allocator + Clone> Reading<A> {
     #[tactic(auto, using(crate::proofs::WordByWord::reading), unfolding(crate::specs::Faults::step))]
     fn read_span(&mut self, words: &mut Words<'_>) -> Result<(), QueryFault>
         ensures ok { OnOk result (read_from (time_from self.old) words.old
-            ≡ read_from (more self.new) words.new) }
+            ≡ read_from (linked (codes "and") self.new) words.new) }
         ensures err { IfErr result (λ fault. read_from (time_from self.old) words.old ≡ Err fault) }
         ensures later { OnOk result (IsLater words.old words.new) }
     {
@@ -200,7 +200,7 @@ impl<A: Allocator + Clone> Reading<A> {
     #[tactic(auto, using(crate::proofs::KindLists::reading_kinds), unfolding(crate::specs::Faults::step))]
     fn read_kinds(&mut self, words: &mut Words<'_>) -> Result<(), QueryFault>
         ensures ok { OnOk result (read_from (kind_in self.old) words.old
-            ≡ read_from (more self.new) words.new) }
+            ≡ read_from (linked (codes "and") self.new) words.new) }
         ensures err { IfErr result (λ fault. read_from (kind_in self.old) words.old ≡ Err fault) }
         ensures later { OnOk result (IsLater words.old words.new) }
     {

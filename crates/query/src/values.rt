@@ -2,17 +2,8 @@
 ghost use Rattle.std.specs.Prelude.{◌≡◌, ◌+◌, ◌*◌, ◌<◌, ◌≤◌, ◌^◌, length, IfOk, IfSome, is_some, Some, true};
 ghost use Rattle.std.specs.Char.{is_ascii_digit};
 ghost use Rattle.std.specs.List.{list_all};
-ghost use Rattle.query.specs.Values.{
-  clock_of,
-  is_kind,
-  kinds_of,
-  number_from,
-  count_of,
-  pair_at,
-  symbols_of,
-  time_of,
-  unit_of,
-};
+ghost use Rattle.query.specs.Values.{clock_of, is_kind, kinds_of, number_from, count_of, pair_at, symbols_of, time_of};
+ghost use Rattle.query.specs.Values.{unit_of};
 ghost use Rattle.query.specs.Words.{parts};
 
 use crate::words::cut;

@@ -58,17 +58,12 @@ given_to link total (pair.Finished t kept) (first, inputs, same, (pieces, may, i
 given_to link total (pair.Stopped stop) (first, same, (pieces, may, is)) =
     (pieces, may, ap (outcome_of total_found) (is ∙ ap (linked_to link pieces) same))
 
-module _ (runs : List (List ℕ)) (query : Meaning) (parts : ℕ) (some : 0 < parts) (are : AreRuns runs) where
-  pub given_of : (total : ScanTotalView) (to : LinkView) (r : Pair) → total ≡ total_of (inputs_of query.as_of parts runs) → to ≡ link_of query parts
-      → IsGiven to total r → IsOutcomeOf query r runs
-  given_of total to r same linked is =
-      let (pieces, may, comes) = given_to (link_of query parts) (total_of (inputs_of query.as_of parts runs)) r
-      (subst (λ (t : ScanTotalView). IsGiven (link_of query parts) t r) same (subst (λ (l : LinkView). IsGiven l total r) linked is)) in
-      record { parts = parts; some = some; pieces = pieces; may = may; cut = are; is = comes }
-
-  pub given_by : (inputs : List ScanInputView) (to : LinkView) (r : Pair) → inputs ≡ inputs_of query.as_of parts runs → to ≡ link_of query parts
-      → IsGiven to (total_of inputs) r → IsOutcomeOf query r runs
-  given_by inputs to r same linked is = given_of (total_of inputs) to r (ap total_of same) linked is
+pub given_of : (runs : List (List ℕ)) (query : Meaning) (parts : ℕ) (total : ScanTotalView) {to : LinkView} {r : Pair} → 0 < parts
+    → AreRuns runs → total ≡ total_of (inputs_of query.as_of parts runs) → to ≡ link_of query parts → IsGiven to total r → IsOutcomeOf query r runs
+given_of runs query parts total {r = r} some are same linked is =
+    let (pieces, may, comes) = given_to (link_of query parts) (total_of (inputs_of query.as_of parts runs)) r
+    (subst (λ (t : ScanTotalView). IsGiven (link_of query parts) t r) same (subst (λ (l : LinkView). IsGiven l total r) linked is)) in
+    record { parts = parts; some = some; pieces = pieces; may = may; cut = are; is = comes }
 
 module _ (runs : List (List ℕ)) (query : Meaning) (r : Pair) (of : IsOutcomeOf query r runs) where
   abbrev scanned : ScanTotalView

@@ -1,9 +1,7 @@
 -- What the blocks of a source give is what the scans of a cut of its bytes do.
-use Rattle.std.proofs.Common.{◌≡◌, ℕ, ◌<◌, ◌≤◌, List, Option, arith, ap, ◌∙◌, refl}
-use Rattle.lists.specs.declared.limits.TheConstants.{LONGEST_FILE}
+use Rattle.std.proofs.Common.{◌≡◌, ℕ, ◌<◌, List, Option, arith, ap, ◌∙◌, refl}
 use Rattle.row_types.specs.declared.directory.DirectoryRow.{DirectoryRow}
 use Rattle.meaning.specs.Meaning.{Meaning}
-use Rattle.links.specs.declared.linked.Linked.TheVariants.{Next, Halt}
 use Rattle.pipelines.specs.Outcomes.{IsOutcome, outcome_of}
 use Rattle.pipelines.specs.declared.outcome.Outcome.{Outcome}
 use Rattle.pipelines.specs.declared.outcome.Outcome.TheVariants as pair
@@ -23,19 +21,38 @@ use Rattle.runs.specs.LinkedBlocks.{IsLinkedWhole, IsOutcomeOfBlocks, IsOutcomeO
 use Rattle.runs.specs.declared.calls.block_link.BlocksStop.{BlocksStop}
 use Rattle.runs.specs.declared.calls.block_link.BlocksStop.TheVariants.{Refused, WrongLength}
 
-module _ {S : Type 0} (GaveAt : S → ℕ → List ℕ → Type 0) (EndsAt : S → ℕ → Type 0) where
-  are_runs : (source : S) (limit : ℕ) (as_of : Option ℕ) (parts : ℕ) (total : ScanTotalView)
-      (scanned : IsScannedWhole GaveAt EndsAt source limit as_of parts total) → limit ≤ LONGEST_FILE → AreRuns scanned.runs
-  are_runs source limit as_of parts total scanned most =
-      record { each = scanned.each; bytes = scanned.bytes; within = omega (arith, scanned.gave.within, most) }
+-- the inputs of a cut's runs are of one cut
+pub one_cut : {runs : List (List ℕ)} (as_of : Option ℕ) (parts : ℕ) → AreRuns runs → 0 < parts → AreOfOneCut (inputs_of as_of parts runs)
+one_cut {runs} as_of parts cut some = record {
+  first = 0;
+  start = 0;
+  runs = runs;
+  each = cut.each;
+  within = omega (arith, cut.within);
+  as_of = as_of;
+  parts = parts;
+  some = some;
+  are = refl;
+}
 
-  module _ (FailsAt : S → ℕ → Type 0) (source : S) (request : Request) (query : Meaning) (same : request.as_of ≡ query.as_of)
-      (asks : IsAskable request) where
+module _ {S : Type 0} (GaveAt : S → ℕ → List ℕ → Type 0) (EndsAt : S → ℕ → Type 0) (source : S) {request : Request} (asks : IsAskable request) where
+  are_runs : {total : ScanTotalView} (scanned : IsScannedWhole GaveAt EndsAt source request.limit request.as_of request.parts total)
+      → AreRuns scanned.runs
+  are_runs scanned =
+      record { each = scanned.each; bytes = scanned.bytes; within = omega (arith, scanned.gave.within, asks.limit) }
+
+  -- a total of all that a source gave is that of the scans of some cut
+  pub of_one_cut : {total : ScanTotalView} → IsScannedWhole GaveAt EndsAt source request.limit request.as_of request.parts total
+      → IsTotal (λ inputs t. t ≡ total_of inputs) AreOfOneCut total
+  of_one_cut scanned =
+      (inputs_of request.as_of request.parts scanned.runs, one_cut request.as_of request.parts (are_runs scanned) asks.some, scanned.are)
+
+  module _ (FailsAt : S → ℕ → Type 0) (query : Meaning) (same : request.as_of ≡ query.as_of) where
     -- what a total of all that the source gave is linked to, and what comes of that
-    whole : (linked : ToBuckets) (outcome : Outcome TotalView (List DirectoryRow) FoundWrong)
+    whole : {linked : ToBuckets} {outcome : Outcome TotalView (List DirectoryRow) FoundWrong}
         → IsLinkedWhole GaveAt EndsAt FailsAt source request (link_of query request.parts) linked
         → outcome ≡ outcome_of total_found linked → IsOutcomeOfWhole GaveAt EndsAt FailsAt source request.limit query outcome
-    whole linked outcome w is =
+    whole w is =
         let (pieces, may, linked_is) = w.is in
         let to = linked_to (link_of query request.parts) pieces in
         record {
@@ -46,7 +63,7 @@ module _ {S : Type 0} (GaveAt : S → ℕ → List ℕ → Type 0) (EndsAt : S �
             some = asks.some;
             pieces = pieces;
             may = may;
-            cut = are_runs source request.limit request.as_of request.parts w.total w.whole asks.limit;
+            cut = are_runs w.whole;
             is = is ∙ ap (outcome_of total_found) (linked_is ∙ ap to (rw (← same) w.whole.are));
           };
         }
@@ -56,30 +73,8 @@ module _ {S : Type 0} (GaveAt : S → ℕ → List ℕ → Type 0) (EndsAt : S �
         (λ inputs total. total ≡ total_found inputs) outcome
         → IsOutcomeOfBlocks GaveAt EndsAt FailsAt source request.limit query outcome
     outcome_is count n (pair.Finished total kept) (first, inputs, are, links, found) =
-        let of = attempts_of_blocks source request count first n are in
-        whole (Next inputs kept) (pair.Finished total kept) (links source request of) (ap (λ t. pair.Finished t kept) found)
+        whole (links source request (attempts_of_blocks source request count first n are)) (ap (λ t. pair.Finished t kept) found)
     outcome_is count n (pair.Stopped (WrongLength wrong)) (first, are, links) =
-        let of = attempts_of_blocks source request count first n are in
-        whole (Halt wrong) (pair.Stopped wrong) (links source request of) refl
+        whole (links source request (attempts_of_blocks source request count first n are)) refl
     outcome_is count n (pair.Stopped (Refused fault)) (first, are, links) =
         links source request (attempts_of_blocks source request count first n are)
-
-  -- a total of all that a source gave is that of the scans of some cut
-  pub of_one_cut : (source : S) (request : Request) → IsAskable request → (total : ScanTotalView)
-      → IsScannedWhole GaveAt EndsAt source request.limit request.as_of request.parts total
-      → IsTotal (λ inputs t. t ≡ total_of inputs) AreOfOneCut total
-  of_one_cut source request asks total scanned = (
-    inputs_of request.as_of request.parts scanned.runs,
-    record {
-      first = 0;
-      start = 0;
-      runs = scanned.runs;
-      each = scanned.each;
-      within = omega (arith, scanned.gave.within, asks.limit);
-      as_of = request.as_of;
-      parts = request.parts;
-      some = asks.some;
-      are = refl;
-    },
-    scanned.are,
-  )

@@ -5,7 +5,7 @@ use Rattle.outcomes.specs.declared.day_fault.DayFault.{DayFault}
 use Rattle.query.specs.Grammar.{Means}
 use Rattle.meaning.specs.Meaning.{Meaning}
 use Rattle.query.specs.Words.{words_of}
-use Rattle.runs.specs.Readings.{Reading}
+use Rattle.streaming.specs.Readings.{Reading}
 use Rattle.runs.specs.Runs.{Answers, Ran}
 use Rattle.runs.specs.Sources.{IsAnswered, IsHandedOver}
 use Rattle.outcomes.specs.declared.run_fault.RunFault.{RunFault}

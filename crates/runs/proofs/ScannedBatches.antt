@@ -2,17 +2,37 @@
 use Rattle.std.proofs.Common.{◌≡◌, ℕ, ◌+◌, ◌≤◌, Bool, true, false, List, [], ◌++◌, Option, Result, Ok, Err, All, length, IfErr, IfOk}
 use Rattle.std.proofs.Common.{refl, sym, ap, ap₂, ◌∙◌, subst, arith, length-append}
 use Rattle.std.specs.List.{concat}
-use Rattle.std.proofs.lemmas.List.Elements.{All-append, All-nil}
-use Rattle.lists.specs.declared.limits.TheConstants.{LONGEST_FILE, MOST_MORSELS}
+use Rattle.std.proofs.lemmas.List.Elements.{All-append}
+use Rattle.lists.specs.declared.limits.TheConstants.{LONGEST_FILE}
 use Rattle.day_file.specs.Cuts.{AreBytes, IsCutBy, IsRun}
-use Rattle.day_file.proofs.Fed.{fed_length_is}
-use Rattle.scanning.specs.Scans.{ScanTotalView, inputs_from, inputs_of, no_scans, total_of, with_scans}
+use Rattle.scanning.specs.Scans.{ScanTotalView, inputs_from, inputs_of, total_of, with_scans}
 use Rattle.scanning.proofs.TotalOfScans.{total_joined}
-use Rattle.streaming.specs.Batches.{HasRead, IsReadTo, ReaderView, read_length}
-use Rattle.streaming.specs.Streams.{GaveAll, GaveSome, IsReadFault}
-use Rattle.streaming.specs.declared.batches.Batch.{Batch}
-use Rattle.streaming.specs.declared.reading.CutReadFault.{CutReadFault}
-use Rattle.runs.specs.Streamed.{IsAhead, IsNextBatch, IsScanOfAll, IsScanOfBatch, IsScannedTo}
+use Rattle.streaming.specs.Batches.{IsNextBatch, IsReadTo, ReaderView, read_length}
+use Rattle.streaming.specs.Streams.{GaveAll, GaveSome}
+use Rattle.streaming.specs.declared.batch.Batch.{Batch}
+use Rattle.streaming.proofs.JoinedBatches.{read_length_is}
+use Rattle.runs.specs.Streamed.{IsScanOfAll, IsScanOfBatch}
+
+module _ {S : Type 0} (Gave : S → S → List ℕ → Type 0) (HasEnded : S → Type 0) where
+  -- the batch comes after these runs, and the source was read to its end
+  pub record IsAhead (limit target : ℕ) (before now : S) (reader : ReaderView) (runs : List (List ℕ))
+      (batch : Batch) : Type 0 where
+    pub number : batch.first ≡ length runs
+    pub start : batch.start ≡ length (concat runs)
+    pub more : batch.is_last ≡ false → IsReadTo Gave before now (runs ++ batch.cut) reader
+    pub last : batch.is_last ≡ true → GaveAll Gave HasEnded limit before now (concat (runs ++ batch.cut))
+        × IsCutBy target (runs ++ batch.cut) (concat (runs ++ batch.cut))
+    pub same : (reader.limit ≡ limit) × (reader.target ≡ target)
+    pub has_room : batch.is_last ≡ false → read_length reader ≤ limit
+
+  -- some runs were scanned, this is the total of their scans, and the batch comes after them
+  pub record IsScannedTo (limit target : ℕ) (as_of : Option ℕ) (parts : ℕ) (before now : S) (reader : ReaderView)
+      (total : ScanTotalView) (batch : Batch) : Type 0 where
+    pub runs : List (List ℕ)
+    pub each : All IsRun runs
+    pub bytes : All AreBytes runs
+    pub is : total ≡ total_of (inputs_of as_of parts runs)
+    pub ahead : IsAhead limit target before now reader runs batch
 
 -- what is said of a success, and of an error
 pub of_ok : {A E : Type 0} (P : A → Type 0) (r : Result A E) (x : A) → r ≡ Ok x → IfOk r P → P x
@@ -21,97 +41,79 @@ of_ok P r x is h = subst (λ w. IfOk w P) is h
 pub of_err : {A E : Type 0} (P : E → Type 0) (r : Result A E) (x : E) → r ≡ Err x → IfErr r P → P x
 of_err P r x is h = subst (λ w. IfErr w P) is h
 
-module _ {S : Type 0} (Gave : S → S → List ℕ → Type 0) (HasEnded : S → Type 0) (limit target : ℕ) (before : S) where
-  -- a fault of a reader whose limit and target are these
-  pub fault_is : (now : S) (reader : ReaderView) (f : CutReadFault) → reader.limit ≡ limit → reader.target ≡ target
-      → IsReadFault Gave HasEnded reader.limit reader.target before now f → IsReadFault Gave HasEnded limit target before now f
-  fault_is now reader f l t h =
-      subst (λ w. IsReadFault Gave HasEnded limit w before now f) t (subst (λ w. IsReadFault Gave HasEnded w reader.target before now f) l h)
+-- the total of some runs with that of the batch after them
+with_batch : {as_of : Option ℕ} {parts : ℕ} (runs : List (List ℕ)) {batch : Batch} {total more : ScanTotalView} → batch.first ≡ length runs
+    → batch.start ≡ length (concat runs) → total ≡ total_of (inputs_of as_of parts runs) → IsScanOfBatch as_of parts batch more
+    → with_scans total more ≡ total_of (inputs_of as_of parts (runs ++ batch.cut))
+with_batch {as_of} {parts} runs {batch} number start is scan =
+    ap₂ with_scans is (scan.is ∙ ap₂ (λ n s. total_of (inputs_from n s as_of parts batch.cut)) number start)
+    ∙ sym (total_joined as_of parts runs batch.cut)
 
+module _ {S : Type 0} {Gave : S → S → List ℕ → Type 0} {HasEnded : S → Type 0} {limit target : ℕ} {before : S} where
   -- the batch that is read once these runs are read comes after them
-  pub read_ahead : (was now : S) (old new : ReaderView) (runs : List (List ℕ)) (batch : Batch) → IsReadTo Gave before was runs old
-      → old.limit ≡ limit → old.target ≡ target → new.limit ≡ old.limit → new.target ≡ old.target
+  pub read_ahead : {was now : S} {old new : ReaderView} {runs : List (List ℕ)} {batch : Batch} → IsReadTo Gave before was runs old
+      → (old.limit ≡ limit) × (old.target ≡ target) → (new.limit ≡ old.limit) × (new.target ≡ old.target)
       → IsNextBatch Gave HasEnded was now old new batch → IsAhead Gave HasEnded limit target before now new runs batch
-  read_ahead was now old new runs batch to limit_is target_is same_limit same_target next = record {
+  read_ahead {now = now} {runs = runs} {batch = batch} to is same next = record {
     number = next.number ∙ to.has.first;
     start = next.start ∙ to.has.start;
-    within = next.within;
-    few = next.few;
     more = λ e. next.more e before runs to;
     last = λ e. (
-      subst (λ l. GaveAll Gave HasEnded l before now (concat (runs ++ batch.cut))) limit_is (next.last e before runs to).0,
-      subst (λ t. IsCutBy t (runs ++ batch.cut) (concat (runs ++ batch.cut))) target_is (next.last e before runs to).1,
+      subst (λ l. GaveAll Gave HasEnded l before now (concat (runs ++ batch.cut))) is.0 (next.last e before runs to).0,
+      subst (λ t. IsCutBy t (runs ++ batch.cut) (concat (runs ++ batch.cut))) is.1 (next.last e before runs to).1,
     );
-    limit_is = same_limit ∙ limit_is;
-    target_is = same_target ∙ target_is;
-    has_room = λ e. omega (arith, (next.longer e).1, same_limit, limit_is);
+    same = (same.0 ∙ is.0, same.1 ∙ is.1);
+    has_room = λ e. omega (arith, (next.longer e).1, same.0, is.0);
   }
 
   -- and so does the next one
-  pub next_ahead : (was now : S) (old new : ReaderView) (runs : List (List ℕ)) (batch next : Batch)
-      → IsAhead Gave HasEnded limit target before was old runs batch → batch.is_last ≡ false → new.limit ≡ old.limit → new.target ≡ old.target
+  pub next_ahead : {was now : S} {old new : ReaderView} {runs : List (List ℕ)} {batch next : Batch}
+      → IsAhead Gave HasEnded limit target before was old runs batch → batch.is_last ≡ false → (new.limit ≡ old.limit) × (new.target ≡ old.target)
       → IsNextBatch Gave HasEnded was now old new next → IsAhead Gave HasEnded limit target before now new (runs ++ batch.cut) next
-  next_ahead was now old new runs batch next ahead is_not_last same_limit same_target read =
-      read_ahead was now old new (runs ++ batch.cut) next (ahead.more is_not_last) ahead.limit_is ahead.target_is same_limit same_target read
+  next_ahead ahead is_not_last same read = read_ahead (ahead.more is_not_last) ahead.same same read
 
   -- how much the source may have given
-  pub gave_some : (now : S) (reader : ReaderView) (runs : List (List ℕ)) (batch : Batch)
+  pub gave_some : {now : S} {reader : ReaderView} {runs : List (List ℕ)} {batch : Batch}
       → IsAhead Gave HasEnded limit target before now reader runs batch → GaveSome Gave limit before now
-  gave_some now reader runs batch ahead = by_end batch.is_last refl
+  gave_some {now = now} {batch = batch} ahead = by_end batch.is_last refl
     where
       by_end : (b : Bool) → batch.is_last ≡ b → GaveSome Gave limit before now
-      by_end true e =
-          let all = (ahead.last e).0 in
-          record { bytes = concat (runs ++ batch.cut); gave = all.gave; within = omega (arith, all.within) }
+      by_end true e = let all = (ahead.last e).0 in record { bytes = _; gave = all.gave; within = omega (arith, all.within) }
       by_end false e =
           let to = ahead.more e in
-          let joined : length to.bytes ≡ length (concat (runs ++ batch.cut)) + length to.has.fed =
-          ap length to.has.joined ∙ length-append (concat (runs ++ batch.cut)) to.has.fed in
-          record {
-            bytes = to.bytes;
-            gave = to.gave;
-            within = omega (arith, joined, to.has.start, fed_length_is reader.cutter to.has.fed to.has.has, ahead.has_room e);
-          }
+          record { bytes = to.bytes; gave = to.gave; within = omega (arith, read_length_is to.has, ahead.has_room e) }
 
-  module _ (as_of : Option ℕ) (parts : ℕ) where
-    -- the total of some runs with that of the batch after them
-    with_batch : (runs : List (List ℕ)) (batch : Batch) (total more : ScanTotalView) → batch.first ≡ length runs → batch.start ≡ length (concat runs)
-        → total ≡ total_of (inputs_of as_of parts runs) → IsScanOfBatch as_of parts batch more
-        → with_scans total more ≡ total_of (inputs_of as_of parts (runs ++ batch.cut))
-    with_batch runs batch total more number start is scan =
-        ap₂ with_scans is (scan.is ∙ ap₂ (λ n s. total_of (inputs_from n s as_of parts batch.cut)) number start)
-        ∙ sym (total_joined as_of parts runs batch.cut)
-
+  module _ {as_of : Option ℕ} {parts : ℕ} where
     -- a batch is scanned, and the next one was read
-    pub went_on : (was now : S) (old new : ReaderView) (total more : ScanTotalView) (batch next : Batch)
+    pub went_on : {was now : S} {old new : ReaderView} {total more : ScanTotalView} {batch next : Batch}
         → IsScannedTo Gave HasEnded limit target as_of parts before was old total batch → batch.is_last ≡ false
-        → IsScanOfBatch as_of parts batch more → new.limit ≡ old.limit → new.target ≡ old.target
+        → IsScanOfBatch as_of parts batch more → (new.limit ≡ old.limit) × (new.target ≡ old.target)
         → IsNextBatch Gave HasEnded was now old new next
         → IsScannedTo Gave HasEnded limit target as_of parts before now new (with_scans total more) next
-    went_on was now old new total more batch next to is_not_last scan same_limit same_target read = record {
+    went_on {batch = batch} to is_not_last scan same read = record {
       runs = to.runs ++ batch.cut;
       each = All-append IsRun to.runs batch.cut to.each scan.each;
       bytes = All-append AreBytes to.runs batch.cut to.bytes scan.bytes;
-      is = with_batch to.runs batch total more to.ahead.number to.ahead.start to.is scan;
-      ahead = next_ahead was now old new to.runs batch next to.ahead is_not_last same_limit same_target read;
+      is = with_batch to.runs to.ahead.number to.ahead.start to.is scan;
+      ahead = next_ahead to.ahead is_not_last same read;
     }
 
     -- the last batch is scanned
-    pub ended : (now : S) (reader : ReaderView) (total more : ScanTotalView) (batch : Batch) → limit ≤ LONGEST_FILE
+    pub ended : {now : S} {reader : ReaderView} {total more : ScanTotalView} {batch : Batch} → limit ≤ LONGEST_FILE
         → IsScannedTo Gave HasEnded limit target as_of parts before now reader total batch → batch.is_last ≡ true
         → IsScanOfBatch as_of parts batch more → IsScanOfAll Gave HasEnded limit target as_of parts before now (with_scans total more)
-    ended now reader total more batch most to is_last scan =
+    ended {batch = batch} most to is_last scan =
         let all = to.ahead.last is_last in record {
           runs = to.runs ++ batch.cut;
           gave = all.0;
           cut = all.1;
-          few = omega (arith, length-append to.runs batch.cut, to.ahead.number, to.ahead.few);
+          few = omega (arith, length-append to.runs batch.cut, to.ahead.number, batch.few);
           is = record {
             cut = record {
               each = All-append IsRun to.runs batch.cut to.each scan.each;
               bytes = All-append AreBytes to.runs batch.cut to.bytes scan.bytes;
               within = omega (arith, all.0.within, most);
             };
-            is = with_batch to.runs batch total more to.ahead.number to.ahead.start to.is scan;
+            is = with_batch to.runs to.ahead.number to.ahead.start to.is scan;
           };
         }

@@ -1,4 +1,3 @@
-pub mod Readings
 pub mod Runs
 pub mod FirstPipeline
 pub mod LinkedBlocks

@@ -1,11 +1,7 @@
 -- What comes of the blocks of a source: what they are linked to, and what both pipelines give.
 -- To be believed of a crate used by itself: what is promised of a run is `Ran`.
-use Rattle.std.specs.Prelude.{◌≡◌, ℕ, List, Result, Err}
+use Rattle.std.specs.Prelude.{ℕ, List}
 use Rattle.std.specs.List.{concat}
-use Rattle.outcomes.specs.declared.day_fault.DayFault.{DayFault}
-use Rattle.outcomes.specs.declared.day_fault.DayFault.TheVariants.{Truncated}
-use Rattle.outcomes.specs.declared.run_fault.RunFault.{RunFault}
-use Rattle.outcomes.specs.declared.run_fault.RunFault.TheVariants as run
 use Rattle.row_types.specs.declared.directory.DirectoryRow.{DirectoryRow}
 use Rattle.meaning.specs.Meaning.{Meaning}
 use Rattle.links.specs.declared.linked.Linked.{Linked}
@@ -20,8 +16,6 @@ use Rattle.planning.specs.Planned.{IsLinkedTo, LinkView}
 use Rattle.block_scan.specs.Attempts.{AreAttemptsOf, AttemptView}
 use Rattle.block_scan.specs.Blocks.{GaveWhole, IsBlocksFault}
 use Rattle.block_scan.specs.ScannedBlocks.{IsScannedWhole}
-use Rattle.block_scan.specs.declared.fault.BlocksFault.{BlocksFault}
-use Rattle.block_scan.specs.declared.fault.BlocksFault.TheVariants as blocks
 use Rattle.block_scan.specs.declared.request.Request.{Request}
 use Rattle.runs.specs.FirstPipeline.{IsOutcomeOf}
 use Rattle.runs.specs.declared.calls.block_link.BlocksStop.{BlocksStop}
@@ -63,15 +57,3 @@ module _ {S : Type 0} (GaveAt : S → ℕ → List ℕ → Type 0) (EndsAt : S �
       IsOutcomeOfWhole source limit query (pair.Stopped wrong)
   IsOutcomeOfBlocks source limit query (pair.Stopped (Refused fault)) =
       IsBlocksFault GaveAt EndsAt FailsAt source limit fault
-
--- the answer reports the place where the source is truncated
-abbrev pub TellsTruncated : BlocksFault → Result (List ℕ) DayFault → Type 0
-TellsTruncated (blocks.Truncated place) told = told ≡ Err (Truncated place)
-TellsTruncated _ told = ⊥
-
--- the refusal of a run with this limit is for this fault
-abbrev pub IsRefusedFor : ℕ → BlocksFault → RunFault → Type 0
-IsRefusedFor limit blocks.ReadFailed refusal = refusal ≡ run.ReadFailed
-IsRefusedFor limit blocks.TooLong refusal = refusal ≡ run.TooLong limit
-IsRefusedFor limit blocks.OutOfMemory refusal = refusal ≡ run.OutOfMemory
-IsRefusedFor limit (blocks.Truncated place) refusal = ⊥

@@ -7,7 +7,7 @@ use Rattle.query.specs.Grammar.{Means}
 use Rattle.meaning.specs.Meaning.{Meaning}
 use Rattle.query.specs.Words.{words_of}
 use Rattle.outcomes.specs.declared.day_fault.DayFault.{DayFault}
-use Rattle.runs.specs.Readings.{Reading}
+use Rattle.streaming.specs.Readings.{Reading}
 use Rattle.outcomes.specs.declared.run_fault.RunFault.{RunFault}
 use Rattle.outcomes.specs.declared.run_fault.RunFault.TheVariants as fault
 

@@ -6,7 +6,10 @@ use Rattle.query.specs.Faults.{first_query_fault}
 use Rattle.meaning.specs.Meaning.{Meaning}
 use Rattle.query.specs.Words.{words_of}
 use Rattle.outcomes.specs.declared.day_fault.DayFault.{DayFault}
-use Rattle.runs.specs.Readings.{Reading}
+use Rattle.outcomes.specs.declared.day_fault.DayFault.TheVariants.{Truncated}
+use Rattle.streaming.specs.declared.fault.SourceFault.{SourceFault}
+use Rattle.streaming.specs.declared.fault.SourceFault.TheVariants as source
+use Rattle.streaming.specs.Readings.{Reading}
 use Rattle.outcomes.specs.declared.run_fault.RunFault.{RunFault}
 use Rattle.outcomes.specs.declared.run_fault.RunFault.TheVariants as fault
 
@@ -29,6 +32,19 @@ IsSourceRefusal reading limit (fault.TooLong most) = reading.longer × (most ≡
 IsSourceRefusal reading limit fault.TooManyMorsels = reading.too_many
 IsSourceRefusal reading limit fault.OutOfMemory = reading.some
 IsSourceRefusal reading limit _ = ⊥
+
+-- the answer reports the place where the source is truncated
+abbrev pub TellsTruncated : SourceFault → Result (List ℕ) DayFault → Type 0
+TellsTruncated (source.Truncated place) told = told ≡ Err (Truncated place)
+TellsTruncated _ told = ⊥
+
+-- the refusal of a run with this limit is for this fault
+abbrev pub IsRefusedFor : ℕ → SourceFault → RunFault → Type 0
+IsRefusedFor limit source.ReadFailed refusal = refusal ≡ fault.ReadFailed
+IsRefusedFor limit source.TooLong refusal = refusal ≡ fault.TooLong limit
+IsRefusedFor limit source.TooManyMorsels refusal = refusal ≡ fault.TooManyMorsels
+IsRefusedFor limit source.OutOfMemory refusal = refusal ≡ fault.OutOfMemory
+IsRefusedFor limit (source.Truncated place) refusal = ⊥
 
 module _ {K : Type 0} (Took : K → K → List ℕ → Type 0) (HasFlushed : K → Type 0) (before after : K) where
   -- the answer is a text, which the sink took and passed on

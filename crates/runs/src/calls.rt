@@ -3,7 +3,6 @@
 pub(crate) mod answer;
 pub(crate) mod block_link;
 pub(crate) mod ends;
-pub(crate) mod first_pipeline;
 pub(crate) mod run;
 pub(crate) mod run_blocks;
 pub(crate) mod stream;

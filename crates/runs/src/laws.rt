@@ -1,8 +1,8 @@
 //! Laws of what is promised of runs. Each is the contract of a function that does nothing.
 ghost use Rattle.std.specs.Prelude.{◌≡◌, ℕ, List, Result};
 ghost use Rattle.outcomes.specs.declared.day_fault.DayFault.{DayFault as TheDayFault};
-ghost use Rattle.block_scan.specs.Blocks.{GaveWhole};
-ghost use Rattle.runs.specs.Readings.{of_blocks, of_stream};
+ghost use Rattle.streaming.specs.Readings.{of_stream};
+ghost use Rattle.block_scan.specs.Blocks.{GaveWhole, of_blocks};
 ghost use Rattle.runs.specs.Runs.{Answers};
 
 use block_scan::BlockSource;

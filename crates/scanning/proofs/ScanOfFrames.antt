@@ -1,13 +1,12 @@
 -- What a scan has found so far, and with one frame more.
-use Rattle.std.proofs.Common.{◌≡◌, ℕ, ◌<◌, ◌≤◌, Bool, true, false, cond, List, [], ◌∷◌, ◌++◌, Option, Some, None, option_to_list, filter_map}
-use Rattle.std.proofs.Common.{refl, sym, ap, ap₂, ◌∙◌}
+use Rattle.std.proofs.Common.{◌≡◌, ℕ, ◌<◌, ◌≤◌, Bool, true, false, cond, [], ◌∷◌, ◌++◌, Option, Some, None, option_to_list, filter_map, refl, sym, ap, ap₂, ◌∙◌}
 use Rattle.std.specs.List.{cons_option}
-use Rattle.std.proofs.lemmas.List.{append-nil, append_assoc}
+use Rattle.std.proofs.lemmas.List.{append-nil}
 use Rattle.std.proofs.lemmas.List.Elements.{filter_map-append}
 use Rattle.lists.proofs.Least.{least_more}
 use Rattle.lists.specs.Least.{least_by}
 use Rattle.lists.specs.declared.limits.TheConstants.{MOST_PARTITIONS}
-use Rattle.itch_messages.proofs.Sizes.{skipped_of_wrong_length}
+use Rattle.itch_messages.proofs.NineTypes.{skipped_of_wrong_length}
 use Rattle.itch_messages.specs.Body.{has_wrong_length, length_fault_of, message_of}
 use Rattle.itch_messages.specs.declared.message.Message.{Message}
 use Rattle.itch_messages.specs.declared.message.Message.TheVariants.{Skipped}
@@ -17,7 +16,7 @@ use Rattle.day_rows.proofs.RowsOfFrames.{rows_more}
 use Rattle.day_rows.specs.DayRows.{DayRows, counted_rows_at, joined, no_rows, rows_of}
 use Rattle.day_rows.specs.Messages.{counted, messages_of}
 use Rattle.morsel_rows.specs.Partitions.{MorselRowsView, in_partitions}
-use Rattle.scanning.specs.Scans.{ScanView, TakesIn, scan_of, wrong_at, wrong_in}
+use Rattle.scanning.specs.Scans.{ScanView, TakesIn, wrong_at, wrong_in}
 use Rattle.scanning.specs.declared.wrong.WrongLength.{WrongLength}
 
 -- one message more, as it is added to rows in partitions
@@ -56,13 +55,10 @@ pub passes : (as_of : Option ℕ) (frame : PlacedBody) (rows : MorselRowsView) (
 passes as_of frame rows wrong next told is told_is later n front some most so_far =
     let so_many = rows_of (counted as_of (messages_of front)) in
     let no_more : rows_of (counted as_of (messages_of (front ++ frame ∷ []))) ≡ so_many =
-    rows_more as_of front frame
-    ∙ ap (λ message. joined so_many (counted_rows_at as_of frame.place message)) (skipped_of_wrong_length frame.body is)
+    rows_more as_of front frame ∙ ap (λ message. joined so_many (counted_rows_at as_of frame.place message)) (skipped_of_wrong_length frame.body is)
     ∙ ap (joined so_many) (none_of_skipped as_of frame.place) ∙ joined_none so_many in
     let tells : Some told ≡ wrong_at frame = ap Some told_is ∙ sym (ap (told_by_test frame) is) in
     let same = ap (λ (scan : ScanView). scan.rows) so_far ∙ ap (in_partitions n) (sym no_more) in
-    let least = later
-    ∙ ap₂ (λ one other. least_by (λ (w : WrongLength). w.place) (option_to_list one ++ option_to_list other))
-    (ap (λ (scan : ScanView). scan.wrong) so_far) tells
-    ∙ sym (least_more (λ (w : WrongLength). w.place) wrong_at front frame) in
+    let least = later ∙ ap₂ (λ one other. least_by (λ (w : WrongLength). w.place) (option_to_list one ++ option_to_list other))
+    (ap (λ (scan : ScanView). scan.wrong) so_far) tells ∙ sym (least_more (λ (w : WrongLength). w.place) wrong_at front frame) in
     λ i. record { rows = same i; wrong = least i }

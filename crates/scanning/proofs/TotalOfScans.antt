@@ -1,13 +1,14 @@
 -- The total of one input more, and of a cut of which a part was scanned by itself.
-use Rattle.std.proofs.Common.{◌≡◌, ℕ, ◌+◌, List, [], ◌∷◌, ◌++◌, Option, None, Some, filter_map, length, map, option_to_list, refl, sym, ap, ap₂, ◌∙◌, arith}
-use Rattle.std.specs.List.{concat}
-use Rattle.std.proofs.lemmas.List.{length-append, map-append}
+use Rattle.std.proofs.Common.{◌≡◌, ℕ, ◌+◌, List, [], ◌∷◌, ◌++◌, Option, filter_map, length, map, option_to_list, sym, ap, ap₂, ◌∙◌, arith}
+use Rattle.std.specs.List.{concat, cons_option}
+use Rattle.std.proofs.lemmas.List.{append-nil, map-append}
 use Rattle.std.proofs.lemmas.List.Elements.{filter_map-append}
-use Rattle.lists.proofs.Least.{best_by-append, better_option, least_more, lesser_ranks}
+use Rattle.lists.proofs.Least.{least_by-flat_map, least_more}
 use Rattle.lists.proofs.Lists.{map_more}
 use Rattle.lists.specs.Least.{least_by}
 use Rattle.day_file.specs.Cuts.{MorselView}
 use Rattle.day_file.specs.Kept.{numbered}
+use Rattle.day_file.proofs.Kept.{numbered-append}
 use Rattle.scanning.specs.Scans.{ScanInputView, inputs_from, inputs_of, scanned, total_of, with_scan, with_scans}
 use Rattle.scanning.specs.declared.wrong.WrongLength.{WrongLength}
 
@@ -17,19 +18,17 @@ total_more before next =
     let wrong = least_more (λ (w : WrongLength). w.place) (λ (input : ScanInputView). (scanned input).wrong) before next in
     λ i. record { morsels = morsels i; wrong = wrong i }
 
-least_itself : (o : Option WrongLength) → least_by (λ (w : WrongLength). w.place) (option_to_list o) ≡ o
-least_itself None = refl
-least_itself (Some w) = refl
+two_options : {X : Type 0} (a b : Option X) → cons_option a (cons_option b []) ≡ option_to_list a ++ option_to_list b
+two_options a b = grind arith
 
 -- the least of two lists is that of what is least in each
 least_of_both : (xs ys : List WrongLength) → least_by (λ (w : WrongLength). w.place) (xs ++ ys)
     ≡ least_by (λ (w : WrongLength). w.place)
     (option_to_list (least_by (λ (w : WrongLength). w.place) xs) ++ option_to_list (least_by (λ (w : WrongLength). w.place) ys))
 least_of_both xs ys =
-    let place : WrongLength → ℕ = λ w. w.place in
-    best_by-append _ (lesser_ranks place) xs ys
-    ∙ sym (ap₂ (better_option _ (lesser_ranks place)) (least_itself (least_by place xs)) (least_itself (least_by place ys)))
-    ∙ sym (best_by-append _ (lesser_ranks place) (option_to_list (least_by place xs)) (option_to_list (least_by place ys)))
+    ap (λ l. least_by (λ (w : WrongLength). w.place) (xs ++ l)) (sym (append-nil ys))
+    ∙ least_by-flat_map (λ (w : WrongLength). w.place) (λ (l : List WrongLength). l) (xs ∷ ys ∷ [])
+    ∙ ap (least_by (λ (w : WrongLength). w.place)) (two_options (least_by (λ w. w.place) xs) (least_by (λ w. w.place) ys))
 
 -- the total of inputs and others after them
 pub total_of_both : (before more : List ScanInputView) → total_of (before ++ more) ≡ with_scans (total_of before) (total_of more)
@@ -39,19 +38,6 @@ total_of_both before more =
     let wrong = ap (least_by (λ (w : WrongLength). w.place)) (filter_map-append told before more)
     ∙ least_of_both (filter_map told before) (filter_map told more) in
     λ i. record { morsels = morsels i; wrong = wrong i }
-
-numbered-append : (number start : ℕ) (runs more : List (List ℕ))
-    → numbered number start (runs ++ more) ≡ numbered number start runs ++ numbered (number + length runs) (start + length (concat runs)) more
-numbered-append number start [] more =
-    let n : number ≡ number + length {A = List ℕ} [] = omega arith in
-    let s : start ≡ start + length (concat []) = omega arith in
-    ap₂ (λ number start. numbered number start more) n s
-numbered-append number start (run ∷ runs) more =
-    let n : (number + 1) + length runs ≡ number + length (run ∷ runs) = omega arith in
-    let s : (start + length run) + length (concat runs) ≡ start + length (concat (run ∷ runs)) = omega (arith, length-append run (concat runs)) in
-    ap (λ l. record { number = number; start = start; bytes = run } ∷ l)
-    (numbered-append (number + 1) (start + length run) runs more
-    ∙ ap₂ (λ n s. numbered (number + 1) (start + length run) runs ++ numbered n s more) n s)
 
 -- the inputs of a cut are those of its first morsels and those of the others
 pub inputs_joined : (first start : ℕ) (as_of : Option ℕ) (parts : ℕ) (runs more : List (List ℕ)) → inputs_from first start as_of parts (runs ++ more)

@@ -1,11 +1,10 @@
 -- Inputs that compare as equal are one, and so give one scan; lists of them give one total.
 -- Derived: the laws of `ScanWork` cite it, and it defines nothing.
-use Rattle.std.proofs.Common.{◌≡◌, ℕ, Bool, true, false, ◌&&◌, List, Option, Some, None, nat_eq}
-use Rattle.std.proofs.Common.{refl, sym, ap, ◌∙◌}
+use Rattle.std.proofs.Common.{◌≡◌, ℕ, Bool, true, ◌&&◌, List, Option, Some, None, nat_eq, refl, sym, ap, ◌∙◌}
 use Rattle.std.specs.Cmp.{IsEquivalence, nat_eq_equiv}
 use Rattle.std.specs.Cmp.Lexicographic.{nat_list_eq_equiv, options_equiv, same_text}
 use Rattle.std.specs.Option.{option_eq}
-use Rattle.std.proofs.lemmas.Bool.{eqb-true}
+use Rattle.std.proofs.lemmas.Bool.{and_parts, eqb-true}
 use Rattle.std.proofs.lemmas.Cmp.{and_equiv, on_equiv}
 use Rattle.std.proofs.lemmas.List.{map-id}
 use Rattle.day_file.specs.Cuts.{MorselView, is_same_morsel}
@@ -14,19 +13,18 @@ use Rattle.gathering.specs.Adding.{same_inputs}
 use Rattle.scanning.specs.Scans.{ScanInputView, ScanTotalView, ScanView, is_same_input, scanned, total_of}
 
 pub and_left : (a b : Bool) → (a && b) ≡ true → a ≡ true
-and_left true b h = refl
-and_left false b h = h
+and_left a b h = (and_parts a b h).0
 
 pub and_right : (a b : Bool) → (a && b) ≡ true → b ≡ true
-and_right true b h = h
-and_right false b h = cc
+and_right a b h = (and_parts a b h).1
 
 pub same_morsel : (a b : MorselView) → is_same_morsel a b ≡ true → a ≡ b
 same_morsel a b same =
-    let before = and_left _ _ same in
-    let number = eqb-true a.number b.number (and_left _ _ before) in
-    let start = eqb-true a.start b.start (and_right _ _ before) in
-    let bytes = same_text a.bytes b.bytes (sym (and_right _ _ same)) in
+    let both = and_parts _ _ same in
+    let before = and_parts _ _ both.0 in
+    let number = eqb-true a.number b.number before.0 in
+    let start = eqb-true a.start b.start before.1 in
+    let bytes = same_text a.bytes b.bytes (sym both.1) in
     λ i. record { number = number i; start = start i; bytes = bytes i }
 
 pub same_moment : (a b : Option ℕ) → option_eq nat_eq a b ≡ true → a ≡ b
@@ -37,10 +35,11 @@ same_moment (Some a) (Some b) same = ap Some (eqb-true a b same)
 
 pub same_input : (a b : ScanInputView) → is_same_input a b ≡ true → a ≡ b
 same_input a b same =
-    let before = and_left _ _ same in
-    let morsel = same_morsel a.morsel b.morsel (and_left _ _ before) in
-    let as_of = same_moment a.as_of b.as_of (and_right _ _ before) in
-    let parts = eqb-true a.parts b.parts (and_right _ _ same) in
+    let both = and_parts _ _ same in
+    let before = and_parts _ _ both.0 in
+    let morsel = same_morsel a.morsel b.morsel before.0 in
+    let as_of = same_moment a.as_of b.as_of before.1 in
+    let parts = eqb-true a.parts b.parts both.1 in
     λ i. record { morsel = morsel i; as_of = as_of i; parts = parts i }
 
 pub equal_scans : (a b : ScanInputView) (output : ScanView) → is_same_input a b ≡ true → output ≡ scanned a

@@ -3,8 +3,7 @@ use Rattle.std.proofs.Common.{◌≡◌, ℕ, List, Option, None, inl, inr, sym,
 use Rattle.links.specs.declared.linked.Linked.{Linked}
 use Rattle.links.specs.declared.linked.Linked.TheVariants.{Next, Halt}
 use Rattle.schedules.specs.Rehearsals.{IsRehearsed, after_link, unless_missing}
-use Rattle.schedules.specs.Schedules.{first_left}
-use Rattle.schedules.specs.declared.event.Event.{Event}
+use Rattle.schedules.specs.Schedules.{Event, first_left}
 use Rattle.schedules.specs.declared.rehearsed.Rehearsed.{Rehearsed}
 use Rattle.schedules.specs.declared.rehearsed.Rehearsed.TheVariants.{Finished, Stopped, Missing}
 

@@ -1,8 +1,7 @@
 -- What a pair of pipelines gives by two schedules.
 -- To be believed of a crate used by itself.
 use Rattle.std.specs.Prelude.{◌≡◌, ◌⊎◌, ℕ, List, Option, Some, None, length}
-use Rattle.schedules.specs.Schedules.{first_left}
-use Rattle.schedules.specs.declared.event.Event.{Event}
+use Rattle.schedules.specs.Schedules.{Event, first_left}
 use Rattle.links.specs.declared.linked.Linked.{Linked}
 use Rattle.links.specs.declared.linked.Linked.TheVariants.{Next, Halt}
 use Rattle.schedules.specs.declared.rehearsed.Rehearsed.{Rehearsed}

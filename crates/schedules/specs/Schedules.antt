@@ -6,8 +6,8 @@ use Rattle.std.specs.List.{list_any, range_with_len}
 use Rattle.std.specs.Ordering.{nat_cmp}
 use Rattle.std.specs.FinSet.{FinSet, contains, insert, union, empty}
 use Rattle.gathering.specs.Views.{GatheringView}
-use Rattle.schedules.specs.declared.event.Event.{Event}
-use Rattle.schedules.specs.declared.event.Event.TheVariants.{Arrive, Lose, Merge}
+pub use Rattle.schedules.specs.declared.event.Event.{Event}
+pub use Rattle.schedules.specs.declared.event.Event.TheVariants.{Arrive, Lose, Merge}
 
 -- the event is an arrival of the task at one of the gatherers
 abbrev pub brings : ℕ → ℕ → Event → Bool

@@ -68,6 +68,7 @@ pub(crate) fn apply_all<W: Work, M: Allocator + Clone>(
 }
 
 /// Runs the task, and has the gatherer file its piece.
+#[tactic(auto, using(crate::proofs::Schedules::arrive_step))]
 fn arrive<W: Work, M: Allocator + Clone>(
     alloc: Global,
     gatherings: &mut Vec<Gathering<W, M>, M>,

@@ -11,6 +11,7 @@ use gathering::Work;
 use links::Link;
 
 /// The tasks that have arrived are always those that some gatherer covers, from empty gatherers on.
+#[tactic(auto, using(crate::proofs::Schedules::arrived_covers))]
 pub fn arrived_tasks_are_covered()
     ensures { (gatherers tasks : ℕ) (events : List Event) (task : ℕ)
         → some_covers (after_all tasks events (replicate gatherers empty)) task

@@ -51,6 +51,7 @@ pub fn rehearse_pair<A: Work, B: Work, L: Link<A, B>>(
 
 /// Rehearses one pipeline: the total of all inputs, or the first task that has not arrived. The
 /// gatherers and their room are taken of this memory. It is refused as `rehearse_pair` is.
+#[tactic(auto, using(crate::proofs::Schedules::first_left_is))]
 pub fn rehearse_pipeline<W: Work, M: Allocator + Clone>(
     alloc: Global,
     memory: M,

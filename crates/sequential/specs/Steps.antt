@@ -1,16 +1,13 @@
 -- What the steps of `plain` give each other.
 -- Derived: no public clause cites it.
-use Rattle.std.specs.Prelude.{◌≡◌, ℕ, ◌<◌, ◌+◌, List, Option, None, MatchOption, IsSomeAnd, length}
+use Rattle.std.specs.Prelude.{◌≡◌, ℕ, ◌<◌, ◌+◌, List, Option, None, Err, length}
 use Rattle.lists.specs.declared.limits.TheConstants.{TRADE_LIMIT}
 use Rattle.day_file.specs.Frames.{PlacedBody, StandsFor}
-use Rattle.row_types.specs.declared.order.OrderRow.{OrderRow}
-use Rattle.order_table.specs.Orders.{first_repeated}
-use Rattle.row_types.specs.declared.trade.Execution.{Execution}
-use Rattle.probe.specs.Pricing.{first_unknown}
+use Rattle.order_table.specs.Orders.{OrderRow, first_repeated}
+use Rattle.probe.specs.Pricing.{Execution, first_unknown}
+use Rattle.answers.specs.Answers.{DayFault, FaultOr, repeated_at, unknown_at}
 use Rattle.day_rows.specs.DayRows.{AreByPlace, DayRows, rows_of}
 use Rattle.day_rows.specs.Messages.{Placed, messages_of, counted, first_wrong}
-use Rattle.outcomes.specs.declared.day_fault.DayFault.{DayFault}
-use Rattle.outcomes.specs.declared.day_fault.DayFault.TheVariants.{RepeatedReference, UnknownReference}
 use Rattle.sequential.specs.declared.refused.Refused.{Refused}
 use Rattle.sequential.specs.declared.refused.Refused.TheVariants.{Day, OutOfMemory}
 
@@ -45,6 +42,5 @@ HaveNoFault orders executions = (first_repeated orders ≡ None) × (first_unkno
 -- the first fault in the references
 abbrev pub IsReferenceFault : List OrderRow → List Execution → DayFault → Type 0
 IsReferenceFault orders executions fault =
-    MatchOption (first_repeated orders)
-    (IsSomeAnd (first_unknown orders executions) (λ unknown. fault ≡ UnknownReference unknown.place unknown.order_no))
-    (λ repeated. fault ≡ RepeatedReference repeated.place repeated.order_no)
+    FaultOr (first_repeated orders) repeated_at (Err fault)
+    (FaultOr (first_unknown orders executions) unknown_at (Err fault) ⊥)

@@ -1,2 +1,1 @@
 pub mod JoinedBatches
-mod Pieces

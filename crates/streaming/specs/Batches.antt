@@ -1,13 +1,15 @@
 -- A source that is read and cut batch by batch.
 -- Derived: what is promised of a run speaks of what its source gave alone.
-use Rattle.std.specs.Prelude.{◌≡◌, ℕ, ◌+◌, ◌<◌, ◌≤◌, List, ◌++◌, length, All}
+use Rattle.std.specs.Prelude.{◌≡◌, ℕ, ◌+◌, ◌<◌, ◌≤◌, true, false, List, ◌++◌, length, All}
 use Rattle.std.specs.List.{concat}
 use Rattle.lists.specs.declared.limits.TheConstants.{LONGEST_FILE, MOST_MORSELS}
+use Rattle.day_file.specs.Cuts.{IsCutBy}
 use Rattle.day_file.specs.Feeding.{CutterView, HasFed, IsFullRun, fed_length}
 use Rattle.day_file.specs.Frames.{IsTruncatedAt}
-use Rattle.streaming.specs.Streams.{HasTooMany}
-use Rattle.streaming.specs.declared.reading.CutReadFault.{CutReadFault}
-use Rattle.streaming.specs.declared.reading.CutReadFault.TheVariants as fault
+use Rattle.streaming.specs.Streams.{GaveAll}
+use Rattle.streaming.specs.declared.batch.Batch.{Batch}
+use Rattle.streaming.specs.declared.fault.SourceFault.{SourceFault}
+use Rattle.streaming.specs.declared.fault.SourceFault.TheVariants as fault
 
 -- what contracts see of a `BatchReader`: the most bytes that it reads, its target, how many bytes and how many morsels
 -- its batches had so far, and its cutter, which was fed the bytes after those
@@ -31,28 +33,44 @@ pub record HasRead (reader : ReaderView) (runs : List (List ℕ)) (bytes : List 
   pub first : reader.first ≡ length runs
   pub start : reader.start ≡ length (concat runs)
 
--- the source gave bytes since it was `before`, and the reader has read these, of which its batches had these runs
-pub record IsReadTo {S : Type 0} (Gave : S → S → List ℕ → Type 0) (before now : S) (runs : List (List ℕ))
-    (reader : ReaderView) : Type 0 where
-  pub bytes : List ℕ
-  pub gave : Gave before now bytes
-  pub has : HasRead reader runs bytes
-
--- what a reader keeps between its calls, which reads so many bytes at once
-pub record IsReading (reader : ReaderView) (room : ℕ) : Type 0 where
+-- what a reader keeps between its calls
+pub record IsReading (limit target start first : ℕ) (cutter : CutterView) : Type 0 where
   pub fed : List ℕ
-  pub has : HasFed reader.cutter fed
-  pub same : reader.cutter.target ≡ reader.target
-  pub target : 0 < reader.target
-  pub within : read_length reader ≤ reader.limit
-  pub limit : reader.limit ≤ LONGEST_FILE
-  pub few : reader.first ≤ MOST_MORSELS
-  pub some : 0 < room
+  pub has : HasFed cutter fed
+  pub same : cutter.target ≡ target
+  pub target_is : 0 < target
+  pub within : start + fed_length cutter ≤ limit
+  pub limit_is : limit ≤ LONGEST_FILE
+  pub few : first ≤ MOST_MORSELS
 
--- what a refusal at the end says of all the bytes
-abbrev pub IsLastFault : ℕ → List ℕ → CutReadFault → Type 0
-IsLastFault target bytes fault.ReadFailed = ⊥
-IsLastFault target bytes fault.TooLong = ⊥
-IsLastFault target bytes (fault.Truncated place) = IsTruncatedAt bytes place
-IsLastFault target bytes fault.TooManyMorsels = HasTooMany target bytes
-IsLastFault target bytes fault.OutOfMemory = Unit {0}
+module _ {S : Type 0} (Gave : S → S → List ℕ → Type 0) where
+  -- the source gave bytes since it was `before`, and the reader has read these, of which its batches had these runs
+  pub record IsReadTo (before now : S) (runs : List (List ℕ)) (reader : ReaderView) : Type 0 where
+    pub bytes : List ℕ
+    pub gave : Gave before now bytes
+    pub has : HasRead reader runs bytes
+
+  -- the reader has read on, and no batch was taken
+  pub record IsReadOn (was now : S) (old new : ReaderView) : Type 0 where
+    pub read : (before : S) (runs : List (List ℕ)) → IsReadTo before was runs old → IsReadTo before now runs new
+    pub number : new.first ≡ old.first
+    pub start : new.start ≡ old.start
+
+  -- the batch goes on where the reader was: the source gave more, or with this batch all that it had
+  pub record IsNextBatch (HasEnded : S → Type 0) (was now : S) (old new : ReaderView) (batch : Batch) : Type 0 where
+    pub more : batch.is_last ≡ false → (before : S) (runs : List (List ℕ)) → IsReadTo before was runs old
+        → IsReadTo before now (runs ++ batch.cut) new
+    pub last : batch.is_last ≡ true → (before : S) (runs : List (List ℕ)) → IsReadTo before was runs old
+        → GaveAll Gave HasEnded old.limit before now (concat (runs ++ batch.cut))
+        × IsCutBy old.target (runs ++ batch.cut) (concat (runs ++ batch.cut))
+    pub number : batch.first ≡ old.first
+    pub start : batch.start ≡ old.start
+    pub longer : batch.is_last ≡ false → (read_length old < read_length new) × (read_length new ≤ new.limit)
+
+-- what a refusal at the end says of the bytes that are left, after so many morsels and bytes
+abbrev pub IsLastFault : ℕ → ℕ → ℕ → List ℕ → SourceFault → Type 0
+IsLastFault first start target fed (fault.Truncated place) = (k : ℕ) × IsTruncatedAt fed k × (place ≡ start + k)
+IsLastFault first start target fed fault.TooManyMorsels =
+    (runs : List (List ℕ)) × IsCutBy target runs fed × (MOST_MORSELS < first + length runs)
+IsLastFault first start target fed fault.OutOfMemory = Unit {0}
+IsLastFault first start target fed _ = ⊥

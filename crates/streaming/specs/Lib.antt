@@ -1,3 +1,3 @@
 pub mod Batches
-pub mod Fed
+pub mod Readings
 pub mod Streams

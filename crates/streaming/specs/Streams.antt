@@ -3,9 +3,6 @@
 use Rattle.std.specs.Prelude.{◌≡◌, ℕ, ◌+◌, ◌<◌, ◌≤◌, List, length}
 use Rattle.lists.specs.declared.limits.TheConstants.{MOST_MORSELS}
 use Rattle.day_file.specs.Cuts.{IsCutBy}
-use Rattle.day_file.specs.Frames.{IsTruncatedAt}
-use Rattle.streaming.specs.declared.reading.CutReadFault.{CutReadFault}
-use Rattle.streaming.specs.declared.reading.CutReadFault.TheVariants as fault
 
 -- S is the states of a source, and `Gave` says which bytes it gave from one state to a later one.
 module _ {S : Type 0} (Gave : S → S → List ℕ → Type 0) where
@@ -30,16 +27,3 @@ module _ {S : Type 0} (Gave : S → S → List ℕ → Type 0) where
 -- bytes have a cut by the target that has more morsels than are allowed
 abbrev pub HasTooMany : ℕ → List ℕ → Type 0
 HasTooMany target day = (runs : List (List ℕ)) × IsCutBy target runs day × (MOST_MORSELS < length runs)
-
--- what each refusal of a source that is cut while it is read says of what the source gave. If a call failed, or
--- memory ran out, that is only how many bytes it may have given at most; that a call failed is a clause of its own,
--- `failed` of `next_batch`.
-abbrev pub IsReadFault : {S : Type 0} → (S → S → List ℕ → Type 0) → (S → Type 0)
-    → ℕ → ℕ → S → S → CutReadFault → Type 0
-IsReadFault Gave HasEnded limit target before after fault.ReadFailed = GaveSome Gave limit before after
-IsReadFault Gave HasEnded limit target before after fault.TooLong = GaveMore Gave limit before after
-IsReadFault Gave HasEnded limit target before after (fault.Truncated place) =
-    (day : List ℕ) × GaveAll Gave HasEnded limit before after day × IsTruncatedAt day place
-IsReadFault Gave HasEnded limit target before after fault.TooManyMorsels =
-    (day : List ℕ) × GaveAll Gave HasEnded limit before after day × HasTooMany target day
-IsReadFault Gave HasEnded limit target before after fault.OutOfMemory = GaveSome Gave limit before after

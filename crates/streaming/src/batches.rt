@@ -1,29 +1,22 @@
-ghost use Rattle.std.specs.Prelude.{◌≡◌, ◌≤◌, ◌<◌, ◌+◌, ◌++◌, ◌↔◌, ℕ, List, [], length, true, false};
-ghost use Rattle.std.specs.Prelude.{IfErr, IfOk, IfSome, IsErrOf, IsNone, OnOk};
+ghost use Rattle.std.specs.Prelude.{◌≡◌, ◌≤◌, ◌<◌, ◌+◌, ◌++◌, ◌↔◌, ℕ, List, [], length, true, false, vec_len};
+ghost use Rattle.std.specs.Prelude.{IfErr, IfOk, IfSome, IsErrOf, IsNone, OnErr, OnOk};
 ghost use Rattle.std.specs.List.{concat};
 ghost use Rattle.lists.specs.declared.limits.TheConstants.{LONGEST_FILE, MOST_MORSELS};
 ghost use Rattle.day_file.specs.Cuts.{IsCutBy};
-ghost use Rattle.streaming.specs.Batches.{HasRead, IsLastFault, IsReadTo, read_length};
-ghost use Rattle.streaming.specs.Streams.{GaveAll, IsReadFault};
+ghost use Rattle.day_file.specs.Feeding.{HasFed, fed_length};
+ghost use Rattle.streaming.specs.Batches.{HasRead, IsLastFault, IsNextBatch, IsReadOn, IsReadTo, IsReading};
+ghost use Rattle.streaming.specs.Batches.{ReaderView, read_length};
+ghost use Rattle.streaming.specs.Readings.{IsSourceFault, of_stream};
 
-use crate::reading::{CutReadFault, PIECE, feed_next, zeros};
-use day_file::{Cut, CutFault, Cutter, LONGEST_FILE, MOST_MORSELS, OutOfMemory, Source};
+use crate::batch::Batch;
+use crate::fault::SourceFault;
+use day_file::{CutFault, Cutter, LONGEST_FILE, MOST_MORSELS, OutOfMemory, Source};
 use std::alloc::Global;
 use std::marker::Model;
 use std::mem;
 
-/// Morsels of a stream that follow each other.
-#[derive(Drop)]
-pub struct Batch {
-    /// The morsels. The numbers and places that they have are those within the batch.
-    pub cut: Cut,
-    /// How many morsels of the stream come before them.
-    pub first: u32,
-    /// How many bytes of the stream come before them.
-    pub start: u64,
-    /// Whether the stream ends with them.
-    pub is_last: bool,
-}
+/// The most bytes that one call asks of a source.
+const PIECE: usize = 65_536;
 
 /// Reads a source of at most `limit` bytes to its end, and cuts what it gives into batches of morsels,
 /// which are, joined, the morsels of the whole: each is the shortest run of frames that has at least
@@ -42,9 +35,6 @@ pub struct BatchReader {
 }
 
 impl Model for BatchReader {
-    ghost use Rattle.std.specs.Prelude.{vec_len};
-    ghost use Rattle.streaming.specs.Batches.{IsReading, ReaderView};
-
     ghost Value = { ReaderView };
 
     ghost view = { λ r. record {
@@ -55,13 +45,7 @@ impl Model for BatchReader {
       cutter = r.cutter;
     } };
 
-    ghost invariant = { λ r. IsReading (record {
-      limit = r.limit;
-      target = r.target;
-      start = r.start;
-      first = r.first;
-      cutter = r.cutter;
-    }) (vec_len r.piece) };
+    ghost invariant = { λ r. IsReading r.limit r.target r.start r.first r.cutter × (0 < vec_len r.piece) };
 }
 
 impl BatchReader {
@@ -81,7 +65,7 @@ impl BatchReader {
             start: 0,
             first: 0,
             cutter: Cutter::new(alloc, target),
-            piece: zeros(alloc, PIECE)?,
+            piece: zeros(alloc)?,
         })
     }
 
@@ -97,64 +81,45 @@ impl BatchReader {
     /// Reads and cuts the next batch. It asks for at most 65,536 bytes a call and for at most
     /// `limit` + 1 in all, and stops at the first call that fails. If there are too many morsels, all
     /// is read to the end, since a truncated stream is reported as that.
-    pub fn next_batch<S: Source>(&mut self, source: &mut S) -> Result<Batch, CutReadFault>
+    pub fn next_batch<S: Source>(&mut self, source: &mut S) -> Result<Batch, SourceFault>
         requires source { S.has_failed source.old ≡ false }
 
         // What was read goes on, until it is all that the source had to give; the runs of the batches,
         // joined, are then its cut.
-        ensures more { IfOk result (λ batch. batch.is_last ≡ false → (before : S) (runs : List (List ℕ))
-            → IsReadTo S.Gave before source.old runs self.old
-            → IsReadTo S.Gave before source.new (runs ++ batch.cut) self.new) }
-        ensures last { IfOk result (λ batch. batch.is_last ≡ true → (before : S) (runs : List (List ℕ))
-            → IsReadTo S.Gave before source.old runs self.old
-            → GaveAll S.Gave S.HasEnded self.old.limit before source.new (concat (runs ++ batch.cut))
-            × IsCutBy self.old.target (runs ++ batch.cut) (concat (runs ++ batch.cut))) }
-        ensures place { IfOk result (λ batch. (batch.first ≡ self.old.first) × (batch.start ≡ self.old.start)) }
-        ensures within { IfOk result (λ batch. batch.start + length (concat batch.cut) ≤ LONGEST_FILE) }
-        ensures few { IfOk result (λ batch. batch.first + length batch.cut ≤ MOST_MORSELS) }
-
-        // Each batch but the last takes bytes of the source.
-        ensures longer { IfOk result (λ batch. batch.is_last ≡ false
-            → (read_length self.old < read_length self.new) × (read_length self.new ≤ self.new.limit)) }
+        ensures next { IfOk result (IsNextBatch S.Gave S.HasEnded source.old source.new self.old self.new) }
         ensures same { (self.new.limit ≡ self.old.limit) × (self.new.target ≡ self.old.target) }
 
         // After a refusal the source may have been read in part.
         ensures fault { IfErr result (λ fault. (before : S) (runs : List (List ℕ))
             → IsReadTo S.Gave before source.old runs self.old
-            → IsReadFault S.Gave S.HasEnded self.old.limit self.old.target before source.new fault) }
-        ensures failed { IsErrOf result CutReadFault.ReadFailed ↔ (S.has_failed source.new ≡ true) }
+            → IsSourceFault (of_stream S.Gave S.HasEnded self.old.limit self.old.target before source.new) fault) }
+        ensures failed { IsErrOf result SourceFault.ReadFailed ↔ (S.has_failed source.new ≡ true) }
     {
         while self.feed(source)? {
             if let Some(batch) = self.take_batch() {
                 return Ok(batch);
             }
         }
-        self.last_batch()
+        let none = Cutter::new(self.alloc, self.target);
+        let cutter = mem::replace(&mut self.cutter, none);
+        last_batch(cutter, self.first, self.start)
     }
 
     // Feeds the cutter what one call of the source gives, and says whether it gave any byte.
-    fn feed<S: Source>(&mut self, source: &mut S) -> Result<bool, CutReadFault>
+    fn feed<S: Source>(&mut self, source: &mut S) -> Result<bool, SourceFault>
         requires source { S.has_failed source.old ≡ false }
-        ensures read { OnOk result ((before : S) (runs : List (List ℕ))
-            → IsReadTo S.Gave before source.old runs self.old
-            → IsReadTo S.Gave before source.new runs self.new) }
+        ensures read { OnOk result (IsReadOn S.Gave source.old source.new self.old self.new) }
         ensures end { IfOk result (λ more. more ≡ false → S.HasEnded source.new) }
         ensures longer { IfOk result (λ more. more ≡ true → read_length self.old < read_length self.new) }
-        ensures within { read_length self.new ≤ self.new.limit }
+        ensures within { OnOk result (read_length self.new ≤ self.new.limit) }
         ensures same { (self.new.limit ≡ self.old.limit) × (self.new.target ≡ self.old.target) }
-        ensures place { (self.new.first ≡ self.old.first) × (self.new.start ≡ self.old.start) }
         ensures fault { IfErr result (λ fault. (before : S) (runs : List (List ℕ))
             → IsReadTo S.Gave before source.old runs self.old
-            → IsReadFault S.Gave S.HasEnded self.old.limit self.old.target before source.new fault) }
-        ensures failed { IsErrOf result CutReadFault.ReadFailed ↔ (S.has_failed source.new ≡ true) }
+            → IsSourceFault (of_stream S.Gave S.HasEnded self.old.limit self.old.target before source.new) fault) }
+        ensures failed { IsErrOf result SourceFault.ReadFailed ↔ (S.has_failed source.new ≡ true) }
     {
-        let taken = feed_next(
-            source,
-            &mut self.cutter,
-            &mut self.piece,
-            self.start,
-            self.limit,
-        )?;
+        let left = self.limit - self.length();
+        let taken = feed_next(source, &mut self.cutter, &mut self.piece, left)?;
         Ok(taken > 0)
     }
 
@@ -165,8 +130,6 @@ impl BatchReader {
             → HasRead self.old runs bytes → HasRead self.new (runs ++ batch.cut) bytes) }
         ensures place { IfSome result (λ batch. (batch.first ≡ self.old.first) × (batch.start ≡ self.old.start)) }
         ensures more { IfSome result (λ batch. batch.is_last ≡ false) }
-        ensures within { IfSome result (λ batch. batch.start + length (concat batch.cut) ≤ LONGEST_FILE) }
-        ensures few { IfSome result (λ batch. batch.first + length batch.cut ≤ MOST_MORSELS) }
         ensures length { read_length self.new ≡ read_length self.old }
         ensures same { (self.new.limit ≡ self.old.limit) × (self.new.target ≡ self.old.target) }
     {
@@ -186,40 +149,74 @@ impl BatchReader {
             is_last: false,
         })
     }
+}
 
-    // The rest, once the source is at its end.
-    fn last_batch(&mut self) -> Result<Batch, CutReadFault>
-        ensures last { IfOk result (λ batch. (runs : List (List ℕ)) (bytes : List ℕ)
-            → HasRead self.old runs bytes → IsCutBy self.old.target (runs ++ batch.cut) bytes) }
-        ensures place { IfOk result (λ batch. (batch.first ≡ self.old.first) × (batch.start ≡ self.old.start)) }
-        ensures is_last { IfOk result (λ batch. batch.is_last ≡ true) }
-        ensures within { IfOk result (λ batch. batch.start + length (concat batch.cut) ≤ LONGEST_FILE) }
-        ensures few { IfOk result (λ batch. batch.first + length batch.cut ≤ MOST_MORSELS) }
-        ensures same { (self.new.limit ≡ self.old.limit) × (self.new.target ≡ self.old.target) }
-        ensures fault { IfErr result (λ fault. (runs : List (List ℕ)) (bytes : List ℕ)
-            → HasRead self.old runs bytes → IsLastFault self.old.target bytes fault) }
-        ensures device { IsErrOf result CutReadFault.ReadFailed → ⊥ }
-    {
-        let none = Cutter::new(self.alloc, self.target);
-        let cutter = mem::replace(&mut self.cutter, none);
-        match cutter.finish() {
-            Ok(cut) => {
-                if self.first + cut.count() > MOST_MORSELS {
-                    return Err(CutReadFault::TooManyMorsels);
-                }
-                Ok(Batch {
-                    cut,
-                    first: self.first,
-                    start: self.start,
-                    is_last: true,
-                })
+// A piece of a source, before it is read.
+fn zeros(alloc: Global) -> Result<Vec<u8>, OutOfMemory>
+    ensures { IfOk result (λ zeros. vec_len zeros ≡ PIECE) }
+{
+    vec![in alloc; 0u8; PIECE]
+}
+
+// Feeds the cutter what one call of the source gives, at most what has room in `piece`, and says how many bytes those
+// are. No more than `left` and one more are asked for.
+fn feed_next<S: Source>(
+    source: &mut S,
+    cutter: &mut Cutter,
+    piece: &mut [u8],
+    left: u64,
+) -> Result<usize, SourceFault>
+    requires source { S.has_failed source.old ≡ false }
+    requires room { 0 < length piece.old }
+    requires left { fed_length cutter.old + left ≤ LONGEST_FILE }
+    ensures fed { IfOk result (λ count. (taken : List ℕ) × (length taken ≡ count) × S.Gave source.old source.new taken
+        × ((fed : List ℕ) → HasFed cutter.old fed → HasFed cutter.new (fed ++ taken))) }
+    ensures within { IfOk result (λ count. count ≤ left) }
+    ensures end { IfOk result (λ count. count ≡ 0 → S.HasEnded source.new) }
+    ensures same { OnErr result ((fed : List ℕ) → HasFed cutter.old fed → HasFed cutter.new fed) }
+    ensures target { cutter.new.target ≡ cutter.old.target }
+    ensures room { length piece.new ≡ length piece.old }
+    ensures fault { IfErr result (λ fault. (before : S) (bytes : List ℕ) (limit target : ℕ)
+        → S.Gave before source.old bytes → length bytes + left ≡ limit
+        → IsSourceFault (of_stream S.Gave S.HasEnded limit target before source.new) fault) }
+    ensures failed { IsErrOf result SourceFault.ReadFailed ↔ (S.has_failed source.new ≡ true) }
+{
+    let most = (left + 1).min(piece.len() as u64) as usize;
+    let taken = source.take(&mut piece[..most])?;
+    if taken as u64 > left {
+        return Err(SourceFault::TooLong);
+    }
+    cutter.feed(&piece[..taken])?;
+    Ok(taken)
+}
+
+// The rest, once the source is at its end: what is left in the cutter, after so many morsels and bytes.
+fn last_batch(cutter: Cutter, first: u32, start: u64) -> Result<Batch, SourceFault>
+    requires few { first ≤ MOST_MORSELS }
+    requires within { (fed : List ℕ) × HasFed cutter fed × (start + length fed ≤ LONGEST_FILE) }
+    ensures last { IfOk result (λ batch. (batch.first ≡ first) × (batch.start ≡ start) × (batch.is_last ≡ true)
+        × ((fed : List ℕ) → HasFed cutter fed → IsCutBy cutter.target batch.cut fed)) }
+    ensures fault { IfErr result (λ fault. (fed : List ℕ) → HasFed cutter fed
+        → IsLastFault first start cutter.target fed fault) }
+    ensures device { IsErrOf result SourceFault.ReadFailed → ⊥ }
+{
+    match cutter.finish() {
+        Ok(cut) => {
+            if first + cut.count() > MOST_MORSELS {
+                return Err(SourceFault::TooManyMorsels);
             }
-            Err(CutFault::Truncated { place }) => Err(CutReadFault::Truncated {
-                place: self.start + place,
-            }),
-            Err(CutFault::NotABoundary { .. }) => unreachable!(),
-            Err(CutFault::TooManyMorsels) => Err(CutReadFault::TooManyMorsels),
-            Err(CutFault::OutOfMemory) => Err(CutReadFault::OutOfMemory),
+            Ok(Batch {
+                cut,
+                first,
+                start,
+                is_last: true,
+            })
         }
+        Err(CutFault::Truncated { place }) => Err(SourceFault::Truncated {
+            place: start + place,
+        }),
+        Err(CutFault::NotABoundary { .. }) => unreachable!(),
+        Err(CutFault::TooManyMorsels) => Err(SourceFault::TooManyMorsels),
+        Err(CutFault::OutOfMemory) => Err(SourceFault::OutOfMemory),
     }
 }

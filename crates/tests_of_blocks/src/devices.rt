@@ -1,8 +1,8 @@
 //! Blocks of a file that gives few bytes a call, and fails at some places.
 use crate::digests::{division_of, told_by_blocks};
-use block_scan::{BlocksFault, DeviceFailed, FileBlocks, Memory, ReadsAt};
+use block_scan::{DeviceFailed, FileBlocks, ReadsAt, SourceFault};
 use std::test::Fail;
-use tests_support::{BROKEN_EARLIER, Day};
+use tests_support::{BROKEN_EARLIER, Day, in_memory};
 
 /// A file of which each call gives at most `step` bytes, and fails from the place `bad` on.
 #[derive(Drop)]
@@ -39,13 +39,7 @@ impl<'a> ReadsAt for Disk<'a> {
 fn a_file_that_gives_few_bytes_a_call(rt: HostRuntime) -> Result<(), Fail> {
     let alloc = rt.alloc();
     let bytes = Day::of(alloc, &BROKEN_EARLIER)?.bytes;
-    let want = told_by_blocks(
-        &rt,
-        alloc,
-        Memory { bytes: &bytes },
-        1_000,
-        division_of(1, 133),
-    )?;
+    let want = told_by_blocks(&rt, alloc, in_memory(&bytes), 1_000, division_of(1, 133))?;
     for step in [1, 5, 60] {
         for blocks in [1, 3] {
             let source = FileBlocks::of(Disk {
@@ -73,7 +67,7 @@ fn a_reading_that_fails(rt: HostRuntime) -> Result<(), Fail> {
                 bad,
             });
             let told = told_by_blocks(&rt, alloc, source, 1_000, division_of(blocks, 133));
-            assert!(rt; told == Err(BlocksFault::ReadFailed), "{bad} in {blocks}");
+            assert!(rt; told == Err(SourceFault::ReadFailed), "{bad} in {blocks}");
         }
     }
     Ok(())

@@ -2,7 +2,7 @@
 ghost use Rattle.std.specs.Prelude.{◌≤◌};
 ghost use Rattle.lists.specs.declared.limits.TheConstants.{LONGEST_FILE};
 
-use block_scan::{BlockSource, BlocksFault, Division, OutOfMemory, block_inputs};
+use block_scan::{BlockSource, Division, OutOfMemory, SourceFault, block_inputs};
 use lists::limits::LONGEST_FILE;
 use morsel_rows::{MorselRows, Partition};
 use pipelines::{Crew, FreeGate, run_first};
@@ -110,15 +110,15 @@ pub fn told_by_blocks<R: Threads + Wait + Sync, S: BlockSource + Send + Sync>(
     source: S,
     limit: u64,
     division: Division,
-) -> Result<Digest, BlocksFault>
+) -> Result<Digest, SourceFault>
     requires { limit ≤ LONGEST_FILE }
 {
     let Ok(source) = Arc::new(alloc, source) else {
-        return Err(BlocksFault::OutOfMemory);
+        return Err(SourceFault::OutOfMemory);
     };
     let inputs = block_inputs(alloc, &source, None, PARTS, limit, division)?;
     let Ok(inputs) = Arc::new(alloc, inputs) else {
-        return Err(BlocksFault::OutOfMemory);
+        return Err(SourceFault::OutOfMemory);
     };
     let crew = Crew {
         workers: division.blocks.clamp(1, 64),

@@ -1,13 +1,13 @@
 //! Blocks of bytes in memory.
 use crate::digests::{Digest, PARTS, digest_of, division_of, told_by_blocks};
-use block_scan::{BlocksFault, Memory, OutOfMemory};
+use block_scan::{OutOfMemory, SourceFault};
 use day_file::{LONGEST_FILE, cut};
 use gathering::Work;
 use scanning::{ScanWork, scan_inputs};
 use std::alloc::Global;
 use std::sync::Arc;
 use std::test::Fail;
-use tests_support::{BROKEN_EARLIER, Day, Form, MSFT, WITH_A_SHORT_ADD, file_of};
+use tests_support::{BROKEN_EARLIER, Day, Form, MSFT, WITH_A_SHORT_ADD, file_of, in_memory};
 
 /// Messages with rows of most kinds.
 const ROWS: [Form; 8] = [
@@ -70,7 +70,7 @@ fn blocks_give_what_morsels_give(rt: HostRuntime) -> Result<(), Fail> {
         let bytes = day_of(alloc, forms, times)?;
         let want = told_by_morsels(alloc, day_of(alloc, forms, times)?)?;
         for (blocks, length) in DIVISIONS {
-            let source = Memory { bytes: &bytes };
+            let source = in_memory(&bytes);
             let told = told_by_blocks(
                 &rt,
                 alloc,
@@ -93,19 +93,19 @@ fn a_day_is_read_to_its_end_within_the_limit(rt: HostRuntime) -> Result<(), Fail
     };
     for (bytes, limit, want) in [
         ([0u8, 0].as_slice(), 2, Ok(none)),
-        (&[0, 0], 1, Err(BlocksFault::TooLong)),
-        (&[0, 0], 0, Err(BlocksFault::TooLong)),
+        (&[0, 0], 1, Err(SourceFault::TooLong)),
+        (&[0, 0], 0, Err(SourceFault::TooLong)),
         (&[], 0, Ok(none)),
-        (&[0], 1, Err(BlocksFault::Truncated { place: 0 })),
-        (&[0, 0, 0], 3, Err(BlocksFault::Truncated { place: 2 })),
+        (&[0], 1, Err(SourceFault::Truncated { place: 0 })),
+        (&[0, 0, 0], 3, Err(SourceFault::Truncated { place: 2 })),
         (
             &[0, 1, 90, 0, 2, 90],
             9,
-            Err(BlocksFault::Truncated { place: 3 }),
+            Err(SourceFault::Truncated { place: 3 }),
         ),
     ] {
         for blocks in [0, 1, 2, 7] {
-            let source = Memory { bytes };
+            let source = in_memory(bytes);
             let told = told_by_blocks(&rt, rt.alloc(), source, limit, division_of(blocks, 3));
             assert!(rt; told == want, "{blocks} up to {limit}");
         }

@@ -4,7 +4,7 @@ ghost use Rattle.std.specs.Prelude.{◌≡◌, false};
 use day_file::{Counted, LONGEST_FILE, OutOfMemory, Source, cut};
 use std::alloc::{AllocError, Global};
 use std::test::Fail;
-use streaming::{Batch, BatchReader, CutReadFault};
+use streaming::{Batch, BatchReader, SourceFault};
 use tests_support::{Day, Interrupted, NAMED, Trickle, UNNAMED, file_of};
 
 /// What the batches of a stream have, joined: the number of each morsel, with the place where it starts,
@@ -39,11 +39,7 @@ struct Way {
 }
 
 /// Reads all batches of a source.
-fn read_batches<S: Source>(
-    alloc: Global,
-    source: &mut S,
-    way: Way,
-) -> Result<Joined, CutReadFault> {
+fn read_batches<S: Source>(alloc: Global, source: &mut S, way: Way) -> Result<Joined, SourceFault> {
     let mut reader = BatchReader::new(
         alloc,
         way.limit.min(LONGEST_FILE),
@@ -57,7 +53,7 @@ fn read_batches<S: Source>(
     };
     for _ in 0..300_000u32 {
         if source.failed() {
-            return Err(CutReadFault::ReadFailed);
+            return Err(SourceFault::ReadFailed);
         }
         let batch = reader.next_batch(source)?;
         add(&mut joined, &batch)?;
@@ -122,10 +118,10 @@ fn batches_are_the_cut_of_the_whole(rt: HostRuntime) -> Result<(), Fail> {
 fn many_batches_have_no_more_morsels_than_a_cut(rt: HostRuntime) -> Result<(), Fail> {
     let alloc = rt.alloc();
     let most = 65_536;
-    let truncated = CutReadFault::Truncated { place: 131_074 };
-    let table: [(usize, u64, Result<usize, CutReadFault>); 5] = [
+    let truncated = SourceFault::Truncated { place: 131_074 };
+    let table: [(usize, u64, Result<usize, SourceFault>); 5] = [
         (2 * most, 1, Ok(65_536)),
-        (2 * most + 2, 1, Err(CutReadFault::TooManyMorsels)),
+        (2 * most + 2, 1, Err(SourceFault::TooManyMorsels)),
         (2 * most + 2, 3, Ok(32_769)),
         (2 * most + 3, 1, Err(truncated)),
         (2 * most + 3, 3, Err(truncated)),
@@ -155,14 +151,14 @@ fn batches_ask_for_no_more_than_the_limit_and_a_byte(rt: HostRuntime) -> Result<
     let day = Day::of(alloc, &UNNAMED)?.bytes;
     let long = vec![in alloc; 0u8; 140_000]?;
     // The limit, the outcome, the calls of the reader, and how many bytes it keeps.
-    let table: [(&[u8], u64, Result<usize, CutReadFault>, u32, usize); 7] = [
+    let table: [(&[u8], u64, Result<usize, SourceFault>, u32, usize); 7] = [
         (&day, 71, Ok(71), 2, 0),
-        (&day, 70, Err(CutReadFault::TooLong), 1, 0),
-        (&day, 69, Err(CutReadFault::TooLong), 1, 1),
-        (&day, 0, Err(CutReadFault::TooLong), 1, 70),
+        (&day, 70, Err(SourceFault::TooLong), 1, 0),
+        (&day, 69, Err(SourceFault::TooLong), 1, 1),
+        (&day, 0, Err(SourceFault::TooLong), 1, 70),
         (&[], 0, Ok(0), 1, 0),
         (&long, 140_000, Ok(140_000), 4, 0),
-        (&long, 65_536, Err(CutReadFault::TooLong), 2, 74_463),
+        (&long, 65_536, Err(SourceFault::TooLong), 2, 74_463),
     ];
     for (bytes, limit, want, calls, kept) in table {
         let mut reader = Interrupted::of(bytes, 1_000_000, u32::MAX);
@@ -197,7 +193,7 @@ fn a_source_that_fails_in_some_batch_is_reported(rt: HostRuntime) -> Result<(), 
         };
         let read = read_batches(alloc, &mut source, way).map(|joined| joined.batches);
         let want = if calls < 72 {
-            Err(CutReadFault::ReadFailed)
+            Err(SourceFault::ReadFailed)
         } else {
             Ok(2)
         };
@@ -217,10 +213,10 @@ fn batches_or_want_of_memory(rt: HostRuntime) -> Result<(), Fail> {
     let bytes = Day::of(alloc, &NAMED)?.bytes;
     let cut_off = bytes.get(..111).unwrap_or(&[]);
     // The bytes, the target, and what comes of them: how many bytes in how many batches.
-    let table: [(&[u8], u64, Result<(usize, u32), CutReadFault>); 3] = [
+    let table: [(&[u8], u64, Result<(usize, u32), SourceFault>); 3] = [
         (&bytes, 1, Ok((112, 3))),
         (&bytes, 42, Ok((112, 2))),
-        (cut_off, 1, Err(CutReadFault::Truncated { place: 79 })),
+        (cut_off, 1, Err(SourceFault::Truncated { place: 79 })),
     ];
     for (bytes, target, want) in table {
         let mut source = Trickle::of(bytes, 1_000);
@@ -231,7 +227,7 @@ fn batches_or_want_of_memory(rt: HostRuntime) -> Result<(), Fail> {
         };
         let read = read_batches(alloc, &mut source, way);
         let found = read.map(|joined| (joined.bytes.len(), joined.batches));
-        if found == Err(CutReadFault::OutOfMemory) {
+        if found == Err(SourceFault::OutOfMemory) {
             return Err(Fail::from(AllocError));
         }
         assert!(rt; found == want, "by {target}");

@@ -5,7 +5,7 @@ ghost use Rattle.lists.specs.declared.limits.TheConstants.{LONGEST_FILE};
 use day_file::{Counted, LONGEST_FILE, Source, cut};
 use std::alloc::Global;
 use std::test::Fail;
-use streaming::{BatchReader, Cut, CutReadFault};
+use streaming::{BatchReader, Cut, SourceFault};
 use tests_support::{Day, Interrupted, NAMED, Trickle, UNNAMED, file_of};
 
 /// Whether both cuts have the same morsels.
@@ -28,11 +28,11 @@ fn read_whole<S: Source>(
     source: &mut S,
     limit: u64,
     target: u64,
-) -> Result<Cut, CutReadFault>
+) -> Result<Cut, SourceFault>
     requires source { S.has_failed source.old ≡ false }
     requires limit { limit ≤ LONGEST_FILE }
     requires target { 0 < target }
-    ensures { (S.has_failed source.new ≡ true) ↔ IsErrOf result CutReadFault.ReadFailed }
+    ensures { (S.has_failed source.new ≡ true) ↔ IsErrOf result SourceFault.ReadFailed }
 {
     let mut reader = BatchReader::new(alloc, limit, target, u64::MAX)?;
     let batch = reader.next_batch(source)?;
@@ -50,7 +50,7 @@ fn read_by(
     step: usize,
     limit: u64,
     target: u64,
-) -> (Result<Cut, CutReadFault>, Told) {
+) -> (Result<Cut, SourceFault>, Told) {
     let mut reader = Interrupted::of(bytes, step, u32::MAX);
     let mut source = Counted::of(&mut reader);
     let limit = limit.min(LONGEST_FILE);
@@ -76,7 +76,7 @@ fn what_is_read_by_few_bytes_a_call_is_cut_alike(rt: HostRuntime) -> Result<(), 
 }
 
 /// How many morsels are read by so many bytes a call, or the fault.
-fn count_by(alloc: Global, bytes: &[u8], step: usize, target: u64) -> Result<usize, CutReadFault> {
+fn count_by(alloc: Global, bytes: &[u8], step: usize, target: u64) -> Result<usize, SourceFault> {
     let (read, _) = read_by(alloc, bytes, step, LONGEST_FILE, target);
     Ok(read?.count() as usize)
 }
@@ -85,10 +85,10 @@ fn count_by(alloc: Global, bytes: &[u8], step: usize, target: u64) -> Result<usi
 fn many_pieces_are_cut_as_the_whole(rt: HostRuntime) -> Result<(), Fail> {
     let alloc = rt.alloc();
     let most = 65_536;
-    let truncated = Err(CutReadFault::Truncated { place: 131_074 });
-    let table: [(usize, u64, Result<usize, CutReadFault>); 5] = [
+    let truncated = Err(SourceFault::Truncated { place: 131_074 });
+    let table: [(usize, u64, Result<usize, SourceFault>); 5] = [
         (2 * most, 1, Ok(65_536)),
-        (2 * most + 2, 1, Err(CutReadFault::TooManyMorsels)),
+        (2 * most + 2, 1, Err(SourceFault::TooManyMorsels)),
         (2 * most + 2, 3, Ok(32_769)),
         (2 * most + 3, 1, truncated),
         (2 * most + 3, 3, truncated),
@@ -105,7 +105,7 @@ fn many_pieces_are_cut_as_the_whole(rt: HostRuntime) -> Result<(), Fail> {
 }
 
 /// How many bytes are read within a limit, or the fault, and what is told of the reader.
-fn length_within(alloc: Global, bytes: &[u8], limit: u64) -> (Result<u64, CutReadFault>, Told) {
+fn length_within(alloc: Global, bytes: &[u8], limit: u64) -> (Result<u64, SourceFault>, Told) {
     let (read, told) = read_by(alloc, bytes, 1_000_000, limit, 50);
     match read {
         Ok(cut) => (Ok(cut.length()), told),
@@ -119,14 +119,14 @@ fn no_more_than_the_limit_and_a_byte_is_asked_for(rt: HostRuntime) -> Result<(),
     let day = Day::of(alloc, &UNNAMED)?.bytes;
     let long = vec![in alloc; 0u8; 140_000]?;
     // The limit, the outcome, the calls of the reader, and how many bytes it keeps.
-    let table: [(&[u8], u64, Result<u64, CutReadFault>, u32, usize); 7] = [
+    let table: [(&[u8], u64, Result<u64, SourceFault>, u32, usize); 7] = [
         (&day, 71, Ok(71), 2, 0),
-        (&day, 70, Err(CutReadFault::TooLong), 1, 0),
-        (&day, 69, Err(CutReadFault::TooLong), 1, 1),
-        (&day, 0, Err(CutReadFault::TooLong), 1, 70),
+        (&day, 70, Err(SourceFault::TooLong), 1, 0),
+        (&day, 69, Err(SourceFault::TooLong), 1, 1),
+        (&day, 0, Err(SourceFault::TooLong), 1, 70),
         (&[], 0, Ok(0), 1, 0),
         (&long, 140_000, Ok(140_000), 4, 0),
-        (&long, 65_536, Err(CutReadFault::TooLong), 2, 74_463),
+        (&long, 65_536, Err(SourceFault::TooLong), 2, 74_463),
     ];
     for (bytes, limit, want, calls, kept) in table {
         let (length, told) = length_within(alloc, bytes, limit);
@@ -147,7 +147,7 @@ fn a_source_that_fails_at_some_call_has_no_cut(rt: HostRuntime) -> Result<(), Fa
         let mut source = Trickle::of(&bytes, calls);
         let read = read_whole(alloc, &mut source, 71, 1).map(|cut| cut.count());
         let want = if calls < 72 {
-            Err(CutReadFault::ReadFailed)
+            Err(SourceFault::ReadFailed)
         } else {
             Ok(2)
         };

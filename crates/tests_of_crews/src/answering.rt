@@ -4,14 +4,14 @@ ghost use Rattle.lists.specs.declared.limits.TheConstants.{MOST_PARTITIONS};
 
 use day_file::cut;
 use executor::{
-    Answer, Crew, DayFault, Division, Gate, LONGEST_FILE, Memory, OutOfMemory, Settings, answer,
-    answer_blocks, parse,
+    Answer, Crew, DayFault, Division, FileBlocks, Gate, LONGEST_FILE, OutOfMemory, Settings,
+    answer, answer_blocks, parse,
 };
 use std::alloc::Global;
 use std::sync::{Arc, Wait};
 use std::test::Fail;
 use std::thread::Threads;
-use tests_support::{Day, Form, file_of};
+use tests_support::{Day, Form, Memory, file_of, in_memory};
 
 /// The text of a listing without sales.
 pub const HEADER: &str = "time,symbol,kind,price,shares,number\n";
@@ -50,8 +50,11 @@ pub enum Way {
 pub const WAYS: [Way; 2] = [Way::Morsels, Way::Blocks];
 
 /// A source of these bytes, to be shared.
-pub fn shared(alloc: Global, bytes: &[u8]) -> Result<Arc<Memory<'_>, Global>, OutOfMemory> {
-    Ok(Arc::new(alloc, Memory { bytes })?)
+pub fn shared(
+    alloc: Global,
+    bytes: &[u8],
+) -> Result<Arc<FileBlocks<Memory<'_>>, Global>, OutOfMemory> {
+    Ok(Arc::new(alloc, in_memory(bytes))?)
 }
 
 /// The answer to a query over these frames, with so many partitions.

@@ -3,7 +3,7 @@ ghost use Rattle.std.specs.Prelude.{◌≡◌, ◌≤◌, length};
 
 use crate::answering::HEADER;
 use executor::{
-    Answer, BlockSource, CountedSink, Crew, DeviceFailed, Division, FileBlocks, FreeGate, Memory,
+    Answer, BlockSource, CountedSink, Crew, DeviceFailed, Division, FileBlocks, FreeGate,
     OutOfMemory, Query, QueryFault, ReadsAt, RunFault, Settings, answer_blocks, parse, run_blocks,
 };
 use std::alloc::Global;
@@ -11,7 +11,7 @@ use std::sync::atomic::{AtomicBool, AtomicU64, Ordering};
 use std::sync::{Arc, Wait};
 use std::test::Fail;
 use std::thread::Threads;
-use tests_support::{BROKEN_EARLIER, Day, Form, UNNAMED};
+use tests_support::{BROKEN_EARLIER, Day, Form, UNNAMED, in_memory};
 use tests_works::hold;
 
 /// What `run_blocks` gives with so many workers, and what was written.
@@ -109,9 +109,7 @@ fn a_device_that_fails_or_is_too_long_leaves_the_sink_alone(rt: HostRuntime) -> 
 #[test]
 fn blocks_answer_or_want_memory(rt: HostRuntime) -> Result<(), Fail> {
     let bytes = Day::of(rt.alloc(), &BROKEN_EARLIER)?.bytes;
-    let source = Memory {
-        bytes: bytes.as_slice(),
-    };
+    let source = in_memory(bytes.as_slice());
     let (told, written) = told_by_blocks(&rt, rt.alloc(), source, 3 * HALF, "sales", 1_000, 2);
     let want = if told.is_ok() { HEADER } else { "" };
     assert!(rt; written.as_slice() == want.as_bytes());

@@ -7,7 +7,7 @@ mod breaks;
 #[cfg(test)]
 mod far;
 #[cfg(test)]
-mod keyed;
+mod needed;
 #[cfg(test)]
 mod order_lists;
 #[cfg(test)]

@@ -1,9 +1,11 @@
 //! What the tests of several crates share: sources, readers and writers that give or take few bytes
-//! a call and fail at some call, and day files that are made of one form for each frame.
+//! a call and fail at some call, bytes in memory as a file that is read at places, and day files that are made of
+//! one form for each frame.
 #![tactic(auto)]
 
 mod days;
 mod forms;
+mod memory;
 mod readers;
 mod trickle;
 mod writers;
@@ -13,6 +15,7 @@ pub use days::{
     file_of,
 };
 pub use forms::{Day, Form, Placed};
+pub use memory::{Memory, in_memory};
 pub use readers::{Broken, Interrupted};
 pub use trickle::Trickle;
 pub use writers::InterruptedWriter;

@@ -1,11 +1,9 @@
 -- Listings merged: what the parts give, and in which order.
-use Rattle.std.proofs.Common.{◌≡◌, ◌+◌, Bool, false, ltb, List, [], ◌∷◌, ◌++◌, get_or, map, length, All, Vec, Less, arith}
-use Rattle.std.specs.List.{flat_map}
+use Rattle.std.proofs.Common.{◌≡◌, ◌+◌, Bool, false, ltb, List, [], ◌∷◌, ◌++◌, get_or, map, length, All, Vec, Less, arith, flat_map, append-nil}
 use Rattle.std.specs.List.Sorted.{IsSortedBy}
 use Rattle.std.specs.Vec.Iter.{into_iter_items, into_iter_len, into_iter_steps}
 use Rattle.std.specs.declared.vec.IntoIter.{IntoIter}
 use Rattle.std.proofs.lemmas.Bool.Decides.{nat_tests}
-use Rattle.std.proofs.lemmas.List.{append-nil}
 use Rattle.std.proofs.lemmas.List.Elements.{All-map, All-weaker}
 use Rattle.std.proofs.lemmas.List.Folds.{flat_map-map}
 use Rattle.std.proofs.lemmas.Iterator.Adapters.{YieldsList-from_vec}

@@ -1,9 +1,8 @@
 -- Items in ranges of numbers: what a search finds, and that the texts of all ranges are the text of the whole.
-use Rattle.std.proofs.Common.{◌≡◌, ℕ, suc, ◌+◌, ◌<◌, ◌≤◌, Bool, true, false, not, ◌&&◌, cond, ltb, All, List, [], ◌∷◌, ◌++◌, length, map, take, drop}
-use Rattle.std.proofs.Common.{get_or, filter, Vec, Result, Ok, IfOk, refl, sym, ap, ap₂, ◌∙◌, arith, length-drop}
-use Rattle.std.specs.List.{flat_map}
+use Rattle.std.proofs.Common.{◌≡◌, ℕ, suc, ◌+◌, ◌<◌, ◌≤◌, Bool, true, false, not, ◌&&◌, ltb, All, List, [], ◌∷◌, ◌++◌, length, map, take, drop, get_or, filter}
+use Rattle.std.proofs.Common.{Vec, Result, Ok, IfOk, refl, sym, ap, ap₂, ◌∙◌, arith, rules, inl, inr, length-drop, flat_map}
 use Rattle.std.specs.List.Sorted.{IsNonDecreasing, IsNonDecreasingBy, IsPartitionPoint}
-use Rattle.std.proofs.lemmas.Bool.{le-ltb, ltb-false}
+use Rattle.std.proofs.lemmas.Bool.{cases_Bool, le-ltb, ltb-false}
 use Rattle.std.proofs.lemmas.Bool.Decides.{nat_tests}
 use Rattle.std.proofs.lemmas.List.{append-nil, length-take-le, get_or-take, get_or-drop, take-append-drop, take_more}
 use Rattle.std.proofs.lemmas.List.Concat.{flat_map-append}
@@ -54,10 +53,7 @@ module _ {X : Type 0} (p : X → Bool) (xs : List X) (i : ℕ) (within : i ≤ l
 
 filter_both : {X : Type 0} (p q : X → Bool) (xs : List X) → filter p (filter q xs) ≡ filter (λ x. q x && p x) xs
 filter_both p q [] = refl
-filter_both {X} p q (x ∷ xs) =
-    let both : X → Bool = λ z. q z && p z in
-    elim (q x) as (λ t. filter p (cond t (x ∷ filter q xs) (filter q xs)) ≡ cond (t && p x) (x ∷ filter both xs) (filter both xs))
-    [ true ↦ ap (λ l. cond (p x) (x ∷ l) l) (filter_both p q xs) | false ↦ filter_both p q xs ]
+filter_both p q (x ∷ xs) = let more = filter_both p q xs in grind (arith, rules)
 
 -- ---- the first range
 
@@ -89,14 +85,12 @@ module _ {X : Type 0} (number : X → ℕ) where
   -- what is below a bound, and then what is from it on
   halves : (bound : ℕ) (xs : List X) → IsNonDecreasingBy number xs → filter (below bound) xs ++ filter (from bound) xs ≡ xs
   halves bound [] up = refl
-  halves bound (x ∷ xs) up =
-      elim (below bound x) as (λ t. below bound x ≡ t
-      → cond t (x ∷ filter (below bound) xs) (filter (below bound) xs) ++ cond (not t) (x ∷ filter (from bound) xs) (filter (from bound) xs) ≡ x ∷ xs) [
-        | true ↦ λ e. ap (λ l. x ∷ l) (halves bound xs (λ i j d le lt. up (suc i) (suc j) d (omega arith) (omega arith)))
-        | false ↦ λ e.
-            let high : All (λ y. below bound y ≡ false) xs = λ k d l. le-ltb _ _ (omega (arith, ltb-false _ _ e, up 0 (suc k) d (omega arith) (omega arith))) in
-            ap₂ (λ l m. l ++ x ∷ m) (none_pass (below bound) xs high) (all_pass (from bound) xs (λ k d l. ap not (high k d l)))
-      ] refl
+  halves bound (x ∷ xs) up = elim (cases_Bool (below bound x)) [
+    | inl e ↦ (rw e (ap (λ l. x ∷ l) (halves bound xs (λ i j d le lt. up (suc i) (suc j) d (omega arith) (omega arith)))))
+    | inr e ↦ (let high : All (λ y. below bound y ≡ false) xs =
+        λ k d l. le-ltb _ _ (omega (arith, ltb-false _ _ e, up 0 (suc k) d (omega arith) (omega arith))) in
+        rw e (ap₂ (λ l m. l ++ x ∷ m) (none_pass (below bound) xs high) (all_pass (from bound) xs (λ k d l. ap not (high k d l)))))
+  ]
 
   -- what is from a bound on is what is below the next bound, and then what is from that one on
   split : (low high : ℕ) (xs : List X) → low ≤ high → IsNonDecreasingBy number xs

@@ -1,6 +1,5 @@
 -- The sales of many listings that are in a range of places.
-use Rattle.std.proofs.Common.{◌≡◌, ℕ, Bool, All, Bor, List, ◌++◌, map, filter, IsPermutation, arith}
-use Rattle.std.specs.List.{flat_map}
+use Rattle.std.proofs.Common.{◌≡◌, ℕ, Bool, All, Bor, List, ◌++◌, map, filter, IsPermutation, arith, flat_map}
 use Rattle.std.specs.List.Sorted.{IsNonDecreasingBy}
 use Rattle.std.proofs.lemmas.List.{get_or-map, length-map}
 use Rattle.std.proofs.lemmas.List.Concat.{flat_map-append}
@@ -8,9 +7,8 @@ use Rattle.std.proofs.lemmas.List.Elements.{All-filter}
 use Rattle.std.proofs.lemmas.List.Kept.{IsStrictlySortedBy-filter}
 use Rattle.std.proofs.lemmas.List.Sorted.{All-permutation, IsPermutation-sym, IsPermutation-trans}
 use Rattle.lists.proofs.Lists.{IsPermutation-filter}
-use Rattle.row_types.specs.declared.trade.Sale.{Sale}
 use Rattle.row_types.specs.SalesByPlace.{place_cmp, IsByPlace}
-use Rattle.time_and_sales.specs.Texts.{lines_text, sale_line}
+use Rattle.time_and_sales.specs.Texts.{Sale, lines_text, sale_line}
 use Rattle.time_and_sales.proofs.SortedByPlace.{one_order, place_of}
 
 -- the sales of all listings

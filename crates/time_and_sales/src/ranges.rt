@@ -144,6 +144,7 @@ fn range_of<'a>(
 }
 
 /// How many sales of all listings are in the first range, for room for them to be made.
+#[tactic(auto, using(crate::proofs::SortedByPlace::places_rise))]
 fn count_within(listings: &[&Listing], bounds: &[u64]) -> usize {
     let mut count = 0usize;
     for listing in listings {

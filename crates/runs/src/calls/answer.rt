@@ -1,14 +1,13 @@
-ghost use Rattle.std.specs.Prelude.{ℕ, List, ◌<◌, ◌≤◌, IfOk};
+ghost use Rattle.std.specs.Prelude.{◌≡◌, ℕ, List, ◌<◌, ◌≤◌, Err, IfOk};
 ghost use Rattle.std.specs.List.{concat};
 ghost use Rattle.lists.specs.declared.limits.TheConstants.{MOST_PARTITIONS};
 ghost use Rattle.answers.specs.Answers.{IsAnswer, IsAnswerToMessages, told_by};
 ghost use Rattle.day_rows.specs.Messages.{Placed};
 ghost use Rattle.joining.specs.Gathered.{AreGatheredOf};
-ghost use Rattle.runs.specs.FirstPipeline.{IsOutcomeOf, IsScanOf};
+ghost use Rattle.runs.specs.FirstPipeline.{IsOutcomeOf, IsScanOf, wrong_fault};
 
 use crate::OutOfMemory;
-use crate::calls::first_pipeline::told_of;
-use answers::Answer;
+use answers::{Answer, DayFault};
 use buckets::BucketTotal;
 use day_file::Cut;
 use joining::answer_in_ranges;
@@ -86,7 +85,7 @@ pub(crate) fn answer_of_outcome<R: Threads + Sync>(
 
 /// The answer that the total of all buckets gives. As many threads as the crew has workers make its text.
 /// Meanwhile another one frees what the scans found, or the caller does first if none can be made.
-fn answer_of_total<R: Threads + Sync>(
+pub(crate) fn answer_of_total<R: Threads + Sync>(
     rt: &R,
     alloc: Global,
     query: &Query,
@@ -106,4 +105,16 @@ fn answer_of_total<R: Threads + Sync>(
         freeing.join(rt);
     }
     answer
+}
+
+/// What is reported of a wrong length that the first pipeline found.
+pub fn told_of(wrong: WrongLength) -> Answer
+    ensures { told_by result ≡ Err (wrong_fault wrong) }
+{
+    Answer::Faulty(DayFault::WrongLength {
+        place: wrong.place,
+        kind: wrong.fault.kind,
+        length: wrong.fault.length,
+        wanted: wrong.fault.wanted,
+    })
 }

@@ -1,11 +1,12 @@
 //! From what came of the blocks of a source to the buckets.
 ghost use Rattle.std.specs.Prelude.{◌≡◌, ◌<◌, ◌≤◌};
 ghost use Rattle.lists.specs.declared.limits.TheConstants.{MOST_PARTITIONS};
+ghost use Rattle.planning.specs.Planned.{LinkView};
 ghost use Rattle.runs.specs.FirstPipeline.{link_of};
 ghost use Rattle.runs.specs.LinkedBlocks.{LinksAttempts};
 
 use crate::OutOfMemory;
-use block_scan::{Attempts, BlockSource, BlockWork, BlocksFault};
+use block_scan::{Attempts, BlockSource, BlockWork, SourceFault};
 use buckets::BucketWork;
 use gathering::Inputs;
 use links::{Link, Linked};
@@ -19,7 +20,7 @@ use std::marker::Model;
 #[derive(Clone, Copy, Debug, PartialEq, Eq)]
 pub enum BlocksStop {
     /// The source wasn't read whole, or is truncated.
-    Refused { fault: BlocksFault },
+    Refused { fault: SourceFault },
     /// The wrong length of least place.
     WrongLength { wrong: WrongLength },
 }
@@ -31,8 +32,6 @@ pub struct BlockLink<'a> {
 }
 
 impl<'a> Model for BlockLink<'a> {
-    ghost use Rattle.planning.specs.Planned.{LinkView};
-
     ghost Value = { LinkView };
 
     ghost view = { λ link. link.plan };
@@ -64,7 +63,7 @@ impl<'a, S: BlockSource + Send + Sync> Link<BlockWork<S>, BucketWork> for BlockL
     ) -> Result<Linked<Inputs<BucketWork>, DayPlan, BlocksStop>, OutOfMemory> {
         let scans = match total.join(alloc) {
             Ok(scans) => scans,
-            Err(BlocksFault::OutOfMemory) => return Err(AllocError),
+            Err(SourceFault::OutOfMemory) => return Err(AllocError),
             Err(fault) => return Ok(Linked::Halt {
                 stop: BlocksStop::Refused { fault },
             }),

@@ -1,16 +1,17 @@
 //! What every run begins and ends with: the query of its text, and the answer that goes to its sink.
-ghost use Rattle.std.specs.Prelude.{◌≡◌, false, IfErr, IfOk};
+ghost use Rattle.std.specs.Prelude.{◌≡◌, ◌↔◌, false, true, IfErr, IfOk};
 ghost use Rattle.answers.specs.Answers.{told_by};
 ghost use Rattle.query.specs.Grammar.{Means};
 ghost use Rattle.query.specs.Words.{words_of};
-ghost use Rattle.runs.specs.Runs.{is_write_failed};
-ghost use Rattle.runs.specs.Sources.{IsHandedOver, IsQueryRefusal};
+ghost use Rattle.runs.specs.Runs.{is_read_failed, is_write_failed};
+ghost use Rattle.runs.specs.Sources.{IsHandedOver, IsQueryRefusal, IsRefusedFor, TellsTruncated};
 
-use answers::Answer;
+use answers::{Answer, DayFault};
 use outcomes::RunFault;
 use query::{Query, QueryFault, parse};
 use sinks::{Sink, WriteFailed, deliver_pieces};
 use std::alloc::Global;
+use streaming::SourceFault;
 
 /// The query that a text means.
 pub(crate) fn query_of(alloc: Global, text: &str) -> Result<Query, RunFault>
@@ -36,5 +37,20 @@ pub(crate) fn hand_over<K: Sink>(answer: Answer, sink: &mut K) -> Result<(), Run
             Err(WriteFailed { written }) => Err(RunFault::WriteFailed { written }),
         },
         Answer::Faulty(fault) => Err(RunFault::Day(fault)),
+    }
+}
+
+/// What is reported if a source gives no rows: the place where it is truncated, or a refusal.
+pub(crate) fn answer_of_fault(fault: SourceFault, limit: u64) -> Result<Answer, RunFault>
+    ensures answers { IfOk result (λ answer. TellsTruncated fault (told_by answer)) }
+    ensures refused { IfErr result (IsRefusedFor limit fault) }
+    ensures failed { (is_read_failed result ≡ true) ↔ (fault ≡ SourceFault.ReadFailed) }
+{
+    match fault {
+        SourceFault::ReadFailed => Err(RunFault::ReadFailed),
+        SourceFault::TooLong => Err(RunFault::TooLong { limit }),
+        SourceFault::TooManyMorsels => Err(RunFault::TooManyMorsels),
+        SourceFault::Truncated { place } => Ok(Answer::Faulty(DayFault::Truncated { place })),
+        SourceFault::OutOfMemory => Err(RunFault::OutOfMemory),
     }
 }

@@ -1,21 +1,21 @@
 ghost use Rattle.std.specs.Prelude.{◌≡◌, false, IfErr, IfOk};
 ghost use Rattle.std.specs.List.{concat};
 ghost use Rattle.answers.specs.Answers.{IsAnswer, told_by};
-ghost use Rattle.runs.specs.Readings.{of_stream};
+ghost use Rattle.streaming.specs.Readings.{of_stream};
 ghost use Rattle.runs.specs.Runs.{Ran, is_read_failed, is_write_failed};
 ghost use Rattle.runs.specs.Sources.{IsAnswered, IsSourceRefusal};
 
 use crate::calls::answer::answer_scans;
-use crate::calls::ends::{hand_over, query_of};
+use crate::calls::ends::{answer_of_fault, hand_over, query_of};
 use crate::calls::stream::scan_source;
-use answers::{Answer, DayFault};
+use answers::Answer;
 use outcomes::{RunFault, Settings};
 use query::Query;
 use sinks::Sink;
 use std::alloc::{AllocError, Global};
 use std::sync::Wait;
 use std::thread::Threads;
-use streaming::{CutReadFault, Source};
+use streaming::Source;
 
 /// Reads a whole day file from a source, batch by batch, and cuts it into morsels, which threads scan
 /// while the next batch is read. Threads then find the answer to the query, which is written to a sink.
@@ -65,13 +65,7 @@ fn answer_source<R: Threads + Wait + Sync, S: Source>(
     } = settings;
     let total = match scan_source(rt, alloc, source, query.as_of, settings) {
         Ok(total) => total,
-        Err(CutReadFault::ReadFailed) => return Err(RunFault::ReadFailed),
-        Err(CutReadFault::TooLong) => return Err(RunFault::TooLong { limit }),
-        Err(CutReadFault::Truncated { place }) => {
-            return Ok(Answer::Faulty(DayFault::Truncated { place }));
-        }
-        Err(CutReadFault::TooManyMorsels) => return Err(RunFault::TooManyMorsels),
-        Err(CutReadFault::OutOfMemory) => return Err(RunFault::OutOfMemory),
+        Err(fault) => return answer_of_fault(fault, limit),
     };
     match answer_scans(rt, alloc, total, query, parts, crew) {
         Ok(answer) => Ok(answer),

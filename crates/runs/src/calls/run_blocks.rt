@@ -1,25 +1,21 @@
-ghost use Rattle.std.specs.Prelude.{◌≡◌, ℕ, List, false, IfErr, IfOk};
-ghost use Rattle.std.specs.List.{concat};
+ghost use Rattle.std.specs.Prelude.{◌≡◌, false, IfErr, IfOk};
 ghost use Rattle.std.specs.Arc.{arc_value};
-ghost use Rattle.answers.specs.Answers.{IsAnswer, told_by};
-ghost use Rattle.block_scan.specs.Blocks.{IsBlocksFault};
-ghost use Rattle.runs.specs.FirstPipeline.{IsOutcomeOf};
-ghost use Rattle.runs.specs.LinkedBlocks.{IsOutcomeOfBlocks, IsRefusedFor, TellsTruncated};
-ghost use Rattle.runs.specs.Readings.{of_blocks};
+ghost use Rattle.answers.specs.Answers.{told_by};
+ghost use Rattle.block_scan.specs.Blocks.{IsBlocksFault, of_blocks};
+ghost use Rattle.runs.specs.LinkedBlocks.{IsOutcomeOfBlocks};
 ghost use Rattle.runs.specs.Runs.{Ran, is_write_failed};
 ghost use Rattle.runs.specs.Sources.{IsAnswered, IsSourceRefusal};
 
-use crate::calls::answer::answer_of_outcome;
+use crate::calls::answer::{answer_of_total, told_of};
 use crate::calls::block_link::{BlockLink, BlocksStop};
-use crate::calls::ends::{hand_over, query_of};
-use answers::{Answer, DayFault};
-use block_scan::{BlockSource, BlocksFault, Division, block_inputs};
+use crate::calls::ends::{answer_of_fault, hand_over, query_of};
+use answers::Answer;
+use block_scan::{BlockSource, Division, SourceFault, block_inputs};
 use buckets::BucketTotal;
 use outcomes::{RunFault, Settings};
-use pipelines::{Crew, FreeGate, Gate, Outcome, run_pair};
+use pipelines::{FreeGate, Gate, Outcome, run_pair};
 use planning::DayPlan;
 use query::Query;
-use scanning::WrongLength;
 use sinks::Sink;
 use std::alloc::{AllocError, Global};
 use std::sync::{Arc, Wait};
@@ -82,33 +78,15 @@ pub fn answer_blocks<G: Gate, R: Threads + Wait + Sync, S: BlockSource + Send + 
     };
     match outcome {
         Outcome::Finished { total, kept } => {
-            answer_whole(rt, alloc, query, Outcome::Finished { total, kept }, crew)
+            match answer_of_total(rt, alloc, query, total, kept, crew) {
+                Ok(answer) => Ok(answer),
+                Err(AllocError) => Err(RunFault::OutOfMemory),
+            }
         }
         Outcome::Stopped { stop } => match stop {
-            BlocksStop::WrongLength { wrong } => {
-                answer_whole(rt, alloc, query, Outcome::Stopped { stop: wrong }, crew)
-            }
+            BlocksStop::WrongLength { wrong } => Ok(told_of(wrong)),
             BlocksStop::Refused { fault } => answer_of_fault(fault, limit),
         },
-    }
-}
-
-/// The answer that the outcome of both pipelines over all that a source gave gives.
-fn answer_whole<R: Threads + Sync>(
-    rt: &R,
-    alloc: Global,
-    query: &Query,
-    outcome: Outcome<BucketTotal, DayPlan, WrongLength>,
-    crew: Crew,
-) -> Result<Answer, RunFault>
-    requires outcome { (runs : List (List ℕ)) × IsOutcomeOf query.now outcome runs }
-    ensures answers { IfOk result (λ answer. (runs : List (List ℕ)) → IsOutcomeOf query.now outcome runs →
-        IsAnswer (concat runs) query.now (told_by answer)) }
-    ensures refused { IfErr result (λ refusal. refusal ≡ RunFault.OutOfMemory) }
-{
-    match answer_of_outcome(rt, alloc, query, outcome, crew) {
-        Ok(answer) => Ok(answer),
-        Err(AllocError) => Err(RunFault::OutOfMemory),
     }
 }
 
@@ -121,7 +99,7 @@ fn outcome_of_blocks<G: Gate, R: Threads + Wait + Sync, S: BlockSource + Send + 
     query: &Query,
     settings: Settings,
     gate: &G,
-) -> Result<Outcome<BucketTotal, DayPlan, BlocksStop>, BlocksFault>
+) -> Result<Outcome<BucketTotal, DayPlan, BlocksStop>, SourceFault>
     ensures outcome { IfOk result
         (IsOutcomeOfBlocks S.GaveAt S.EndsAt S.FailsAt (arc_value source.now) settings.limit query.now) }
     ensures fault { IfErr result (IsBlocksFault S.GaveAt S.EndsAt S.FailsAt (arc_value source.now) settings.limit) }
@@ -134,21 +112,8 @@ fn outcome_of_blocks<G: Gate, R: Threads + Wait + Sync, S: BlockSource + Send + 
     } = settings;
     let inputs = block_inputs(alloc, source, query.as_of, parts, limit, division)?;
     let Ok(inputs) = Arc::new(alloc, inputs) else {
-        return Err(BlocksFault::OutOfMemory);
+        return Err(SourceFault::OutOfMemory);
     };
     let link = BlockLink::new(query, parts);
     Ok(run_pair(rt, alloc, inputs, &link, crew, gate)?)
-}
-
-/// What is reported if a source gives no rows: the place where it is truncated, or a refusal.
-fn answer_of_fault(fault: BlocksFault, limit: u64) -> Result<Answer, RunFault>
-    ensures answers { IfOk result (λ answer. TellsTruncated fault (told_by answer)) }
-    ensures refused { IfErr result (IsRefusedFor limit fault) }
-{
-    match fault {
-        BlocksFault::ReadFailed => Err(RunFault::ReadFailed),
-        BlocksFault::TooLong => Err(RunFault::TooLong { limit }),
-        BlocksFault::Truncated { place } => Ok(Answer::Faulty(DayFault::Truncated { place })),
-        BlocksFault::OutOfMemory => Err(RunFault::OutOfMemory),
-    }
 }

@@ -1,10 +1,6 @@
 //! A source that is read batch by batch, while threads scan the batch before.
-ghost use Rattle.std.specs.Prelude.{◌≡◌, ◌<◌, ◌≤◌, ◌+◌, ◌↔◌, All, length, false, true, IfErr, IfOk, IsErrOf, OnOk};
-ghost use Rattle.std.specs.List.{concat};
-ghost use Rattle.lists.specs.declared.limits.TheConstants.{LONGEST_FILE, MOST_MORSELS};
-ghost use Rattle.day_file.specs.Cuts.{AreBytes, IsRun};
-ghost use Rattle.scanning.specs.Scans.{inputs_from, total_of};
-ghost use Rattle.streaming.specs.Streams.{IsReadFault};
+ghost use Rattle.std.specs.Prelude.{◌≡◌, ◌↔◌, false, true, IfErr, IfOk, IsErrOf};
+ghost use Rattle.streaming.specs.Readings.{IsSourceFault, of_stream};
 ghost use Rattle.runs.specs.Streamed.{IsBatchRead, IsScanOfAll, IsScanOfBatch};
 
 use crate::OutOfMemory;
@@ -14,7 +10,7 @@ use scanning::{ScanTotal, batch_inputs};
 use std::alloc::Global;
 use std::sync::{Arc, Wait};
 use std::thread::{Threads, join_mut};
-use streaming::{Batch, BatchReader, CutReadFault, Source};
+use streaming::{Batch, BatchReader, Source, SourceFault};
 
 /// How many bytes the morsels of a batch have, or a little more: enough that each worker has several of
 /// them, and little beside what a day's rows take.
@@ -29,13 +25,13 @@ pub(crate) fn scan_source<R: Threads + Wait + Sync, S: Source>(
     source: &mut S,
     as_of: Option<u32>,
     settings: Settings,
-) -> Result<ScanTotal, CutReadFault>
+) -> Result<ScanTotal, SourceFault>
     requires source { S.has_failed source.old ≡ false }
     ensures scanned { IfOk result (IsScanOfAll S.Gave S.HasEnded settings.limit settings.morsel
         as_of settings.parts source.old source.new) }
     ensures fault { IfErr result
-        (IsReadFault S.Gave S.HasEnded settings.limit settings.morsel source.old source.new) }
-    ensures failed { IsErrOf result CutReadFault.ReadFailed ↔ (S.has_failed source.new ≡ true) }
+        (IsSourceFault (of_stream S.Gave S.HasEnded settings.limit settings.morsel source.old source.new)) }
+    ensures failed { IsErrOf result SourceFault.ReadFailed ↔ (S.has_failed source.new ≡ true) }
 {
     let mut reader = BatchReader::new(alloc, settings.limit, settings.morsel, BATCH)?;
     let mut total = ScanTotal::empty(alloc);
@@ -58,20 +54,16 @@ fn scan_and_read<R: Threads + Wait + Sync, S: Source>(
     settings: &Settings,
     reader: &mut BatchReader,
     source: &mut S,
-) -> (Result<ScanTotal, OutOfMemory>, Result<Batch, CutReadFault>)
+) -> (Result<ScanTotal, OutOfMemory>, Result<Batch, SourceFault>)
     requires source { S.has_failed source.old ≡ false }
-    requires within { batch.now.start + length (concat batch.now.cut) ≤ LONGEST_FILE }
-    requires few { batch.now.first + length batch.now.cut ≤ MOST_MORSELS }
     ensures scans { IfOk result.0 (IsScanOfBatch as_of settings.now.parts batch.now) }
     ensures next { IsBatchRead S.Gave S.HasEnded S.has_failed source.old source.new
         reader.old reader.new result.1 }
 {
     let mut scan = || -> Result<ScanTotal, OutOfMemory>
-        requires { (batch.now.start + length (concat batch.now.cut) ≤ LONGEST_FILE)
-            × (batch.now.first + length batch.now.cut ≤ MOST_MORSELS) }
         ensures { IfOk result (IsScanOfBatch as_of settings.entry.now.parts batch.entry.now) }
     { scan(rt, alloc, batch, as_of, settings) };
-    let mut read = || -> Result<Batch, CutReadFault>
+    let mut read = || -> Result<Batch, SourceFault>
         requires { S.has_failed source.now ≡ false }
         ensures { IsBatchRead S.Gave S.HasEnded S.has_failed source.entry.now source.exit.now
             reader.entry.now reader.exit.now result }
@@ -87,8 +79,6 @@ fn scan<R: Threads + Wait + Sync>(
     as_of: Option<u32>,
     settings: &Settings,
 ) -> Result<ScanTotal, OutOfMemory>
-    requires within { batch.now.start + length (concat batch.now.cut) ≤ LONGEST_FILE }
-    requires few { batch.now.first + length batch.now.cut ≤ MOST_MORSELS }
     ensures { IfOk result (IsScanOfBatch as_of settings.now.parts batch.now) }
 {
     let Settings { crew, parts, .. } = *settings;

@@ -1,5 +1,4 @@
-use Rattle.std.proofs.Common.{◌≡◌, take}
-use Rattle.std.specs.List.{flat_map}
+use Rattle.std.proofs.Common.{◌≡◌, take, flat_map}
 use Rattle.answers.proofs.text.join.Given as goal
 
 -- the bytes of the pieces so far

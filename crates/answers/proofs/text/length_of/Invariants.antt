@@ -1,5 +1,4 @@
-use Rattle.std.proofs.Common.{◌≡◌, length, take}
-use Rattle.std.specs.List.{flat_map}
+use Rattle.std.proofs.Common.{◌≡◌, length, take, flat_map}
 use Rattle.answers.proofs.text.length_of.Given as goal
 
 -- how many bytes the pieces so far have

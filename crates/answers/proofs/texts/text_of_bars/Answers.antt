@@ -1,25 +1,13 @@
 use Rattle.std.proofs.Common.{◌++◌, ap₂, get_or, ◌∙◌}
 use Rattle.time_and_sales.specs.Names.{last_row, name_text}
-use Rattle.bars.specs.Texts.{bar_line}
-use Rattle.bars.specs.declared.bar.Bar.{Bar}
-use Rattle.answers.proofs.TextsByLine.{bars_more}
+use Rattle.bars.proofs.LastBar.{no_bar}
+use Rattle.bars.specs.Texts.{bar_line, bars_header}
+use Rattle.answers.proofs.TextsByLine.{line_more}
 use Rattle.answers.proofs.texts.text_of_bars.Goals as goal
 
 pub loop-bar-preserved : goal.loop-bar-preserved
 loop-bar-preserved g c =
-    let nothing : Bar = record {
-      locate = 0;
-      start = 0;
-      first_place = 0;
-      first = 0;
-      high = 0;
-      low = 0;
-      last_place = 0;
-      last = 0;
-      volume = 0;
-      notional = 0;
-      trades = 0;
-    } in
     c.in_ok-write_bar.ensures.ok
-    ∙ ap₂ (λ l name. l ++ bar_line (get_or c.args.table.now c.loop-bar.bar-index nothing) name) c.loop-bar.invariant c.name.ensures
-    ∙ bars_more (λ locate. name_text locate (last_row c.args.names.now locate)) c.args.table.now c.loop-bar.bar-index nothing c.loop-bar-test.true
+    ∙ ap₂ (λ l name. l ++ bar_line (get_or c.args.table.now c.loop-bar.bar-index no_bar) name) c.loop-bar.invariant c.name.ensures
+    ∙ line_more bars_header (λ bar. bar_line bar (name_text bar.locate (last_row c.args.names.now bar.locate))) c.args.table.now
+    c.loop-bar.bar-index no_bar c.loop-bar-test.true

@@ -1,5 +1,4 @@
-use Rattle.std.proofs.Common.{◌≡◌, ◌<◌, false, All, List, map, take, ℕ, [], ◌∷◌, ◌++◌, sym, ap, ap₂, ◌∙◌, arith}
-use Rattle.std.specs.Ordering.{is_gt}
+use Rattle.std.proofs.Common.{◌≡◌, ◌<◌, false, All, List, map, take, ℕ, [], ◌∷◌, ◌++◌, sym, ap, ap₂, ◌∙◌, arith, is_gt}
 use Rattle.std.proofs.lemmas.Bool.{eqb-false, eqb-true}
 use Rattle.std.proofs.lemmas.List.{length-map, nil_from_length, take_all}
 use Rattle.std.proofs.lemmas.List.Elements.{All-contains, All-take, Contains-push}
@@ -11,7 +10,7 @@ use Rattle.bars.specs.Steps.{bar_at}
 use Rattle.bars.specs.Texts.{IsWritable, bar_line, lines_text}
 use Rattle.bars.proofs.LastBar.{equal_from, joined_to_last, next_bar, one_rises, put_behind_last}
 use Rattle.bars.proofs.JoinedTables.{IsUnionOf-none, joined_traded, one_union, table_has, union_itself}
-use Rattle.bars.proofs.SumsAreBounded.{average_fits}
+use Rattle.bars.proofs.SumsAreBounded.{average_fits, each_joins}
 use Rattle.bars.proofs.joined_lines.joined_lines.Goals.{then-has_key_of, else-has_key_of+in_ok-write_bar}
 use Rattle.bars.proofs.joined_lines.joined_lines.Goals as goal
 
@@ -29,7 +28,7 @@ pub join-current-requires : goal.join-current-requires
 join-current-requires c =
     let h = c.loop-i.invariant in
     let next = next_bar bar_at c.args.sorted.now c.loop-i.i c.index-sorted-i.result c.bar-bar.result (h.done ++ c.loop-i.current ∷ []) c.requires.rise
-    c.requires.sums (omega arith) (c.bar-bar.ensures ∙ ap bar_at c.index-sorted-i.is) h.union in
+    (each_joins (map bar_at c.args.sorted.now) c.requires.sums) (omega arith) (c.bar-bar.ensures ∙ ap bar_at c.index-sorted-i.is) h.union in
     next.0.sums c.loop-i.current (Contains-push h.done c.loop-i.current) (equal_from _ (sym c.has_key_of.ensures ∙ c.if-has_key_of.true))
 
 pub write_bar-requires : goal.write_bar-requires
@@ -44,7 +43,7 @@ loop-i-preserved c =
     let h = c.loop-i.invariant in
     let bar = c.bar-bar.result in
     let table = h.done ++ c.loop-i.current ∷ [] in
-    let next = next_bar bar_at c.args.sorted.now c.loop-i.i c.index-sorted-i.result bar table c.requires.rise c.requires.sums (omega arith)
+    let next = next_bar bar_at c.args.sorted.now c.loop-i.i c.index-sorted-i.result bar table c.requires.rise (each_joins (map bar_at c.args.sorted.now) c.requires.sums) (omega arith)
     (c.bar-bar.ensures ∙ ap bar_at c.index-sorted-i.is) h.union in
     elim c.if-has_key_of.branch [
       | then-has_key_of w ↦
@@ -75,7 +74,7 @@ loop-i-init c =
     record {
       done = [];
       text = c.in_ok-text.ensures.items;
-      union = (next_bar bar_at c.args.sorted.now 0 c.index-sorted-0.result bar [] c.requires.rise c.requires.sums (omega (arith, some))
+      union = (next_bar bar_at c.args.sorted.now 0 c.index-sorted-0.result bar [] c.requires.rise (each_joins (map bar_at c.args.sorted.now) c.requires.sums) (omega (arith, some))
           (c.bar-current.ensures ∙ ap bar_at c.index-sorted-0.is) IsUnionOf-none).1 (bar ∷ []) (union_itself (bar ∷ []) (one_rises bar));
       name = c.name-name.ensures;
     }

@@ -4,7 +4,7 @@ use Rattle.std.proofs.lemmas.List.Elements.{All-filter}
 use Rattle.lists.specs.declared.limits.TheConstants.{TIME_LIMIT}
 use Rattle.time_and_sales.specs.Parted.{is_in_first}
 use Rattle.bars.specs.Bars.{Bar, all_bars}
-use Rattle.bars.proofs.BarsInRanges.{first_as_locate, IsUnionOf-within, locate_of, starts_alike, sums_alike, sums_of_range}
+use Rattle.bars.proofs.BarsInRanges.{first_as_locate, IsUnionOf-within, locate_of, starts_alike, sums_within}
 use Rattle.bars.proofs.JoinedTables.{union_alike}
 use Rattle.bars.proofs.ranges.range_lines.Goals as goal
 
@@ -17,7 +17,7 @@ joined_lines-requires c =
     rw c.as_slice.ensures.value (record {
       rise = sorted.rise;
       told = λ k d h. (sorted.traded k d h, starts_alike TIME_LIMIT _ (filter some all) sorted.alike (All-filter some low all c.requires.starts) k d h);
-      sums = sums_alike _ (filter some all) sorted.alike (sums_of_range some (first_as_locate c.args.bounds.now) all c.requires.sums);
+      sums = sums_within some (first_as_locate c.args.bounds.now) _ all sorted.alike c.requires.sums;
     })
 
 pub returns : goal.returns

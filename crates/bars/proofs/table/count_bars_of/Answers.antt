@@ -1,5 +1,4 @@
 use Rattle.std.proofs.lemmas.List.Elements.{All-more}
-use Rattle.std.proofs.lemmas.List.{take_all}
 use Rattle.row_types.specs.declared.trade.Sale.{Sale}
 use Rattle.time_and_sales.proofs.SortedByPlace.{no_sale}
 use Rattle.bars.specs.Bars.{IsTraded}
@@ -10,6 +9,3 @@ pub loop-sale-preserved : goal.loop-sale-preserved
 loop-sale-preserved c =
     All-more (λ (s : Sale). IsTraded (bar_of_one c.args.width s)) c.args.sales.now c.loop-sale.sale-index no_sale c.loop-sale-test.true c.loop-sale.invariant
     (rw c.of_sale-bar.ensures.value at c.of_sale-bar.ensures.traded)
-
-pub returns : goal.returns
-returns c = rw (take_all c.loop-sale.sale-index c.args.sales.now c.loop-sale-test.false) at c.loop-sale.invariant

@@ -1,5 +1,4 @@
-use Rattle.std.proofs.Common.{map, Bor, refl, arith}
-use Rattle.std.proofs.lemmas.List.{length-map, take_all}
+use Rattle.std.proofs.Common.{Bor, refl}
 use Rattle.bars.specs.Bars.{Bar}
 use Rattle.bars.proofs.JoinedTables.{IsUnionOf-none}
 use Rattle.bars.proofs.LastBar.{next_bar, no_bar}
@@ -20,8 +19,3 @@ pub loop-bar-preserved : goal.loop-bar-preserved
 loop-bar-preserved g c =
     (next_bar (λ (b : Bor Bar). b.now) c.args.sorted.now c.loop-bar.bar-index no_item _ c.loop-bar.bars.items c.requires.rise c.requires.sums
     c.loop-bar-test.true refl c.loop-bar.invariant).1 _ c.in_ok-add.ensures
-
-pub returns : goal.returns
-returns g c =
-    let now = λ (b : Bor Bar). b.now in
-    rw (take_all c.loop-bar.bar-index (map now c.args.sorted.now) (omega (arith, length-map c.args.sorted.now now))) at c.loop-bar.invariant

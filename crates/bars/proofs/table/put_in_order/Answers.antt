@@ -12,6 +12,3 @@ count_bars_of-requires-clause-shares g c =
 pub returns-clause-rise : goal.returns-clause-rise
 returns-clause-rise g c =
     ones_rise c.args.width c.sort_unstable_by_key.new.self.items c.requires.width c.sort_unstable_by_key.ensures.sorted (λ f a r q k. search rules)
-
-pub returns-clause-traded : goal.returns-clause-traded
-returns-clause-traded g c = rw c.as_slice.ensures.value at c.count_bars_of.ensures

@@ -8,5 +8,4 @@ returns-in-Ok-clause-gone_on g c =
     let met = g.met.S.BlockSource in
     let tried = tried_of S.GaveAt S.EndsAt S.FailsAt (ap (λ a. a.source) c.attempt.view_is ∙ c.requires.attempt.0)
     (ap (λ a. a.request) c.attempt.view_is ∙ c.requires.attempt.1) c.in-Ok.is c.attempt.invariant.1 in
-    gone_on S.GaveAt S.EndsAt met.gave_more met.gave_front S.FailsAt c.args.source.now c.args.request c.args.at c.args.total.now c.follow.new.total
-    c.in-Ok.piece tried c.if-piece-at.true c.follow.result c.follow.ensures
+    λ chained. gone_on S.GaveAt S.EndsAt met.gave_more met.gave_front chained tried c.if-piece-at.true S.FailsAt _ c.follow.result c.follow.ensures

@@ -5,5 +5,5 @@ pub returns-clause-gone_on : goal.returns-clause-gone_on
 returns-clause-gone_on g c =
     let S = g.S.BlockSource in
     let met = g.met.S.BlockSource in
-    gone_on S.GaveAt S.EndsAt met.gave_more met.gave_front S.FailsAt c.args.source.now c.args.request c.args.at c.args.total.now c.follow.new.total
-    c.in_ok-piece.piece c.in_ok-piece.ensures.tried c.in_ok-piece.ensures.start c.follow.result c.follow.ensures
+    λ chained. gone_on S.GaveAt S.EndsAt met.gave_more met.gave_front chained c.in_ok-piece.ensures.tried c.in_ok-piece.ensures.start S.FailsAt _ _
+    c.follow.ensures

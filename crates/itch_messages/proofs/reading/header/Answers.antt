@@ -1,7 +1,7 @@
 use Rattle.std.proofs.Common.{◌<◌, ◌^◌, arith}
 use Rattle.itch_messages.specs.Fields.{number_at}
 use Rattle.itch_messages.proofs.Numbers.{AreBytes-of_slice}
-use Rattle.itch_messages.proofs.Table.{number_at-lt}
+use Rattle.itch_messages.proofs.FieldsOfBodies.{number_at-lt}
 use Rattle.itch_messages.proofs.reading.header.Goals as goal
 
 pub of-requires : goal.of-requires

@@ -1,4 +1,4 @@
-use Rattle.std.proofs.Common.{◌≡◌, Some, length, rules, sym, subst}
+use Rattle.std.proofs.Common.{◌≡◌, Some, length, sym, subst}
 use Rattle.itch_messages.specs.Body.{FitsMessage}
 use Rattle.itch_messages.specs.Layout.{length_of}
 use Rattle.itch_messages.proofs.Laws.{FitsMessage-message_of_kind}

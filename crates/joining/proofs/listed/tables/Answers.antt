@@ -1,6 +1,5 @@
-use Rattle.std.proofs.Common.{All, Bor, List, Some, None, append-nil, ap, filter_map, map, sym, subst, ◌∙◌, rules}
+use Rattle.std.proofs.Common.{All, Bor, List, Some, None, append-nil, ap, filter_map, map, sym, subst, ◌∙◌, take_all}
 use Rattle.std.specs.Arc.{arc_value}
-use Rattle.std.proofs.lemmas.List.{take_all}
 use Rattle.lists.proofs.Lists.{map_more}
 use Rattle.bars.specs.Bars.{IsTraded, all_bars}
 use Rattle.bars.specs.declared.bar.Bar.{Bar}
@@ -38,6 +37,3 @@ pub returns-clause-tables : goal.returns-clause-tables
 returns-clause-tables c =
     c.loop-product.invariant.tables
     ∙ ap (λ l. filter_map table_of (map arc_value l)) (take_all c.loop-product.product-index c.args.products.now c.loop-product-test.false)
-
-pub returns-clause-traded : goal.returns-clause-traded
-returns-clause-traded c = search rules

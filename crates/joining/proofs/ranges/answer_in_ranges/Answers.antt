@@ -1,11 +1,7 @@
-use Rattle.std.proofs.Common.{◌∙◌, ap, map, subst, sym}
+use Rattle.std.proofs.Common.{◌∙◌, ap, map, sym}
 use Rattle.std.specs.Arc.{arc_value}
-use Rattle.time_and_sales.specs.Names.{last_row, name_text}
-use Rattle.bars.specs.Bars.{all_sales}
 use Rattle.meaning.specs.Meaning.{Meaning}
-use Rattle.meaning.specs.declared.query.What.{What}
-use Rattle.joining.specs.Gathered.{IsTextOfAll}
-use Rattle.joining.proofs.AnswerOfBuckets.{fault_answers, none_from, text_gathered}
+use Rattle.joining.proofs.AnswerOfBuckets.{fault_answers, text_gathered}
 use Rattle.joining.proofs.BucketsOfMessages.{lists_in}
 use Rattle.joining.proofs.ProductsJoined.{gathered_products}
 use Rattle.joining.proofs.ranges.answer_in_ranges.Goals as goal
@@ -17,17 +13,16 @@ returns-in-Some g c messages of =
 pub text_of-requires-clause-products : goal.text_of-requires-clause-products
 text_of-requires-clause-products g c lifetimes within = (
   lists_in c.requires.gathered.1.parts c.args.query.now c.requires.gathered.0,
-  gathered_products c.args.query.now c.args.total c.args.names.now c.requires.gathered.0 c.query.inside.what (map arc_value c.into_products-products.result.items) c.requires.gathered.1
-      (sym (ap (λ (m : Meaning). m.what) c.query.view_is)) c.into_products-products.ensures,
+  gathered_products c.args.query.now c.args.total c.args.names.now c.requires.gathered.0 c.query.inside.what (map arc_value c.deref.result.now)
+      c.requires.gathered.1 (sym (ap (λ (m : Meaning). m.what) c.query.view_is)) (ap (map arc_value) c.deref.ensures.value ∙ c.into_products-products.ensures),
 )
 
 pub returns-in_ok-text-in-None : goal.returns-in_ok-text-in-None
 returns-in_ok-text-in-None g c messages of =
     let query = c.args.query.now in
-    let none = none_from c.args.total.repeated c.args.total.unknown (sym c.fault_of.ensures ∙ c.in-None.is) in
+    let none = sym c.fault_of.ensures ∙ c.in-None.is in
     let what = sym (ap (λ (m : Meaning). m.what) c.query.view_is) in
-    let listed = gathered_products query c.args.total c.args.names.now messages c.query.inside.what (map arc_value c.into_products-products.result.items) of what
-    c.into_products-products.ensures in
-    text_gathered query c.args.total c.args.names.now messages c.names.result.now c.in_ok-text-in-None.text of none.0 none.1 c.names.ensures
-    (subst (λ (w : What). IsTextOfAll w (λ locate. name_text locate (last_row c.names.result.now locate)) (all_sales (lists_in of.parts query messages))
-    c.in_ok-text-in-None.text) (sym what) (c.in_ok-text-in-None.ensures (lists_in of.parts query messages) listed))
+    let listed = gathered_products query c.args.total c.args.names.now messages c.query.inside.what (map arc_value c.deref.result.now) of what
+    (ap (map arc_value) c.deref.ensures.value ∙ c.into_products-products.ensures) in
+    text_gathered query c.args.total c.args.names.now messages c.names.result.now c.in_ok-text-in-None.text c.query.inside.what of what none c.names.ensures
+    (c.in_ok-text-in-None.ensures (lists_in of.parts query messages) listed)

@@ -1,6 +1,5 @@
-use Rattle.std.proofs.Common.{Bor, List, Some, None, append-nil, ap, filter_map, map, sym, ◌∙◌}
+use Rattle.std.proofs.Common.{Bor, List, Some, None, append-nil, ap, filter_map, map, sym, ◌∙◌, take_all}
 use Rattle.std.specs.Arc.{arc_value}
-use Rattle.std.proofs.lemmas.List.{take_all}
 use Rattle.lists.proofs.Lists.{map_more}
 use Rattle.row_types.specs.declared.trade.Sale.{Sale}
 use Rattle.joining.specs.Gathered.{listing_of}

@@ -1,8 +1,8 @@
-use Rattle.std.proofs.Common.{◌≡◌, ◌∙◌, ◌++◌, ◌∷◌, [], ℕ, ap, arith, sym}
-use Rattle.std.specs.Prelude.{Some}
+use Rattle.std.proofs.Common.{◌≡◌, ◌∙◌, ℕ, arith, Some}
+use Rattle.std.proofs.lemmas.Grind.{common_steps}
 use Rattle.time_and_sales.specs.Names.{last_row, name_text}
 use Rattle.meaning.specs.Selected.{has_name}
-use Rattle.meaning.proofs.ListedLocates.{all_selected, passing_less, passing_more, same_symbols}
+use Rattle.meaning.proofs.ListedLocates.{all_selected, passing_more, same_symbols}
 use Rattle.meaning.proofs.select.listed.Goals as goal
 use Rattle.meaning.proofs.select.listed.Goals.{then-hold+in_ok-push, else-hold}
 
@@ -14,13 +14,8 @@ loop-number-preserved g c =
     let name : c.items.result.now ≡ text number = ◌∙◌ {c = text number} c.items.ensures.value c.name.ensures in
     let same : c.hold.result ≡ test number = same_symbols c.args.symbols.now c.in_ok-sorted.sorted c.items.result.now (text number) c.hold.result
     c.in_ok-sorted.ensures name c.hold.ensures in
-    elim c.if-hold.branch [
-      | then-hold+in_ok-push w ↦
-          ap (λ rows. rows.items) w.rows-is ∙ w.in_ok-push.ensures.items ∙ ap (λ rows. rows ++ number ∷ []) c.loop-number.invariant
-          ∙ sym (passing_more test number (sym same ∙ w.if-hold.true))
-      | else-hold w ↦
-          ap (λ rows. rows.items) w.rows-is ∙ c.loop-number.invariant ∙ sym (passing_less test number (sym same ∙ w.if-hold.false))
-    ]
+    let more = passing_more test number c.hold.result same in
+    elim c.if-hold.branch [ then-hold+in_ok-push w ↦ grind (arith, common_steps, more) | else-hold w ↦ grind (arith, common_steps, more) ]
 
 pub returns : goal.returns
 returns g c =

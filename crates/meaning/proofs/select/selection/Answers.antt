@@ -1,4 +1,4 @@
-use Rattle.std.proofs.Common.{◌∙◌, ℕ, ap, rules, sym}
+use Rattle.std.proofs.Common.{◌∙◌, ℕ, ap, sym}
 use Rattle.probe.specs.declared.selection.Locates.TheVariants.{Listed}
 use Rattle.time_and_sales.specs.Names.{last_row, name_text}
 use Rattle.meaning.specs.Meaning.{Meaning}
@@ -18,6 +18,3 @@ returns-clause-locates g c =
           ∙ ap (λ symbols. locates_of symbols names) (sym w.in-Some.is ∙ ap (λ (m : Meaning). m.symbols) c.query.view_is)
       | in-None w ↦ w.locates-is ∙ ap (λ symbols. locates_of symbols names) (sym w.in-None.is ∙ ap (λ (m : Meaning). m.symbols) c.query.view_is)
     ]
-
-pub returns-clause-span : goal.returns-clause-span
-returns-clause-span g c = search rules

@@ -1,23 +1,25 @@
-use Rattle.std.proofs.Common.{arith, ◌<◌}
+use Rattle.std.proofs.Common.{◌∙◌, ◌++◌, ◌∷◌, [], ap, arith, get_or, option_to_list, sym}
+use Rattle.lists.specs.Least.{least_by}
 use Rattle.order_table.specs.Orders.{OrderRow}
-use Rattle.order_table.proofs.Repeats.{repeated_stays, repeated_new}
+use Rattle.order_table.proofs.Repeats.{is_again, is_new, none_first, one_again, one_new}
+use Rattle.order_table.proofs.RowsInOrder.{place_of}
 use Rattle.order_table.proofs.sorting.first_repeated.Goals.{then-rows-at, else-rows-at}
 use Rattle.order_table.proofs.sorting.first_repeated.Goals as goal
+
+pub loop-at-init : goal.loop-at-init
+loop-at-init c = none_first c.args.rows.now c.requires.in_order
 
 pub loop-at-preserved : goal.loop-at-preserved
 loop-at-preserved c =
     let rows = c.args.rows.now in
     let i = c.loop-at.at in
     let d : OrderRow = record { place = 0; order_no = 0; price = 0 } in
-    let some : 0 < i = omega (arith, c.loop-at.auto.at) in
     let within = c.loop-at-test.true in
-    let repeated = c.loop-at.repeated in
     elim c.if-rows-at.branch [
       | then-rows-at w ↦
-          (rw w.repeated-is
-          (repeated_new rows i d some within c.requires.distinct c.requires.in_order repeated w.earlier.result c.loop-at.invariant
-          w.if-rows-at.true w.earlier.ensures))
+          w.repeated-is ∙ w.earlier.ensures ∙ ap (λ o. least_by place_of (option_to_list o ++ get_or rows i d ∷ [])) c.loop-at.invariant
+          ∙ sym (one_again rows i d within (is_again rows c.requires.in_order d i (omega (arith, c.loop-at.auto.at))
+          within c.requires.distinct w.if-rows-at.true))
       | else-rows-at w ↦
-          (rw w.repeated-is
-          (repeated_stays rows i d some within c.requires.distinct c.requires.in_order repeated c.loop-at.invariant w.if-rows-at.false))
+          w.repeated-is ∙ c.loop-at.invariant ∙ sym (one_new rows i d within (is_new rows c.requires.in_order d i within (λ some. w.if-rows-at.false)))
     ]

@@ -4,4 +4,4 @@ use Rattle.order_table.proofs.RowsInOrder.{key_of, in_order_from_sorted}
 use Rattle.order_table.proofs.sorting.put_in_order.Goals as goal
 
 pub returns-clause-in_order : goal.returns-clause-in_order
-returns-clause-in_order c = in_order_from_sorted _ (c.sort_unstable_by_key.ensures.sorted key_of (answers_always _ _ _ (λ f a r h called. search rules)))
+returns-clause-in_order g c = in_order_from_sorted _ (c.sort_unstable_by_key.ensures.sorted key_of (answers_always _ _ _ (λ f a r h called. search rules)))

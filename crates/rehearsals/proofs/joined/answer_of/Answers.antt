@@ -1,11 +1,8 @@
 use Rattle.std.proofs.Common.{◌∙◌, ap, map, subst, sym}
 use Rattle.std.specs.Arc.{arc_value}
-use Rattle.time_and_sales.specs.Names.{IsNamesOf, last_row, name_text}
-use Rattle.bars.specs.Bars.{all_sales}
+use Rattle.time_and_sales.specs.Names.{IsNamesOf}
 use Rattle.meaning.specs.Meaning.{Meaning}
-use Rattle.meaning.specs.declared.query.What.{What}
-use Rattle.joining.specs.Gathered.{IsTextOfAll}
-use Rattle.joining.proofs.AnswerOfBuckets.{fault_answers, none_from, text_gathered}
+use Rattle.joining.proofs.AnswerOfBuckets.{fault_answers, text_gathered}
 use Rattle.joining.proofs.BucketsOfMessages.{lists_in}
 use Rattle.joining.proofs.ProductsJoined.{gathered_products}
 use Rattle.rehearsals.proofs.joined.answer_of.Goals as goal
@@ -24,11 +21,10 @@ text_of-requires c = (
 pub returns-in_ok-text-in-None : goal.returns-in_ok-text-in-None
 returns-in_ok-text-in-None c messages of =
     let query = c.args.query.now in
-    let none = none_from c.args.total.repeated c.args.total.unknown (sym c.fault_of.ensures ∙ c.in-None.is) in
+    let none = sym c.fault_of.ensures ∙ c.in-None.is in
     let what = sym (ap (λ (m : Meaning). m.what) c.query.view_is) in
     let listed = gathered_products query c.args.total c.args.kept.now messages c.query.inside.what (map arc_value c.into_products.result.items) of what
     c.into_products.ensures in
-    text_gathered query c.args.total c.args.kept.now messages c.names.result.now c.in_ok-text-in-None.text of none.0 none.1
+    text_gathered query c.args.total c.args.kept.now messages c.names.result.now c.in_ok-text-in-None.text c.query.inside.what of what none
     (subst (λ rows. IsNamesOf rows c.names.result.now) c.kept.view_is c.names.ensures)
-    (subst (λ (w : What). IsTextOfAll w (λ locate. name_text locate (last_row c.names.result.now locate)) (all_sales (lists_in of.parts query messages))
-    c.in_ok-text-in-None.text) (sym what) (c.in_ok-text-in-None.ensures (lists_in of.parts query messages) listed))
+    (c.in_ok-text-in-None.ensures (lists_in of.parts query messages) listed)

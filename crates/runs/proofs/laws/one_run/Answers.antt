@@ -1,4 +1,4 @@
-use Rattle.runs.specs.Readings.{of_stream}
+use Rattle.streaming.specs.Readings.{of_stream}
 use Rattle.runs.proofs.OneRun.{answers_of_one_day}
 use Rattle.runs.proofs.laws.one_run.Goals as goal
 

@@ -1,4 +1,4 @@
-use Rattle.runs.specs.Readings.{of_blocks}
+use Rattle.block_scan.specs.Blocks.{of_blocks}
 use Rattle.runs.proofs.OneRun.{answers_of_one_day}
 use Rattle.runs.proofs.laws.one_run_of_blocks.Goals as goal
 

@@ -23,4 +23,4 @@ returns-clause-arrived g c = λ task.
     ∙ (ap (λ w. some_covers (c.remove-first.result.covered ∷ w) task) rest
     ∙ (ap (λ w. some_covers w task) (all ∙ c.in_ok-apply_all.ensures.steps)
     ∙ (ap (λ w. some_covers (after_all (length (arc_value c.args.inputs.now)) c.args.events.now w) task) c.in_ok-gatherings.ensures.empty
-    ∙ arrived_covers (length (arc_value c.args.inputs.now)) task c.args.gatherers c.args.events.now)))
+    ∙ arrived_covers c.args.gatherers (length (arc_value c.args.inputs.now)) c.args.events.now task)))

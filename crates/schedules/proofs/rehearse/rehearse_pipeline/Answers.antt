@@ -1,15 +1,8 @@
 use Rattle.std.proofs.Common.{◌≡◌, ◌<◌, length, ℕ, true, subst}
 use Rattle.std.specs.Arc.{arc_value}
 use Rattle.std.specs.FinSet.{contains}
-use Rattle.schedules.proofs.Schedules.{first_left_is, none_left}
+use Rattle.schedules.proofs.Schedules.{none_left}
 use Rattle.schedules.proofs.rehearse.rehearse_pipeline.Goals as goal
-
-pub returns-in-Some-clause-answer : goal.returns-in-Some-clause-answer
-returns-in-Some-clause-answer g c =
-    let first = c.in-Some.ensures in
-    let within : c.in-Some.task < length (arc_value c.args.inputs) = subst (λ w. c.in-Some.task < length w) c.in_ok-gathering.ensures.inputs first.in_range in
-    first_left_is c.args.gatherers (length (arc_value c.args.inputs)) c.args.events.now c.in_ok-gathering.gathering.covered c.in_ok-gathering.ensures.arrived
-    c.in-Some.task within first.missing first.least
 
 pub returns-in-Ok-clause-answer : goal.returns-in-Ok-clause-answer
 returns-in-Ok-clause-answer g c =

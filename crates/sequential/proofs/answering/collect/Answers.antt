@@ -1,22 +1,18 @@
-use Rattle.std.proofs.Common.{◌≡◌, ◌∷◌, ◌++◌, ◌≤◌, ◌^◌, Err, arith, length, refl, sym, ap, ◌∙◌, subst}
+use Rattle.std.proofs.Common.{◌≡◌, ◌∷◌, ◌++◌, ◌≤◌, ◌^◌, Err, arith, length, refl, sym, ap, ◌∙◌, subst, nat_cmp, append-nil}
 use Rattle.std.specs.List.Sorted.{IsStrictlySortedBy}
-use Rattle.std.specs.Ordering.{nat_cmp}
-use Rattle.std.proofs.lemmas.List.{append-nil}
+use Rattle.std.proofs.lemmas.Option.{MatchOption-at_none, MatchOption-at_some}
 use Rattle.std.proofs.lemmas.Result.{err_from_is_err_and}
 use Rattle.lists.specs.Least.{least_by}
 use Rattle.day_file.specs.Frames.{IsTruncatedAt, IsWhole, PlacedBody, spelling}
 use Rattle.day_file.specs.Placed.{placed_body}
 use Rattle.day_file.proofs.Laws.{places_rise}
-use Rattle.answers.specs.Answers.{IsAnswer}
+use Rattle.answers.specs.Answers.{DayFault, IsAnswer, WrongLength}
 use Rattle.day_rows.specs.DayRows.{counted_rows_at, joined, rows_of}
 use Rattle.day_rows.specs.Messages.{counted, first_wrong, messages_of}
-use Rattle.outcomes.specs.declared.day_fault.DayFault.{DayFault}
-use Rattle.outcomes.specs.declared.day_fault.DayFault.TheVariants.{WrongLength}
 use Rattle.answers.proofs.AnswerOfSteps.{truncation_answers, wrong_length_answers}
 use Rattle.day_rows.proofs.FewTrades.{few_trades}
 use Rattle.day_rows.proofs.RowsOfFrames.{collects, right_length, wrong_first}
 use Rattle.sequential.specs.Steps.{AreFew}
-use Rattle.sequential.proofs.Steps.{at_none, at_some}
 use Rattle.sequential.proofs.answering.collect.Goals as goal
 
 pub loop-frame-preserved : goal.loop-frame-preserved
@@ -34,14 +30,14 @@ pub returns-in_err-finish-in-Err-clause-fault : goal.returns-in_err-finish-in-Er
 returns-in_err-finish-in-Err-clause-fault g c =
     let exit = err_from_is_err_and c.from_residual-in_err-finish-in-Err.result c.from_residual-in_err-finish-in-Err.ensures.1 in
     let stands = sym c.loop-frame.invariant.end ∙ sym c.in-Some.ensures.steps.1 ∙ c.in_err-finish-in-Err.ensures in
-    let truncated = at_some c.frames-left.result.truncated (IsWhole c.args.day.now) (IsTruncatedAt c.args.day.now) _ stands c.frames-left.ensures.end in
+    let truncated = MatchOption-at_some (IsWhole c.args.day.now) (IsTruncatedAt c.args.day.now) _ stands c.frames-left.ensures.end in
     rw (exit.1, exit.2) (λ query. truncation_answers c.args.day.now query _ truncated)
 
 pub returns-in-Err-clause-fault : goal.returns-in-Err-clause-fault
 returns-in-Err-clause-fault g c query =
     let so_far = c.loop-frame.invariant.so_far in
     let none = sym c.loop-frame.invariant.end ∙ sym c.in-Some.ensures.steps.1 ∙ c.in_ok-finish-in-Err.ensures in
-    let whole = at_none c.frames-left.result.truncated (IsWhole c.args.day.now) (IsTruncatedAt c.args.day.now) none c.frames-left.ensures.end in
+    let whole = MatchOption-at_none (IsWhole c.args.day.now) (IsTruncatedAt c.args.day.now) none c.frames-left.ensures.end in
     let split : whole.0 ≡ so_far.front ++ placed_body c.in-Some.frame ∷ c.next.new.self.frames =
     sym (c.frames-left.ensures.whole whole.0 whole.1) ∙ so_far.split ∙ ap (λ l. so_far.front ++ l) c.in-Some.ensures.steps.0 in
     let rise = subst (IsStrictlySortedBy (λ (a b : PlacedBody). nat_cmp a.place b.place)) split (places_rise 0 whole.0 whole.1.places) in
@@ -54,14 +50,14 @@ pub returns-in_err-finish-clause-fault : goal.returns-in_err-finish-clause-fault
 returns-in_err-finish-clause-fault g c =
     let exit = err_from_is_err_and c.from_residual-in_err-finish.result c.from_residual-in_err-finish.ensures.1 in
     let stands = sym c.loop-frame.invariant.end ∙ sym c.in_default.ensures.steps.1 ∙ c.in_err-finish.ensures in
-    let truncated = at_some c.frames-left.result.truncated (IsWhole c.args.day.now) (IsTruncatedAt c.args.day.now) _ stands c.frames-left.ensures.end in
+    let truncated = MatchOption-at_some (IsWhole c.args.day.now) (IsTruncatedAt c.args.day.now) _ stands c.frames-left.ensures.end in
     rw (exit.1, exit.2) (λ query. truncation_answers c.args.day.now query _ truncated)
 
 pub returns-clause-rows : goal.returns-clause-rows
 returns-clause-rows g c =
     let so_far = c.loop-frame.invariant.so_far in
     let none = sym c.loop-frame.invariant.end ∙ sym c.in_default.ensures.steps.1 ∙ c.in_ok-finish.ensures in
-    let whole = at_none c.frames-left.result.truncated (IsWhole c.args.day.now) (IsTruncatedAt c.args.day.now) none c.frames-left.ensures.end in
+    let whole = MatchOption-at_none (IsWhole c.args.day.now) (IsTruncatedAt c.args.day.now) none c.frames-left.ensures.end in
     let same = c.frames-left.ensures.whole whole.0 whole.1 in
     let front : whole.0 ≡ so_far.front =
     sym same ∙ so_far.split ∙ ap (λ l. so_far.front ++ l) c.in_default.ensures.steps.0.0 ∙ append-nil so_far.front in

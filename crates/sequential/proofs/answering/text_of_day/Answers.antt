@@ -1,5 +1,5 @@
 use Rattle.std.proofs.Common.{Err, Ok, ap, ◌∙◌}
-use Rattle.std.proofs.lemmas.Result.{err_from_is_err_and}
+use Rattle.std.proofs.lemmas.Result.{IfOk-weaker, err_from_is_err_and}
 use Rattle.meaning.specs.Meaning.{Meaning}
 use Rattle.day_file.proofs.Laws.{places_rise}
 use Rattle.answers.specs.Answers.{IsAnswer}
@@ -8,7 +8,7 @@ use Rattle.day_rows.specs.Messages.{counted, messages_of}
 use Rattle.answers.proofs.AnswerOfSteps.{messages_answer}
 use Rattle.day_rows.proofs.CountedMessages.{counted_by_place}
 use Rattle.day_rows.proofs.RowsByPlace.{messages_by_place}
-use Rattle.sequential.proofs.Steps.{on_day, on_ok}
+use Rattle.sequential.proofs.Steps.{on_day}
 use Rattle.sequential.proofs.answering.text_of_day.Goals as goal
 
 pub text_of_rows-requires : goal.text_of_rows-requires
@@ -38,6 +38,6 @@ returns-clause-text g c =
     let messages = counted c.args.query.now.as_of (messages_of of.frames) in
     let by_place = counted_by_place c.args.query.now.as_of (messages_of of.frames)
     (messages_by_place of.frames (places_rise 0 of.frames of.stands.places)) in
-    on_ok c.text_of_rows.result _ _
+    IfOk-weaker c.text_of_rows.result _ _
     (λ text is. messages_answer c.args.day.now c.args.query.now of.frames (Ok text) of.stands of.right (is messages by_place are))
     c.text_of_rows.ensures.text

@@ -1,8 +1,5 @@
-use Rattle.std.proofs.Common.{true, List, ◌++◌, Vec, IsPermutation, refl, sym, ap, ◌∙◌, subst, arith}
-use Rattle.std.specs.List.{flat_map}
+use Rattle.std.proofs.Common.{true, List, ◌++◌, Vec, IsPermutation, refl, sym, ap, ◌∙◌, subst, arith, flat_map, ltb-false, append-nil, map-id}
 use Rattle.row_types.specs.declared.trade.Sale.{Sale}
-use Rattle.std.proofs.lemmas.Bool.{ltb-false}
-use Rattle.std.proofs.lemmas.List.{append-nil, map-id}
 use Rattle.std.proofs.lemmas.List.Folds.{flat_map-map}
 use Rattle.std.proofs.lemmas.List.Sorted.{IsNonDecreasingBy-from_all_adjacent, IsStrictWeakOrder-by_number}
 use Rattle.std.proofs.lemmas.Iterator.Adapters.{YieldsList-from_vec}

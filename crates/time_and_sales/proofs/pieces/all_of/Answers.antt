@@ -1,11 +1,7 @@
-use Rattle.std.proofs.Common.{◌∷◌, Ok, map, ap, sym, ◌∙◌}
+use Rattle.std.proofs.Common.{◌∷◌, Ok, map, ap, sym, ◌∙◌, append-nil}
 use Rattle.std.specs.Vec.Iter.{into_iter_items}
-use Rattle.std.proofs.lemmas.List.{append-nil}
 use Rattle.time_and_sales.proofs.MadeTexts.{moved, none_left}
 use Rattle.time_and_sales.proofs.pieces.all_of.Goals as goal
-
-pub loop-text-init : goal.loop-text-init
-loop-text-init c = rw c.in_ok-texts.ensures.items c.into_iter-text-iterator.ensures.into_iter_gives.0
 
 pub loop-text-preserved : goal.loop-text-preserved
 loop-text-preserved c =

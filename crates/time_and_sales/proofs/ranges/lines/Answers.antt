@@ -1,8 +1,7 @@
 use Rattle.std.proofs.Common.{ℕ, List, Bor, ◌++◌, take, get_or, ap, ap₂, sym, ◌∙◌}
 use Rattle.std.proofs.lemmas.List.{map_more}
-use Rattle.row_types.specs.declared.trade.Sale.{Sale}
 use Rattle.time_and_sales.specs.Names.{last_row, name_text}
-use Rattle.time_and_sales.specs.Texts.{lines_text, sale_line}
+use Rattle.time_and_sales.specs.Texts.{Sale, lines_text, sale_line}
 use Rattle.time_and_sales.proofs.RangesJoined.{flat_map_push}
 use Rattle.time_and_sales.proofs.SalesInRanges.{seen}
 use Rattle.time_and_sales.proofs.SortedByPlace.{no_sale}

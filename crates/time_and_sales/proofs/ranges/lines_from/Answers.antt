@@ -1,8 +1,7 @@
 use Rattle.std.proofs.Common.{ℕ, List, get_or, map, arith}
 use Rattle.std.proofs.lemmas.Result.{IfOk-weaker}
-use Rattle.row_types.specs.declared.trade.Sale.{Sale}
 use Rattle.time_and_sales.specs.Names.{last_row, name_text}
-use Rattle.time_and_sales.specs.Texts.{lines_text}
+use Rattle.time_and_sales.specs.Texts.{Sale, lines_text}
 use Rattle.time_and_sales.proofs.MadeTexts.{both_ok}
 use Rattle.time_and_sales.proofs.RangesJoined.{ranges_join, told}
 use Rattle.time_and_sales.proofs.SalesInRanges.{lines-append}

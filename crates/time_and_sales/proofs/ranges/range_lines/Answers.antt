@@ -1,10 +1,9 @@
 use Rattle.std.proofs.Common.{ℕ, List, ◌<◌, ◌∙◌, ap}
 use Rattle.std.proofs.lemmas.Result.{IfOk-weaker}
 use Rattle.lists.specs.declared.limits.TheConstants.{TIME_LIMIT}
-use Rattle.row_types.specs.declared.trade.Sale.{Sale}
 use Rattle.time_and_sales.specs.Names.{last_row, name_text}
 use Rattle.time_and_sales.specs.Parted.{is_in_first}
-use Rattle.time_and_sales.specs.Texts.{lines_text}
+use Rattle.time_and_sales.specs.Texts.{Sale, lines_text}
 use Rattle.time_and_sales.proofs.SalesInRanges.{listed, range_has, range_is, seen}
 use Rattle.time_and_sales.proofs.SortedByPlace.{place_of}
 use Rattle.time_and_sales.proofs.ranges.range_lines.Goals as goal

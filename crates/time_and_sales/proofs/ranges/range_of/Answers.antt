@@ -1,9 +1,7 @@
-use Rattle.std.proofs.Common.{rules, ◌∙◌, filter, List, IsPermutation, ap, ap₂, sym, subst, ◌++◌, Bor}
-use Rattle.std.proofs.lemmas.List.{take_all}
+use Rattle.std.proofs.Common.{rules, ◌∙◌, filter, List, IsPermutation, ap, ap₂, sym, subst, ◌++◌, Bor, take_all, flat_map}
 use Rattle.std.proofs.lemmas.List.Elements.{filter-append}
 use Rattle.std.proofs.lemmas.List.Folds.{flat_map-map}
 use Rattle.std.proofs.lemmas.List.Sorted.{IsNonDecreasingBy-from_sort_by_key, IsPermutation-map}
-use Rattle.std.specs.List.{flat_map}
 use Rattle.row_types.specs.declared.trade.Sale.{Sale}
 use Rattle.time_and_sales.specs.Parted.{is_in_first}
 use Rattle.time_and_sales.proofs.RangesJoined.{flat_map_next}

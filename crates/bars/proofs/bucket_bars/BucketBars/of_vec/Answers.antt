@@ -6,16 +6,6 @@ use Rattle.bars.specs.Steps.{bars_of}
 use Rattle.bars.proofs.BarsOfSales.{AreBarsOf-sorted, bars_of_are, bars_traded, locates_rise}
 use Rattle.bars.proofs.bucket_bars.BucketBars.of_vec.Goals as goal
 
-pub of_sorted-requires : goal.of_sorted-requires
-of_sorted-requires c =
-    let order = c.put_in_order-count.ensures in
-    rw c.as_slice.ensures.value (record {
-      rise = order.rise;
-      count = omega (arith, length_permutation _ _ order.permutation, c.requires.count);
-      traded = order.traded;
-      width = c.requires.width;
-    })
-
 pub returns-in-Ok-clause-bars : goal.returns-in-Ok-clause-bars
 returns-in-Ok-clause-bars c =
     AreBarsOf-sorted c.args.width c.args.sales.items _ c.in-Ok.bars c.put_in_order-count.ensures.permutation c.requires.places

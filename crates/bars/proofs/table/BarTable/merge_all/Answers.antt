@@ -3,6 +3,7 @@ use Rattle.std.proofs.lemmas.List.{map_more, map_push, take_all}
 use Rattle.bars.specs.Bars.{Bar, IsTraded}
 use Rattle.bars.proofs.BarsOfSales.{AreBarsOf-union}
 use Rattle.bars.proofs.JoinedTables.{joined_traded, table_has, traded_more}
+use Rattle.bars.proofs.SumsAreBounded.{each_joins}
 use Rattle.bars.proofs.table.BarTable.merge_all.Goals as goal
 
 pub loop-table-preserved : goal.loop-table-preserved
@@ -16,15 +17,11 @@ loop-table-preserved g c =
 
 pub unite-requires : goal.unite-requires
 unite-requires g c =
-    rw (c.as_slice.ensures.value, c.loop-table.invariant.parts, take_all c.loop-table.table-index c.args.tables.now c.loop-table-test.false) c.requires.sums
-
-pub returns-clause-union : goal.returns-clause-union
-returns-clause-union g c =
-    rw (c.as_slice.ensures.value, c.loop-table.invariant.parts, take_all c.loop-table.table-index c.args.tables.now c.loop-table-test.false) at
-    c.in_ok-unite.ensures
+    rw (c.as_slice.ensures.value, c.loop-table.invariant.parts, take_all c.loop-table.table-index c.args.tables.now c.loop-table-test.false) (each_joins _ c.requires.sums)
 
 pub returns-clause-bars : goal.returns-clause-bars
-returns-clause-bars g c = λ width lists are. AreBarsOf-union width lists _ _ are (returns-clause-union g c)
+returns-clause-bars g c = λ width lists are. AreBarsOf-union width lists _ _ are (rw (c.as_slice.ensures.value, c.loop-table.invariant.parts, take_all c.loop-table.table-index c.args.tables.now c.loop-table-test.false) at
+    c.in_ok-unite.ensures)
 
 pub returns-clause-traded : goal.returns-clause-traded
 returns-clause-traded g c = table_has IsTraded joined_traded _ _ c.in_ok-unite.ensures (rw c.as_slice.ensures.value c.loop-table.invariant.traded)

@@ -1,5 +1,5 @@
-use Rattle.std.proofs.Common.{◌≡◌, ◌++◌, if◌then◌else◌, Result, Ok, Err, OnOk, is_ok, refl, true, drop, sym, ap, ◌∙◌, subst, arith}
-use Rattle.day_file.specs.Feeding.{CutterView, HasFed, fed_length}
+use Rattle.std.proofs.Common.{◌≡◌, ◌++◌, if◌then◌else◌, Result, Ok, Err, OnOk, is_ok, refl, true, ap, ◌∙◌, arith}
+use Rattle.day_file.specs.Feeding.{fed_length}
 use Rattle.day_file.proofs.Fed.{Cutting-grown, HasFed-more}
 use Rattle.day_file.proofs.cutter.Cutter.feed.Goals as goal
 
@@ -20,11 +20,7 @@ on_ok (Err e) P h = tt
 
 pub returns-clause-fed : goal.returns-clause-fed
 returns-clause-fed c = on_ok c.extend_from_slice.result _ (λ ok fed has.
-    let s = c.self.inside in
-    let rest = drop s.start s.rest.items in
     let piece = c.args.piece.now in
-    let grown : c.extend_from_slice.new.self.items ≡ rest ++ piece =
-    c.extend_from_slice.ensures.items ∙ ap (λ b. if b then c.remove_front.new.bytes.items ++ piece else c.remove_front.new.bytes.items) ok
+    let grown = c.extend_from_slice.ensures.items ∙ ap (λ b. if b then c.remove_front.new.bytes.items ++ piece else c.remove_front.new.bytes.items) ok
     ∙ ap (λ l. l ++ piece) c.remove_front.ensures in
-    let now = subst (λ (v : CutterView). HasFed v fed) (sym c.self.view_is) (c.in_ok-cut_off.ensures.fed fed has) in
-    subst (λ l. HasFed (record { target = s.target; cut = s.cut; past = s.past; rest = l }) (fed ++ piece)) (sym grown) (HasFed-more _ fed piece now))
+    rw grown (HasFed-more _ fed piece (rw (← c.self.view_is) at (c.in_ok-cut_off.ensures.fed fed has))))

@@ -1,5 +1,4 @@
-use Rattle.std.proofs.Common.{◌≡◌, All, drop, sym, subst, arith}
-use Rattle.day_file.specs.Feeding.{CutterView, HasFed, IsFullRun}
+use Rattle.std.proofs.Common.{◌≡◌, drop, arith}
 use Rattle.day_file.proofs.Fed.{Cutting-rest, HasFed-rest, kept_alone}
 use Rattle.day_file.proofs.cutter.Cutter.take_cut.Goals as goal
 
@@ -10,13 +9,13 @@ invariant_of-self c =
 
 pub returns-clause-full : goal.returns-clause-full
 returns-clause-full c =
-    let runs = kept_alone _ c.self.invariant.0.fed c.self.invariant.0.has (omega (arith, c.if-self-gt0.false)) in
-    rw c.replace.ensures.value (subst (λ (v : CutterView). All (IsFullRun v.target) c.self.inside.cut) c.self.view_is runs.0)
+    rw (c.replace.ensures.value, ← c.self.view_is) (kept_alone _ c.self.invariant.0.fed c.self.invariant.0.has (omega (arith, c.if-self-gt0.false))).0
 
 pub returns-clause-fed : goal.returns-clause-fed
 returns-clause-fed c = λ fed has.
     let s = c.self.inside in
-    let none : s.past ≡ 0 = omega (arith, c.if-self-gt0.false) in
-    let now = subst (λ (v : CutterView). HasFed v fed) (sym c.self.view_is) has in
-    let runs = kept_alone _ fed now none in
-    (drop s.start s.rest.items, rw c.replace.ensures.value runs.1, rw (c.replace.ensures.after, c.empty.ensures) (HasFed-rest (record { target = s.target; cut = s.cut; past = s.past; rest = drop s.start s.rest.items }) none))
+    let none : s.past ≡ 0 = omega (arith, c.if-self-gt0.false) in (
+      drop s.start s.rest.items,
+      rw c.replace.ensures.value (kept_alone _ fed (rw (← c.self.view_is) at has) none).1,
+      rw (c.replace.ensures.after, c.empty.ensures) (HasFed-rest s.target s.past (drop s.start s.rest.items) none),
+    )

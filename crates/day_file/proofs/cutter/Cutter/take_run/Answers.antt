@@ -1,4 +1,4 @@
-use Rattle.std.proofs.Common.{◌≡◌, ℕ, ◌+◌, ◌≤◌, drop, vec_len, sym, ap, subst, arith}
+use Rattle.std.proofs.Common.{◌≡◌, ℕ, ◌+◌, ◌≤◌, drop, vec_len, sym, ap, arith}
 use Rattle.std.proofs.lemmas.List.{drop-drop, length-drop}
 use Rattle.day_file.specs.Cutting.{IsTaken}
 use Rattle.day_file.specs.Follow.{IsFirstRun}
@@ -18,8 +18,8 @@ taken c =
     let s = c.self.inside in
     let end = c.args.end in
     let v = viewed s.start s in
-    let run : IsFirstRun s.target end v.rest = subst (λ (v : CutterView). IsFirstRun v.target end v.rest) (sym c.self.view_is) c.requires.run in
-    let full : s.target ≤ end = subst (λ (v : CutterView). v.target ≤ end) (sym c.self.view_is) c.requires.full in
+    let run : IsFirstRun s.target end v.rest = rw (← c.self.view_is) at c.requires.run in
+    let full : s.target ≤ end = rw (← c.self.view_is) at c.requires.full in
     let left : drop (s.start + end) s.rest.items ≡ drop end v.rest = sym (drop-drop end s.start s.rest.items) in
     elim c.if-count-lt-MOST_MORSELS.branch [
       | then-count-lt-MOST_MORSELS+in_ok-run+in_ok-append w ↦ (
@@ -36,8 +36,7 @@ taken c =
 pub invariant_of-self-2 : goal.invariant_of-self-2
 invariant_of-self-2 c =
     let s = c.self.inside in
-    let run : IsFirstRun s.target c.args.end (drop s.start s.rest.items) =
-    subst (λ (v : CutterView). IsFirstRun v.target c.args.end v.rest) (sym c.self.view_is) c.requires.run in
+    let run : IsFirstRun s.target c.args.end (drop s.start s.rest.items) = rw (← c.self.view_is) at c.requires.run in
     let inside : s.start + c.args.end ≤ vec_len s.rest = omega (arith, run.within, length-drop s.start s.rest.items, c.self.invariant.1, s.rest.ok.0) in
     (Taken-cutting s.whole c.args.end _ _ c.self.invariant.0 (taken c).0 run.within, rw (taken c).1 inside)
 

@@ -1,16 +1,17 @@
-use Rattle.std.proofs.Common.{sym, ap, ◌∙◌}
+use Rattle.std.proofs.Common.{ap, ◌∙◌, arith}
+use Rattle.std.proofs.lemmas.Grind.{common_steps}
 use Rattle.day_file.specs.Placed.{frames_left}
 use Rattle.day_file.proofs.Walks.{ended_walk}
 use Rattle.day_file.proofs.frame.Frames.finish.Goals as goal
 
 pub returns-then-is_empty : goal.returns-then-is_empty
 returns-then-is_empty c =
-    let steps = c.in_default.ensures.steps in
-    let end = ended_walk c.self.inside.place c.self.inside.rest.now (ap frames_left c.self.view_is ∙ steps.0.1) in
-    sym c.loop.invariant ∙ sym steps.1 ∙ sym (ap (λ l. l.truncated) c.self.view_is) ∙ end.0 (sym c.is_empty.ensures ∙ c.if-is_empty.true)
+    let end = ended_walk c.self.inside.place c.self.inside.rest.now (ap frames_left c.self.view_is ∙ c.in_default.ensures.steps.0.1) in
+    let view = ap (λ l. l.truncated) c.self.view_is in
+    grind (arith, common_steps)
 
 pub returns : goal.returns
 returns c =
-    let steps = c.in_default.ensures.steps in
-    let end = ended_walk c.self.inside.place c.self.inside.rest.now (ap frames_left c.self.view_is ∙ steps.0.1) in
-    sym c.loop.invariant ∙ sym steps.1 ∙ sym (ap (λ l. l.truncated) c.self.view_is) ∙ end.1 (sym c.is_empty.ensures ∙ c.if-is_empty.false)
+    let end = ended_walk c.self.inside.place c.self.inside.rest.now (ap frames_left c.self.view_is ∙ c.in_default.ensures.steps.0.1) in
+    let view = ap (λ l. l.truncated) c.self.view_is in
+    grind (arith, common_steps)

@@ -19,13 +19,11 @@ add-requires g c =
     omega (arith, folded.kept.one_each, ap length c.self.view_is, length-map c.self.inside.items.items arc_value)
     in
     let here : get_or places p None ≡ Some c.in-Some.piece = sym (get_or_read places p c.index.result.now within c.index.ensures None) ∙ c.in-Some.is in
-    can_add work.Gives work.IsTotalOf work.IsAdmissible g.W.Input.PartialEq.eq laws.equal_values c.args.self.now places folded.kept
-    admissible p c.in-Some.piece here _ _ folded.total_is c.output.ensures
+    can_add work.Gives work.IsAdmissible laws.equal_values folded admissible here c.output.ensures
 
 pub loop-folded-preserved : goal.loop-folded-preserved
 loop-folded-preserved g c =
     let work = g.W.Work in
-    let eq = g.W.Input.PartialEq.eq in
     let laws = g.met.W.Work g.world.𝓛 g.world.𝓜 g.world.𝓡 ((λ s x. x), (λ x. x), (λ x. x), λ x. x) in
     let p = c.loop-folded.folded in
     let places = c.loop-folded.places.items in
@@ -36,9 +34,8 @@ loop-folded-preserved g c =
     omega (arith, folded.kept.one_each, ap length c.self.view_is, length-map c.self.inside.items.items arc_value)
     in
     let here : get_or places p None ≡ Some c.in-Some.piece = sym (get_or_read places p c.index.result.now within c.index.ensures None) ∙ c.in-Some.is in
-    let sum = added work.Gives work.IsTotalOf work.IsAdmissible eq laws.equal_values c.args.self.now places folded.kept
-    admissible p c.in-Some.piece here _ _ folded.total_is c.output.ensures _ c.in_ok-add.ensures.ok in
+    let sum = added work.Gives work.IsAdmissible laws.equal_values folded admissible here c.output.ensures c.in_ok-add.ensures.ok in
     record {
-      folded = IsFolded-step eq work.IsTotalOf c.args.self.now p _ _ places folded (omega (arith, within, folded.kept.one_each)) sum;
+      folded = IsFolded-step folded (omega (arith, within, folded.kept.one_each)) sum;
       covered = covered-fold p places c.in-Some.piece within here ∙ c.loop-folded.invariant.covered;
     }

@@ -8,6 +8,3 @@ returns g c =
     let names = c.loop-symbol.names.items in
     let all : map (λ name. name.now) names ≡ c.args.symbols.now = grind (arith, common_steps) in
     moved_names names _ c.args.symbols.now (search rules) all
-
-pub invariant_of-result : goal.invariant_of-result
-invariant_of-result g c = search rules

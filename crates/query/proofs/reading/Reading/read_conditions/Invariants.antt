@@ -1,12 +1,12 @@
-use Rattle.std.proofs.Common.{◌≡◌, length}
-use Rattle.query.specs.Faults.{read_from, condition, more}
+use Rattle.std.proofs.Common.{◌≡◌, codes, length}
+use Rattle.query.specs.Faults.{read_from, condition, linked}
 use Rattle.query.specs.Taken.{IsLater}
 use Rattle.query.proofs.reading.Reading.read_conditions.Given as goal
 
 abbrev pub invariant-loop-word : goal.invariant-loop-word
 invariant-loop-word g l =
     record {
-      outcome : read_from (condition l.fn.self) l.fn.words ≡ read_from (more l.self) l.words;
+      outcome : read_from (condition l.fn.self) l.fn.words ≡ read_from (linked (codes "and") l.self) l.words;
       later : IsLater l.fn.words l.words;
     }
 

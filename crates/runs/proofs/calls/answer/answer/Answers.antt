@@ -1,10 +1,9 @@
 use Rattle.std.proofs.Common.{ap, ◌∙◌}
-use Rattle.std.specs.Arc.{arc_value}
 use Rattle.meaning.specs.Meaning.{Meaning}
-use Rattle.scanning.specs.Scans.{inputs_of}
+use Rattle.scanning.specs.Scans.{inputs_of, total_of}
 use Rattle.joining.proofs.ProductsJoined.{on_ok}
 use Rattle.runs.specs.FirstPipeline.{AreRuns}
-use Rattle.runs.proofs.Answered.{given_by}
+use Rattle.runs.proofs.Answered.{given_of}
 use Rattle.runs.proofs.calls.answer.answer.Goals as goal
 
 pub answer_of_outcome-requires-clause-outcome : goal.answer_of_outcome-requires-clause-outcome
@@ -15,11 +14,8 @@ answer_of_outcome-requires-clause-outcome g c lifetimes within =
       bytes = c.in_ok-scans.ensures.bytes;
       within = c.in_ok-scans.ensures.within;
     } in
-    let are = c.in_ok-scans.ensures.inputs ∙ ap (λ (m : Meaning). inputs_of m.as_of c.args.parts runs) c.query.view_is in (
-      runs,
-      given_by runs c.args.query.now c.args.parts c.requires.parts.0 cut (arc_value c.in_ok-inputs.inputs) c.dividing-link.result
-          c.in_ok-outcome.outcome (c.in_ok-inputs.ensures.ok ∙ are) c.dividing-link.ensures c.in_ok-outcome.ensures,
-    )
+    let are = c.in_ok-inputs.ensures.ok ∙ c.in_ok-scans.ensures.inputs ∙ ap (λ (m : Meaning). inputs_of m.as_of c.args.parts runs) c.query.view_is in
+    (runs, given_of runs c.args.query.now c.args.parts _ c.requires.parts.0 cut (ap total_of are) c.dividing-link.ensures c.in_ok-outcome.ensures)
 
 pub returns : goal.returns
 returns g c =
@@ -29,9 +25,8 @@ returns g c =
       bytes = c.in_ok-scans.ensures.bytes;
       within = c.in_ok-scans.ensures.within;
     } in
-    let are = c.in_ok-scans.ensures.inputs ∙ ap (λ (m : Meaning). inputs_of m.as_of c.args.parts runs) c.query.view_is in
+    let are = c.in_ok-inputs.ensures.ok ∙ c.in_ok-scans.ensures.inputs ∙ ap (λ (m : Meaning). inputs_of m.as_of c.args.parts runs) c.query.view_is in
     on_ok c.answer_of_outcome.result _ _
     (λ answer is.
-    is runs (given_by runs c.args.query.now c.args.parts c.requires.parts.0 cut (arc_value c.in_ok-inputs.inputs) c.dividing-link.result
-    c.in_ok-outcome.outcome (c.in_ok-inputs.ensures.ok ∙ are) c.dividing-link.ensures c.in_ok-outcome.ensures))
+    is runs (given_of runs c.args.query.now c.args.parts _ c.requires.parts.0 cut (ap total_of are) c.dividing-link.ensures c.in_ok-outcome.ensures))
     c.answer_of_outcome.ensures

@@ -1,4 +1,4 @@
-use Rattle.runs.specs.Readings.{of_stream}
+use Rattle.streaming.specs.Readings.{of_stream}
 use Rattle.runs.proofs.HandedOver.{ran}
 use Rattle.answers.specs.Answers.{told_by}
 use Rattle.runs.proofs.calls.run.run.Goals as goal

@@ -1,6 +1,6 @@
 use Rattle.std.proofs.Common.{subst}
 use Rattle.answers.specs.Answers.{told_by}
-use Rattle.runs.specs.Readings.{of_blocks}
+use Rattle.block_scan.specs.Blocks.{of_blocks}
 use Rattle.runs.specs.Sources.{IsAnswered}
 use Rattle.runs.proofs.HandedOver.{ran}
 use Rattle.runs.proofs.calls.run_blocks.run_blocks.Goals as goal

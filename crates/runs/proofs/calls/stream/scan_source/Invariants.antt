@@ -1,6 +1,6 @@
 use Rattle.std.proofs.Common.{◌≡◌, ◌+◌, ◌-◌, false, if◌then◌else◌}
 use Rattle.streaming.specs.Batches.{read_length}
-use Rattle.runs.specs.Streamed.{IsScannedTo}
+use Rattle.runs.proofs.ScannedBatches.{IsScannedTo}
 use Rattle.runs.proofs.calls.stream.scan_source.Given as goal
 
 -- the batches before this one are scanned

@@ -1,4 +1,3 @@
-use Rattle.std.proofs.Common.{arith}
 use Rattle.scanning.proofs.PickedFrames.{on_err, takes_first, takes_next}
 use Rattle.scanning.proofs.open_scan.OpenScan.take_in_each.Goals as goal
 

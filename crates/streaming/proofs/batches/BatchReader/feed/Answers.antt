@@ -1,27 +1,69 @@
-use Rattle.std.proofs.Common.{refl, sym, subst}
-use Rattle.std.specs.List.{concat}
+use Rattle.std.proofs.Common.{sym, ap, ◌∙◌, subst, arith, rules}
 use Rattle.std.proofs.lemmas.Result.{err_from_is_err_and}
-use Rattle.streaming.specs.Batches.{IsReadTo, ReaderView}
-use Rattle.streaming.specs.Streams.{IsReadFault}
-use Rattle.streaming.proofs.JoinedBatches.{read_fed, read_on}
+use Rattle.std.proofs.lemmas.Bool.{ltb-true}
+use Rattle.day_file.specs.Feeding.{HasFed}
+use Rattle.day_file.proofs.Fed.{fed_length_is}
+use Rattle.streaming.specs.Batches.{ReaderView, read_length}
+use Rattle.streaming.proofs.JoinedBatches.{grown, read_length_is, read_on, reading_on}
 use Rattle.streaming.proofs.batches.BatchReader.feed.Goals as goal
 
 pub returns-in_err-taken-clause-fault : goal.returns-in_err-taken-clause-fault
 returns-in_err-taken-clause-fault g c =
     let p = err_from_is_err_and c.from_residual.result c.from_residual.ensures.1 in
-    let Gave = g.S.Source.Gave in
-    let HasEnded = g.S.Source.HasEnded in
-    let s = c.self.inside in
-    let f = c.in_err-taken.field-0.0 in
-    rw (p.1, p.2) (λ before runs has.
-    let now = subst (λ (v : ReaderView). IsReadTo Gave before c.args.source.now runs v) (sym c.self.view_is) has in
-    let told = c.in_err-taken.ensures.fault (concat runs) before (sym now.has.start) (read_fed Gave before c.args.source.now runs _ now) in
-    subst (λ (v : ReaderView). IsReadFault Gave HasEnded v.limit v.target before c.feed_next.new.source f) c.self.view_is
-    (subst (λ n. IsReadFault Gave HasEnded s.limit n before c.feed_next.new.source f) c.self.invariant.same told))
+    let limit = ap (λ (v : ReaderView). v.limit) c.self.view_is in
+    rw (p.1, p.2) (λ before runs to.
+    c.in_err-taken.ensures.fault before to.bytes c.args.self.now.limit c.args.self.now.target to.gave
+    (omega (arith, read_length_is to.has, c.length.ensures.same, c.length.ensures.within)))
+
+pub invariant_of-self : goal.invariant_of-self
+invariant_of-self g c =
+    let inv = c.self.invariant.0 in
+    let has = c.in_err-taken.ensures.same inv.fed inv.has in (
+      reading_on inv has (c.in_err-taken.ensures.target ∙ inv.same)
+          (omega (arith, fed_length_is c.self.inside.cutter inv.fed inv.has, fed_length_is c.feed_next.new.cutter inv.fed has, inv.within)),
+      search rules,
+    )
+
+pub invariant_of-self-2 : goal.invariant_of-self-2
+invariant_of-self-2 g c =
+    let inv = c.self.invariant.0 in
+    let (taken, long, gave, fed) = c.in_ok-taken.ensures.fed in
+    let has = fed inv.fed inv.has in
+    let limit = ap (λ (v : ReaderView). v.limit) c.self.view_is in (
+      reading_on inv has (c.in_ok-taken.ensures.target ∙ inv.same)
+          (omega (arith, grown taken inv.has has, long, c.in_ok-taken.ensures.within, c.length.ensures.same, c.length.ensures.within, ap read_length c.self.view_is)),
+      search rules,
+    )
 
 pub returns-clause-read : goal.returns-clause-read
-returns-clause-read g c = λ before runs has.
-    let Gave = g.S.Source.Gave in
-    let now = subst (λ (v : ReaderView). IsReadTo Gave before c.args.source.now runs v) (sym c.self.view_is) has in
-    read_on Gave before c.args.source.now c.feed_next.new.source runs _ _ now refl refl refl
-    (c.in_ok-taken.ensures.fed (concat runs) before (sym now.has.start) (read_fed Gave before c.args.source.now runs _ now))
+returns-clause-read g c =
+    let (taken, long, gave, fed) = c.in_ok-taken.ensures.fed in
+    let first = ap (λ (v : ReaderView). v.first) c.self.view_is in
+    let start = ap (λ (v : ReaderView). v.start) c.self.view_is in record {
+      read = λ before runs to.
+          read_on g.met.S.Source.gave_more to gave (ap (λ (v : ReaderView). v.target) c.self.view_is) first start
+          (fed to.has.fed (subst (λ (v : ReaderView). HasFed v.cutter to.has.fed) (sym c.self.view_is) to.has.has));
+      number = first;
+      start = start;
+    }
+
+pub returns-clause-longer : goal.returns-clause-longer
+returns-clause-longer g c = λ some.
+    let inv = c.self.invariant.0 in
+    let (taken, long, gave, fed) = c.in_ok-taken.ensures.fed in
+    omega (arith, grown taken inv.has (fed inv.fed inv.has), long, ltb-true 0 c.in_ok-taken.taken some, ap read_length c.self.view_is)
+
+pub returns-clause-within : goal.returns-clause-within
+returns-clause-within g c =
+    let inv = c.self.invariant.0 in
+    let (taken, long, gave, fed) = c.in_ok-taken.ensures.fed in
+    let limit = ap (λ (v : ReaderView). v.limit) c.self.view_is in
+    omega (
+      arith,
+      grown taken inv.has (fed inv.fed inv.has),
+      long,
+      c.in_ok-taken.ensures.within,
+      c.length.ensures.same,
+      c.length.ensures.within,
+      ap read_length c.self.view_is,
+    )

@@ -1,37 +1,58 @@
-use Rattle.std.proofs.Common.{◌++◌, ◌∙◌, subst, arith}
+use Rattle.std.proofs.Common.{◌≡◌, ℕ, List, [], ◌++◌, sym, ap, ◌∙◌, subst, arith, refl, false, true, rules}
 use Rattle.std.proofs.lemmas.Result.{IfErr-weaker, IfOk-weaker, err_from_is_err_and}
+use Rattle.std.proofs.lemmas.Bool.{false≢true}
 use Rattle.day_file.specs.Cuts.{IsCutBy}
-use Rattle.streaming.specs.Batches.{IsLastFault}
-use Rattle.streaming.specs.Streams.{IsReadFault}
-use Rattle.streaming.proofs.JoinedBatches.{all_cut, gave_all, last_fault}
+use Rattle.day_file.specs.Feeding.{CutterView, HasFed}
+use Rattle.day_file.proofs.Fed.{fed_length_is}
+use Rattle.streaming.specs.Batches.{IsLastFault, ReaderView}
+use Rattle.streaming.specs.Readings.{IsSourceFault, of_stream}
+use Rattle.streaming.proofs.JoinedBatches.{last_cut, last_fault, reading_on}
 use Rattle.streaming.proofs.batches.BatchReader.next_batch.Goals as goal
 
 pub returns-in_err-feed-clause-fault : goal.returns-in_err-feed-clause-fault
 returns-in_err-feed-clause-fault g c =
     let p = err_from_is_err_and c.from_residual.result c.from_residual.ensures.1 in
-    let Gave = g.S.Source.Gave in
-    let HasEnded = g.S.Source.HasEnded in
     let inv = c.loop-self.invariant in
-    let f = c.in_err-feed.field-0.0 in
-    rw (p.1, p.2) (λ before runs has.
-    let told = c.in_err-feed.ensures.fault before runs (inv.read before runs has) in
-    subst (λ n. IsReadFault Gave HasEnded n c.args.self.now.target before c.feed.new.source f) inv.limit
-    (subst (λ n. IsReadFault Gave HasEnded c.loop-self.self.limit n before c.feed.new.source f) inv.target told))
+    rw (p.1, p.2) (λ before runs to. rw (inv.limit, inv.target) at (c.in_err-feed.ensures.fault before runs (inv.on.read before runs to)))
 
-pub returns-clause-last : goal.returns-clause-last
-returns-clause-last g c = IfOk-weaker c.last_batch.result _ _ (λ batch made _ before runs has.
+pub last_batch-requires-clause-within : goal.last_batch-requires-clause-within
+last_batch-requires-clause-within g c =
+    let inv = c.self.invariant.0 in
+    (inv.fed, rw c.replace-cutter.ensures.value inv.has, omega (arith, inv.within, inv.limit_is, fed_length_is c.self.inside.cutter inv.fed inv.has))
+
+pub invariant_of-self : goal.invariant_of-self
+invariant_of-self g c =
+    let inv = c.self.invariant.0 in
+    let has : HasFed c.replace-cutter.new.dest [] = rw c.replace-cutter.ensures.after c.new-none.ensures.fed in (
+      reading_on inv has (ap (λ (v : CutterView). v.target) c.replace-cutter.ensures.after ∙ c.new-none.ensures.target)
+          (omega (arith, inv.within, fed_length_is c.replace-cutter.new.dest [] has)),
+      c.self.invariant.1,
+    )
+
+pub returns-clause-next : goal.returns-clause-next
+returns-clause-next g c = IfOk-weaker c.last_batch.result _ _ (λ batch (first, start, is_last, made).
     let inv = c.loop-self.invariant in
-    let h = c.in_ok-feed.ensures.read before runs (inv.read before runs has) in
-    all_cut g.S.Source.Gave g.S.Source.HasEnded c.args.self.now.limit before c.feed.new.source runs c.feed.new.self h (c.in_ok-feed.ensures.end c.if-branch.false)
-    (omega (arith, c.in_ok-feed.ensures.within, c.in_ok-feed.ensures.same.0, inv.limit))
-    c.args.self.now.target batch.cut
-    (subst (λ n. IsCutBy n (runs ++ batch.cut) h.bytes) (c.in_ok-feed.ensures.same.1 ∙ inv.target) (made runs h.bytes h.has))) c.last_batch.ensures.last
+    let on = c.in_ok-feed.ensures.read in
+    let same = subst (λ (v : ReaderView). v.cutter.target ≡ v.target) c.self.view_is c.self.invariant.0.same in
+    let taken = c.replace-cutter.ensures.value ∙ ap (λ (v : ReaderView). v.cutter) c.self.view_is in record {
+      more = λ e. absurd (false≢true (sym e ∙ is_last));
+      last = λ e before runs to.
+          rw (← inv.target, ← c.in_ok-feed.ensures.same.1)
+          (last_cut g.S.Source.HasEnded (on.read before runs (inv.on.read before runs to)) same (c.in_ok-feed.ensures.end c.if-branch.false)
+          (omega (arith, c.in_ok-feed.ensures.within, c.in_ok-feed.ensures.same.0, inv.limit)) batch.cut
+          (subst (λ (k : CutterView). (fed : List ℕ) → HasFed k fed → IsCutBy k.target batch.cut fed) taken made));
+      number = first ∙ ap (λ (v : ReaderView). v.first) c.self.view_is ∙ on.number ∙ inv.on.number;
+      start = start ∙ ap (λ (v : ReaderView). v.start) c.self.view_is ∙ on.start ∙ inv.on.start;
+      longer = λ e. absurd (false≢true (sym e ∙ is_last));
+    }) c.last_batch.ensures.last
 
 pub returns-clause-fault : goal.returns-clause-fault
-returns-clause-fault g c = IfErr-weaker c.last_batch.result _ _ (λ f told before runs has.
+returns-clause-fault g c = IfErr-weaker c.last_batch.result _ _ (λ f told before runs to.
     let inv = c.loop-self.invariant in
-    let h = c.in_ok-feed.ensures.read before runs (inv.read before runs has) in
-    last_fault g.S.Source.Gave g.S.Source.HasEnded c.args.self.now.limit c.args.self.now.target before c.feed.new.source h.bytes f
-    (gave_all g.S.Source.Gave g.S.Source.HasEnded c.args.self.now.limit before c.feed.new.source runs c.feed.new.self h (c.in_ok-feed.ensures.end c.if-branch.false)
-    (omega (arith, c.in_ok-feed.ensures.within, c.in_ok-feed.ensures.same.0, inv.limit)))
-    (subst (λ n. IsLastFault n h.bytes f) (c.in_ok-feed.ensures.same.1 ∙ inv.target) (told runs h.bytes h.has))) c.last_batch.ensures.fault
+    let same = subst (λ (v : ReaderView). v.cutter.target ≡ v.target) c.self.view_is c.self.invariant.0.same in
+    rw (← inv.target, ← c.in_ok-feed.ensures.same.1)
+    (last_fault g.S.Source.HasEnded (c.in_ok-feed.ensures.read.read before runs (inv.on.read before runs to)) same
+    (c.in_ok-feed.ensures.end c.if-branch.false) (omega (arith, c.in_ok-feed.ensures.within, c.in_ok-feed.ensures.same.0, inv.limit)) f
+    (subst (λ (v : ReaderView). (fed : List ℕ) → HasFed v.cutter fed → IsLastFault v.first v.start v.cutter.target fed f) c.self.view_is
+    (subst (λ (k : CutterView). (fed : List ℕ) → HasFed k fed → IsLastFault c.self.inside.first c.self.inside.start k.target fed f)
+    c.replace-cutter.ensures.value told)))) c.last_batch.ensures.fault

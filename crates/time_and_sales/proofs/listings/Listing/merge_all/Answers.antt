@@ -1,16 +1,10 @@
 use Rattle.std.proofs.Common.{◌∷◌, sym, ap, ◌∙◌}
 use Rattle.std.specs.Vec.Iter.{into_iter_items}
-use Rattle.std.proofs.lemmas.List.Elements.{All-nil, All-push}
+use Rattle.std.proofs.lemmas.List.Elements.{All-push}
 use Rattle.row_types.specs.SalesByPlace.{IsByPlace}
 use Rattle.time_and_sales.proofs.MadeTexts.{moved, none_left}
 use Rattle.time_and_sales.proofs.MergedListings.{joined_parts}
 use Rattle.time_and_sales.proofs.listings.Listing.merge_all.Goals as goal
-
-pub loop-listing-init : goal.loop-listing-init
-loop-listing-init g c = record {
-  told = rw c.new-parts.ensures.items c.into_iter-listing-iterator.ensures.into_iter_gives.0;
-  by_place = rw c.new-parts.ensures.items (All-nil (λ part. IsByPlace part.items));
-}
 
 pub loop-listing-preserved : goal.loop-listing-preserved
 loop-listing-preserved g c = record {
@@ -19,9 +13,6 @@ loop-listing-preserved g c = record {
   by_place = rw c.in_ok-push.ensures.items
       (All-push (λ part. IsByPlace part.items) c.loop-listing.parts.items c.into_vec.result c.loop-listing.invariant.by_place c.into_vec.ensures.by_place);
 }
-
-pub merged-requires-clause-by_place : goal.merged-requires-clause-by_place
-merged-requires-clause-by_place g c = c.loop-listing.invariant.by_place
 
 pub merged-requires-clause-apart : goal.merged-requires-clause-apart
 merged-requires-clause-apart g c =

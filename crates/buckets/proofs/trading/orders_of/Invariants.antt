@@ -1,7 +1,0 @@
-use Rattle.std.proofs.Common.{◌≡◌, take}
-use Rattle.buckets.specs.BucketRows.{rows_of_parts}
-use Rattle.buckets.proofs.trading.orders_of.Given as goal
-
--- those of the partitions so far
-abbrev pub invariant-loop-part : goal.invariant-loop-part
-invariant-loop-part l = l.rows.items ≡ (rows_of_parts (take l.part-index l.parts)).orders

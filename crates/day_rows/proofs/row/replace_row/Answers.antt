@@ -1,5 +1,0 @@
-use Rattle.std.proofs.Common.{rules}
-use Rattle.day_rows.proofs.row.replace_row.Goals as goal
-
-pub returns-clause-row : goal.returns-clause-row
-returns-clause-row c = search rules

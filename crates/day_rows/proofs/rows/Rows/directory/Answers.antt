@@ -1,5 +1,0 @@
-use Rattle.std.proofs.Common.{rules}
-use Rattle.day_rows.proofs.rows.Rows.directory.Goals as goal
-
-pub returns : goal.returns
-returns g c = search rules

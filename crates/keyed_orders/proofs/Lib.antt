@@ -1,2 +1,0 @@
-pub mod KeyedRows
-pub mod JoinedRows

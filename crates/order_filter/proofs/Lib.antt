@@ -1,0 +1,2 @@
+pub mod FilteredOrders
+mod SetBits

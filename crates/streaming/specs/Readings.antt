@@ -1,0 +1,56 @@
+-- What is known of a source after it was read, whichever kind of source it is.
+-- To be believed.
+use Rattle.std.specs.Prelude.{◌≡◌, ℕ, ◌≤◌, ◌⊎◌, List, length}
+use Rattle.lists.specs.declared.limits.TheConstants.{MOST_MORSELS}
+use Rattle.day_file.specs.Cuts.{IsCutBy}
+use Rattle.day_file.specs.Frames.{IsTruncatedAt}
+use Rattle.streaming.specs.Streams.{GaveAll, GaveMore, GaveSome, HasTooMany}
+use Rattle.streaming.specs.declared.fault.SourceFault.{SourceFault}
+use Rattle.streaming.specs.declared.fault.SourceFault.TheVariants as fault
+
+-- what is known of a source after a run: a field for each thing that an outcome of a run may say of it. The comment
+-- of a field says what it is for; each kind of source says what it means there (`of_stream`, `of_blocks`), and that
+-- may be less.
+pub record Reading : Type 1 where
+  -- all that the source had to give, which isn't more than the limit, was read, and is these bytes
+  pub all : List ℕ → Type 0
+  -- it was read in part, or not at all: what is known of that part
+  pub some : Type 0
+  -- it gave more than the limit
+  pub longer : Type 0
+  -- a call of it failed: what is known of what it had given
+  pub failed : Type 0
+  -- all that it had to give was read, and has too many morsels
+  pub too_many : Type 0
+  -- nothing was read of it
+  pub untouched : Type 0
+
+-- what each refusal of a source says of it. Out of memory says only what is known of a source that was read in part.
+abbrev pub IsSourceFault : Reading → SourceFault → Type 0
+IsSourceFault reading fault.ReadFailed = reading.failed
+IsSourceFault reading fault.TooLong = reading.longer
+IsSourceFault reading (fault.Truncated place) = (day : List ℕ) × reading.all day × IsTruncatedAt day place
+IsSourceFault reading fault.TooManyMorsels = reading.too_many
+IsSourceFault reading fault.OutOfMemory = reading.some
+
+-- bytes are truncated, or their cut by the target has no more morsels than are allowed
+abbrev pub IsTruncatedOrFew : ℕ → List ℕ → Type 0
+IsTruncatedOrFew target day =
+    ((place : ℕ) × IsTruncatedAt day place)
+    ⊎ ((runs : List (List ℕ)) × IsCutBy target runs day × (length runs ≤ MOST_MORSELS))
+
+-- what is known of a source S that is read in order, and whose bytes are cut by the target, from its states before
+-- and after. `all` says of bytes that it gave them up to its end, within the limit, and that they are truncated or
+-- have few enough morsels; `some` and `failed`, that it gave at most one byte more than the limit; `longer`, that it
+-- gave that one; `too_many`, that all it gave has too many morsels; `untouched`, that its state is the same. `Gave`
+-- says which bytes it gave from one state to a later one, and `HasEnded` that it said that no byte is left. That a
+-- call failed is a clause of its own: `failed` of `next_batch`, `read_failed` of `run`.
+abbrev pub of_stream : {S : Type 0} → (S → S → List ℕ → Type 0) → (S → Type 0) → ℕ → ℕ → S → S → Reading
+of_stream Gave HasEnded limit target before after = record {
+  all = λ day. GaveAll Gave HasEnded limit before after day × IsTruncatedOrFew target day;
+  some = GaveSome Gave limit before after;
+  longer = GaveMore Gave limit before after;
+  failed = GaveSome Gave limit before after;
+  too_many = (day : List ℕ) × GaveAll Gave HasEnded limit before after day × HasTooMany target day;
+  untouched = after ≡ before;
+}

@@ -1,0 +1,98 @@
+//! Which order rows are needed.
+use order_filter::{OrderFilter, OutOfMemory};
+use std::alloc::Global;
+use std::test::Fail;
+
+/// How references follow each other.
+#[derive(Clone, Copy)]
+enum Shape {
+    Rising,
+    FarApart,
+    InNoOrder,
+    Falling,
+    OfOnePartition,
+}
+
+impl Shape {
+    fn all() -> [Shape; 5] {
+        [
+            Shape::Rising,
+            Shape::FarApart,
+            Shape::InNoOrder,
+            Shape::Falling,
+            Shape::OfOnePartition,
+        ]
+    }
+
+    /// The reference of this number.
+    fn reference(self, number: u64) -> u64 {
+        match self {
+            Shape::Rising => number,
+            Shape::FarApart => number.wrapping_mul(1 << 40),
+            Shape::InNoOrder => number.wrapping_mul(0xd6e8_feb8_6659_fd93),
+            Shape::Falling => u64::MAX - number,
+            Shape::OfOnePartition => number.reverse_bits(),
+        }
+    }
+}
+
+/// A filter with room for so many orders, an execution of every tenth of a thousand references, and an order of each.
+fn filter_of(alloc: Global, room: usize, shape: Shape) -> Result<OrderFilter, OutOfMemory> {
+    let mut filter = OrderFilter::new(alloc, room)?;
+    for tens in 0..100u64 {
+        filter.add_execution(shape.reference(tens * 10));
+    }
+    for number in 0..1_000u64 {
+        filter.add_order(shape.reference(number));
+    }
+    Ok(filter)
+}
+
+/// How many of the thousand references are needed.
+fn count_needed(filter: &OrderFilter, shape: Shape) -> usize {
+    let mut count = 0usize;
+    for number in 0..1_000u64 {
+        if filter.needs(shape.reference(number)) {
+            count = count.saturating_add(1);
+        }
+    }
+    count
+}
+
+/// Whether each tenth reference is needed.
+fn needs_executed(filter: &OrderFilter, shape: Shape) -> bool {
+    for tens in 0..100u64 {
+        if !filter.needs(shape.reference(tens * 10)) {
+            return false;
+        }
+    }
+    true
+}
+
+/// Each executed reference is, and few others are; all may be if the filter has too little room.
+#[test]
+fn executed_references_are_needed(rt: HostRuntime) -> Result<(), Fail> {
+    for shape in Shape::all() {
+        for (room, most) in [(1_000, 225), (100, 1_000), (0, 1_000)] {
+            let filter = filter_of(rt.alloc(), room, shape)?;
+            assert!(rt; needs_executed(&filter, shape), "{room}");
+            let needed = count_needed(&filter, shape);
+            assert!(rt; needed <= most, "{needed} {room}");
+        }
+    }
+    Ok(())
+}
+
+/// A reference that two orders have is needed, whichever it is.
+#[test]
+fn repeated_references_are_needed(rt: HostRuntime) -> Result<(), Fail> {
+    for shape in Shape::all() {
+        let mut filter = filter_of(rt.alloc(), 1_000, shape)?;
+        for number in 0..1_000u64 {
+            let order_no = shape.reference(number);
+            filter.add_order(order_no);
+            assert!(rt; filter.needs(order_no), "{number}");
+        }
+    }
+    Ok(())
+}
