@@ -1,5 +1,6 @@
 -- What the steps of an answer have found makes it the answer.
-use Rattle.std.proofs.Common.{◌≡◌, ℕ, List, Some, None, Result, Ok, Err, inl, inr, refl, subst}
+use Rattle.std.proofs.Common.{arith}
+use Rattle.std.proofs.Common.{◌≡◌, ℕ, List, Some, None, Result, Ok, Err, inl, inr, refl}
 use Rattle.day_file.specs.Frames.{IsTruncatedAt, PlacedBody, StandsFor}
 use Rattle.order_table.specs.Orders.{first_repeated}
 use Rattle.probe.specs.Pricing.{Sale, first_unknown}
@@ -12,15 +13,12 @@ use Rattle.answers.specs.Answers.{DayFault, IsAnswer, IsAnswerToMessages, IsText
 pub text_asked : (messages : List Placed) (query : Meaning) (listing : List Sale) (names : ℕ → List ℕ) (text : List ℕ) → listing ≡ selected_sales query messages
     → ((locate : ℕ) → names locate ≡ name_of (directory_rows messages) locate) → IsTextOfSales query.what names listing text
     → IsTextOfMessages query messages text
-text_asked messages query listing names text same named is =
-    subst (λ sales. IsTextOfSales query.what (name_of (directory_rows messages)) sales text) same
-    (subst (λ (ns : ℕ → List ℕ). IsTextOfSales query.what ns listing text) (λ i. λ locate. named locate i) is)
+text_asked messages query listing names text same named is = grind (arith)
 
 -- it answers to messages whose references have no fault
 pub text_answers : (messages : List Placed) (query : Meaning) (text : List ℕ) → first_repeated (order_rows messages) ≡ None
     → first_unknown (order_rows messages) (executions messages) ≡ None → IsTextOfMessages query messages text → IsAnswerToMessages messages query (Ok text)
-text_answers messages query text no_repeated no_unknown is =
-    rw (no_repeated, no_unknown) (text, is, refl)
+text_answers messages query text no_repeated no_unknown is = grind (arith)
 
 -- a truncated file
 pub truncation_answers : (file : List ℕ) (query : Meaning) (place : ℕ) → IsTruncatedAt file place → IsAnswer file query (Err (Truncated place))
@@ -29,8 +27,7 @@ truncation_answers file query place truncated = inl (place, truncated, refl)
 -- a wrong length
 pub wrong_length_answers : (file : List ℕ) (query : Meaning) (frames : List PlacedBody) (wrong : PlacedBody) → StandsFor frames file
     → first_wrong frames ≡ Some wrong → IsAnswer file query (Err (wrong_length_at wrong))
-wrong_length_answers file query frames wrong stands is =
-    inr (frames, stands, rw is refl)
+wrong_length_answers file query frames wrong stands is = grind (arith)
 
 -- no wrong length
 pub messages_answer : (file : List ℕ) (query : Meaning) (frames : List PlacedBody) (answer : Result (List ℕ) DayFault) → StandsFor frames file

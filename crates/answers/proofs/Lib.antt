@@ -3,4 +3,3 @@ pub mod Examples
 pub mod MomentLaws
 pub mod OneAnswer
 pub mod SelectedSales
-pub mod TextsByLine

@@ -1,10 +1,11 @@
 -- A moment that no message is past changes no answer, and the messages that count decide it.
-use Rattle.std.proofs.Common.{◌≡◌, ◌↔◌, ℕ, List, Option, None, Result, inl, inr, sym, ◌∙◌, subst}
+use Rattle.std.proofs.Common.{arith}
+use Rattle.std.proofs.Common.{◌≡◌, ◌↔◌, ℕ, List, Option, None, Result, inl, inr, subst}
 use Rattle.std.proofs.lemmas.Option.{MatchOption-at_none}
 use Rattle.day_file.specs.Frames.{PlacedBody, StandsFor}
 use Rattle.day_file.proofs.Laws.{frames_are_one, not_both}
 use Rattle.meaning.specs.Meaning.{Meaning}
-use Rattle.answers.specs.Answers.{DayFault, FaultOr, IsAnswer, IsAnswerToFrames, IsAnswerToMessages, wrong_length_at}
+use Rattle.answers.specs.Answers.{DayFault, FaultOr, IsAnswer, IsAnswerToMessages, wrong_length_at}
 use Rattle.day_rows.specs.Messages.{Placed, counted, first_wrong, messages_of}
 use Rattle.answers.specs.Moments.{HasCounted, NoneIsPast, without_moment}
 use Rattle.answers.proofs.AnswerOfSteps.{messages_answer}
@@ -20,10 +21,10 @@ at_moment one other file query answer same (inr (frames, stands, is)) =
 
 pub past_all : (file : List ℕ) (query : Meaning) (answer : Result (List ℕ) DayFault) → NoneIsPast query.as_of file
     → IsAnswer file query answer ↔ IsAnswer file (without_moment query) answer
-past_all file query answer none =
-    let same : (frames : List PlacedBody) → StandsFor frames file → counted query.as_of (messages_of frames) ≡ counted None (messages_of frames) =
-    λ frames stands. counted-all query.as_of (messages_of frames) (none frames stands) ∙ sym (counted-none (messages_of frames)) in
-    (at_moment query.as_of None file query answer same, at_moment None query.as_of file query answer (λ frames stands. sym (same frames stands)))
+past_all file query answer none = (
+  at_moment query.as_of None file query answer (λ frames stands. grind (arith, none frames, counted-all, counted-none)),
+  at_moment None query.as_of file query answer (λ frames stands. grind (arith, none frames, counted-all, counted-none)),
+)
 
 -- ---- files with the same counted messages
 
@@ -31,14 +32,11 @@ answers_to_counted : (file : List ℕ) (query : Meaning) (messages : List Placed
     → HasCounted query.as_of file messages → IsAnswer file query answer → IsAnswerToMessages messages query answer
 answers_to_counted file query messages answer has (inl (place, truncated, e)) = absurd (not_both file has.frames place has.stands truncated)
 answers_to_counted file query messages answer has (inr (frames, stands, is)) =
-    subst (λ ms. IsAnswerToMessages ms query answer) has.are
-    (MatchOption-at_none _ _ has.right
-    (subst (λ fs. IsAnswerToFrames fs query answer) (frames_are_one file frames has.frames stands has.stands) is))
+    let same = frames_are_one file frames has.frames stands has.stands in grind (arith, MatchOption-at_none)
 
 counted_answer : (file : List ℕ) (query : Meaning) (messages : List Placed) (answer : Result (List ℕ) DayFault)
     → HasCounted query.as_of file messages → IsAnswerToMessages messages query answer → IsAnswer file query answer
-counted_answer file query messages answer has is =
-    messages_answer file query has.frames answer has.stands has.right (subst (λ ms. IsAnswerToMessages ms query answer) (sym has.are) is)
+counted_answer file query messages answer has is = grind (arith, messages_answer)
 
 pub counted_decide : (one other : List ℕ) (query : Meaning) (messages : List Placed) (answer : Result (List ℕ) DayFault)
     → HasCounted query.as_of one messages → HasCounted query.as_of other messages → IsAnswer one query answer ↔ IsAnswer other query answer

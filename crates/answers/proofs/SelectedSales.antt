@@ -1,6 +1,6 @@
 -- What is listed is what the query asks for.
-use Rattle.std.proofs.Common.{◌≡◌, ◌<◌, ◌+◌, ◌^◌, ℕ, Bool, ◌&&◌, not, cond, ltb, List, [], ◌∷◌, ◌++◌, All, IsPermutation, length, map, nat_eq, refl, ap, ap₂}
-use Rattle.std.proofs.Common.{◌∙◌, arith, length-append}
+use Rattle.std.proofs.Common.{◌≡◌, ◌<◌, ◌+◌, ◌^◌, ℕ, Bool, ◌&&◌, not, cond, ltb, List, [], ◌∷◌, ◌++◌, All, IsPermutation, length, map, nat_eq, refl}
+use Rattle.std.proofs.Common.{arith, length-append}
 use Rattle.std.specs.List.{IsDistinct}
 use Rattle.std.specs.List.Sorted.{IsStrictlySortedBy}
 use Rattle.std.proofs.lemmas.List.Elements.{All-head, All-tail, All-weaker}
@@ -9,16 +9,15 @@ use Rattle.lists.specs.Among.{is_among}
 use Rattle.lists.specs.declared.limits.TheConstants.{TIME_LIMIT}
 use Rattle.row_types.specs.declared.order.OrderRow.{OrderRow}
 use Rattle.probe.specs.Pricing.{Execution, Sale, priced}
-use Rattle.probe.specs.Selection.{admits, has_kind, has_locate, has_time}
+use Rattle.probe.specs.Selection.{admits}
 use Rattle.probe.specs.Trades.{kept}
-use Rattle.probe.specs.declared.selection.Locates.{Locates}
 use Rattle.probe.specs.declared.selection.Selection.{Selection}
 use Rattle.probe.proofs.KeptSales.{kept_have_shares, length-kept, length-priced}
 use Rattle.row_types.specs.SalesByPlace.{place_cmp}
 use Rattle.time_and_sales.specs.Names.{DirectoryRow, IsNamesOf, last_row, name_text}
 use Rattle.time_and_sales.specs.declared.directory.Names.{Names}
 use Rattle.meaning.specs.Meaning.{Meaning}
-use Rattle.meaning.specs.Selected.{has_name, locates_of}
+use Rattle.meaning.specs.Selected.{locates_of}
 use Rattle.meaning.proofs.ListedLocates.{locates_agree}
 use Rattle.answers.specs.Answers.{asks_for, selected_sales}
 use Rattle.day_rows.specs.Messages.{Placed, order_rows, executions, own_priced_sales, break_numbers, directory_rows}
@@ -31,12 +30,7 @@ use Rattle.day_rows.proofs.TradesOfRows.{listing_is}
 pub agrees : {A B : Type 0} (query : Meaning) (rows : List DirectoryRow) (names : Names A) (selection : Selection B) → IsNamesOf rows names
     → selection.locates ≡ locates_of query.symbols (λ locate. name_text locate (last_row names locate)) → selection.span ≡ query.span
     → selection.kinds ≡ query.kinds → (sale : Sale) → sale.locate < 2 ^ 16 → admits selection sale ≡ asks_for query rows sale
-agrees {A} {B} query rows names selection are locates span kinds sale small =
-    ap₂ ◌&&◌
-    (ap (λ (l : Locates B). has_locate l sale.locate) locates
-    ∙ locates_agree B query.symbols (λ locate. name_text locate (last_row names locate)) sale.locate small
-    ∙ ap (λ row. has_name query.symbols (name_text sale.locate row)) (are sale.locate))
-    (ap₂ ◌&&◌ (ap (λ s. has_time s sale.time) span) (ap (λ k. has_kind k sale.kind) kinds))
+agrees {A} {B} query rows names selection are locates span kinds sale small = grind (arith, locates_agree)
 
 -- so it keeps the same
 pub keeps_asked : (breaks : List ℕ) (p q : Sale → Bool) (sales : List Sale) → ((sale : Sale) → sale.locate < 2 ^ 16 → p sale ≡ q sale)
@@ -77,13 +71,4 @@ listing_shares breaks asked all listing permutation =
 
 pub listing_few : (limit : ℕ) (orders : List OrderRow) (executed : List Execution) (breaks : List ℕ) (asked : Sale → Bool) (own all listing : List Sale)
     → all ≡ priced orders executed ++ own → IsPermutation (kept breaks asked all) listing → length executed + length own < limit → length listing < limit
-listing_few limit orders executed breaks asked own all listing e permutation few =
-    omega (
-      arith,
-      length_permutation _ listing permutation,
-      length-kept breaks asked all,
-      ap length e,
-      length-append (priced orders executed) own,
-      length-priced orders executed,
-      few,
-    )
+listing_few limit orders executed breaks asked own all listing e permutation few = grind (arith, length_permutation, length-kept, length-append, length-priced)

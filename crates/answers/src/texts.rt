@@ -19,6 +19,7 @@ use std::thread::Threads;
 use time_and_sales::{Listing, Names};
 
 /// The text of time and sales: a header line, then a line for each of these sales, in their order.
+#[tactic(auto, using(std::proofs::lemmas::Grind::common_steps, time_and_sales::proofs::RangesJoined::flat_map_push))]
 pub fn text_of_sales<A: Allocator + Copy>(
     alloc: A,
     sales: &[Sale],

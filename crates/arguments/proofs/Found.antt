@@ -1,14 +1,15 @@
 -- What clap finds for an argument that is required or has a default, in a command that excludes nothing.
-use Rattle.std.proofs.Common.{◌≡◌, ◌∙◌, ◌<◌, ◌≤◌, ℕ, zero, suc, Bool, true, false, List, [], ◌∷◌, Some, None, refl, sym, ap, subst, inl, inr, arith, length}
+use Rattle.std.proofs.lemmas.Bool.Decides.{nat_tests}
+use Rattle.std.proofs.Common.{◌≡◌, ◌∙◌, ◌<◌, ◌≤◌, ℕ, zero, suc, true, false, List, [], ◌∷◌, Some, None, refl, sym, ap, inl, inr, arith, length}
 use Rattle.std.proofs.Common.{find, option_map, slice_get, Bor, All, slice_index_or, bytes_eq}
 use Rattle.std.proofs.lemmas.Bool.{cases_Bool}
 use Rattle.std.proofs.lemmas.List.Elements.{All-get_or}
 use Rattle.std.proofs.lemmas.Slice.Eq.{bytes_eq-Decides}
 use Rattle.clap.specs.Built.{IsAuto, IsParsedFrom, SameRules}
-use Rattle.clap.specs.Facts.{Entry, EntryPasses, HasId, PassesArg, args_of, groups_of, least_values, parser_of, parser_of_value}
+use Rattle.clap.specs.Facts.{Entry, EntryPasses, HasId, PassesArg, args_of, groups_of, least_values, parser_of_value}
 use Rattle.clap.specs.Matches.{found_of, one_text}
 use Rattle.clap.specs.Values.{Accepts, read_as, reading_of}
-use Rattle.clap.specs.declared.builder.action.ArgAction.TheVariants.{Count, Set}
+use Rattle.clap.specs.declared.builder.action.ArgAction.TheVariants.{Set}
 use Rattle.clap.specs.declared.builder.arg.Arg.{Arg}
 use Rattle.clap.specs.declared.builder.command.Command.{Command}
 use Rattle.clap.specs.declared.builder.command.Command.TheViews.{out-Command}
@@ -61,34 +62,23 @@ module _ (old : Command) (m : ArgMatches) (p : IsParsedFrom old m) (no_groups : 
 
     -- the entry is no group's, and has a value
     no_group : e.1.is_group ≡ true → ⊥
-    no_group group = elim (pass.3 group) [
-      | inl empty ↦ name.named (sym key ∙ empty)
-      | inr has ↦ let bad : 0 < 0 = rw no_groups at has in absurd (omega arith)
-    ]
+    no_group group = grind (arith, nat_tests)
 
     full : 0 < length e.1.vals.items
     full = elim pass.1 [
       | inl group ↦ absurd (no_group group.0)
       | inr (inl has) ↦ has
-      | inr (inr (inl counts)) ↦
-          let any = counts.1 in
-          let is_set : any.1.action ≡ Some Set = (rules any.0 any.1 any.2 any.3 any.4.0).action Set valued.set in
-          let bad : Set ≡ Count = rw is_set at any.4.1 in
-          absurd (cc)
+      | inr (inr (inl (_, any))) ↦ let is_set = (rules any.0 any.1 any.2 any.3 any.4.0).action Set valued.set in absurd (cc)
       | inr (inr (inr any)) ↦
           let s = rules any.0 any.1 any.2 any.3 any.4.0 in
-          elim any.4.1 [
-            | inl none ↦ let one = s.least valued.set valued.least in absurd (omega arith)
-            | inr has ↦ let bad : false ≡ true = rw (s.val_delim, valued.delim) at has in absurd (cc)
-          ]
+          let one = s.least valued.set valued.least in grind (arith, s.val_delim, valued.delim)
     ]
 
     -- a value of the entry passed the caller's parser
     passes : (v : List ℕ) → PassesArg p.built e.0.now v → Accepts arg.ignore_case q v
     passes v any =
         let s = rules any.0 any.1 any.2 any.3 any.4.0 in
-        let is_q : parser_of any.1 ≡ q = ap parser_of_value (s.parser q valued.parser) in
-        subst (λ (b : Bool). Accepts b q v) s.ignore_case (subst (λ (w : ValueParser). Accepts any.1.ignore_case w v) is_q any.4.1)
+        rw (s.ignore_case, ap parser_of_value (s.parser q valued.parser)) at any.4.1
 
     -- and is read as that parser says
     reads : e.1.reading ≡ reading_of q

@@ -1,7 +1,8 @@
 -- Numbers that clap took as values, as its getters read them.
-use Rattle.std.proofs.Common.{◌≡◌, ◌∙◌, ◌<◌, ◌≤◌, ◌^◌, ℕ, Bool, true, false, cond, [], ◌∷◌, Option, Some, None, refl, ap, arith, inl, inr, is_some, option_map}
-use Rattle.std.proofs.Common.{pos, unwrap_or}
-use Rattle.std.specs.Str.Parse.{ExplainsUnsignedError, HasUnsignedDigitsIfOk, IsNumeral, ParsesUnsigned, starts_with_minus, without_leading_plus}
+use Rattle.std.proofs.lemmas.Bool.Decides.{nat_tests}
+use Rattle.std.proofs.Common.{◌≡◌, ◌∙◌, ◌<◌, ◌≤◌, ◌^◌, ℕ, true, false, Option, Some, None, refl, ap, arith, is_some, option_map}
+use Rattle.std.proofs.Common.{pos}
+use Rattle.std.specs.Str.Parse.{ExplainsUnsignedError, HasUnsignedDigitsIfOk, ParsesUnsigned, starts_with_minus}
 use Rattle.std.proofs.lemmas.Bool.{cases_Bool}
 use Rattle.std.proofs.lemmas.Int.{ints}
 use Rattle.clap.specs.Lexer.{without_minus}
@@ -13,19 +14,11 @@ use Rattle.clap.proofs.WalkLemmas.{one_text-rows}
 use Rattle.arguments.specs.Jobs.{HasNumberIn, WritesNumberIn, number_of}
 
 plain_without_minus : (t : Text) → starts_with_minus t ≡ false → without_minus t ≡ t
-plain_without_minus [] e = refl
-plain_without_minus (x ∷ xs) e = ap (λ (b : Bool). unwrap_or (cond b (Some xs) None) (x ∷ xs)) e
+plain_without_minus t e = grind arith
 
 -- a text that passed a parser of signed numbers above zero writes such a number
 pub signed_writes : (least most : ℕ) (t : Text) → 1 ≤ least → IsSignedIn (pos least) (pos most) t → WritesNumberIn least most (without_minus t)
-signed_writes least most t some passed = elim (cases_Bool (starts_with_minus t)) [
-  | inl minus ↦ let low = rw minus at passed.2 in absurd (omega (arith, ints))
-  | inr minus ↦
-      let numeral : IsNumeral 10 (without_leading_plus t) = rw minus at passed.0 in
-      let low = rw minus at passed.2 in
-      let high = rw minus at passed.3 in
-      rw (plain_without_minus t minus) (numeral, omega (arith, ints), omega (arith, ints))
-]
+signed_writes least most t some passed = grind (arith, nat_tests, cases_Bool, ints, plain_without_minus)
 
 -- a getter of an unsigned integer of k bits reads the number that clap found
 module _ (k least most : ℕ) (id : Text) (f : Found) (has : HasNumberIn least most id (rows_of f)) (fits : most < 2 ^ k) where
@@ -35,7 +28,7 @@ module _ (k least most : ℕ) (id : Text) (f : Found) (has : HasNumberIn least m
 
   reads_number : (r : Option ℕ) → Reads r → r ≡ Some (number_of has.0)
   reads_number (Some v) reads = ap Some (reads has.0 (one_text-rows f id ∙ has.1)).0.1
-  reads_number None reads = let read = reads has.0 (one_text-rows f id ∙ has.1) in absurd (read.1.0 (has.2.0, omega arith))
+  reads_number None reads = absurd ((reads has.0 (one_text-rows f id ∙ has.1)).1.0 (has.2.0, omega arith))
 
   pub integer_found : (r : Option ℕ) → Reads r → is_some r ≡ true
   integer_found r reads = rw (reads_number r reads) refl
@@ -43,6 +36,4 @@ module _ (k least most : ℕ) (id : Text) (f : Found) (has : HasNumberIn least m
   -- and the number that it unwraps to
   pub integer_unwrapped : (r : Option ℕ) (v : ℕ) → Reads r → r ≡ Some v
       → (least ≤ v) × (v ≤ most) × (option_map number_of (one_of id (rows_of f)) ≡ Some v)
-  integer_unwrapped r v reads is =
-      let same : v ≡ number_of has.0 = let read = reads_number r reads in cc in
-      rw same (has.2.1, has.2.2, ap (option_map number_of) has.1)
+  integer_unwrapped r v reads is = grind (arith, nat_tests, reads_number)

@@ -1,5 +1,7 @@
 -- What clap found, as its getters give it: texts, and where values are from.
-use Rattle.std.proofs.Common.{◌≡◌, ◌∙◌, Bool, Option, None, Some, refl, sym, ap, subst, is_some, true, Bor, find, option_and_then, option_map, bytes_eq}
+use Rattle.std.proofs.Common.{arith}
+use Rattle.std.proofs.lemmas.Bool.Decides.{nat_tests}
+use Rattle.std.proofs.Common.{◌≡◌, ◌∙◌, Bool, Option, Some, sym, ap, is_some, true, Bor, find, option_and_then, option_map, bytes_eq}
 use Rattle.clap.specs.Facts.{Entry}
 use Rattle.clap.specs.Matches.{first_value, matched_of}
 use Rattle.clap.specs.Walk.{Row, Text, first_of, row_of, rows_of}
@@ -13,14 +15,12 @@ use Rattle.arguments.specs.Jobs.{is_given, is_of_words}
 -- the getter has a text where clap found one
 pub text_found : (f : Found) (id : Text) (o : Option (Bor Text)) → option_map (λ s. s.now) o ≡ first_value f id
     → is_some (first_of id (rows_of f)) ≡ true → is_some o ≡ true
-text_found f id o given has =
-    some_of_text (λ (s : Bor Text). s.now) o _ given (subst (λ (v : Option Text). is_some v ≡ true) (sym (first_value-rows f id)) has)
+text_found f id o given has = grind (arith, nat_tests, some_of_text, first_value-rows)
 
 -- and the text that it unwraps to is the one that clap found
 pub text_unwrapped : (f : Found) (id : Text) (o : Option (Bor Text)) (v : Bor Text) → option_map (λ s. s.now) o ≡ first_value f id
     → o ≡ Some v → first_of id (rows_of f) ≡ Some v.now
-text_unwrapped f id o v given is =
-    sym (first_value-rows f id) ∙ (sym given ∙ ap (option_map (λ (s : Bor Text). s.now)) is)
+text_unwrapped f id o v given is = grind (arith, nat_tests, first_value-rows)
 
 -- whether the words give an option is what the source of its value says
 pub given_by_source : (f : Found) (id : Text) (o : Option ValueSource) (given : Bool)
@@ -31,5 +31,4 @@ given_by_source f id o given is says =
   where
     same : (e : Option Entry) → option_and_then (λ (a : MatchedArg). a.source) (option_map (λ x. x.1) e)
         ≡ option_and_then (λ (r : Row). r.source) (option_map row_of e)
-    same None = refl
-    same (Some e) = refl
+    same e = grind arith

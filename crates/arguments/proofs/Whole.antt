@@ -1,8 +1,9 @@
 -- A parse of the program's command line that succeeds has found all that a job has.
+use Rattle.std.proofs.lemmas.Bool.Decides.{nat_tests}
 use Rattle.std.proofs.Common.{◌≡◌, ◌∙◌, ◌<◌, ◌≤◌, ◌&&◌, ℕ, Bool, true, false, not, List, [], ◌∷◌, Option, Some, None, refl, sym, ap, subst, inl, inr, arith}
-use Rattle.std.proofs.Common.{length, is_some, map, codes, true≢false, ⊎_elim, pos, bytes_eq}
+use Rattle.std.proofs.Common.{length, is_some, map, codes, pos, bytes_eq}
 use Rattle.std.specs.List.{IsDistinct, list_all, slice_index_or}
-use Rattle.std.proofs.lemmas.Bool.{both_ways, cases_order}
+use Rattle.std.proofs.lemmas.Bool.{both_ways}
 use Rattle.std.proofs.lemmas.List.{get_or-map, length-map}
 use Rattle.std.proofs.lemmas.Map.Keys.{apart_from_distinct}
 use Rattle.std.proofs.lemmas.Slice.Eq.{bytes_eq-Decides}
@@ -34,8 +35,7 @@ abbrev the_rules : List Rule
 the_rules = file_rule ∷ query_rule ∷ workers_rule ∷ morsel_rule ∷ partitions_rule ∷ gatherers_rule ∷ []
 
 is_none : {X : Type 0} (o : Option X) → not (is_some o) ≡ true → o ≡ None
-is_none None e = refl
-is_none (Some x) e = absurd (true≢false (sym e))
+is_none o e = grind arith
 
 -- what the tests of an argument say of it
 record IsPlainly (a : Arg) : Type 0 where
@@ -45,17 +45,7 @@ record IsPlainly (a : Arg) : Type 0 where
 
 plainly : (a : Arg) → is_simple_arg a ≡ true → is_free_arg a ≡ true → IsPlainly a
 plainly a simple free =
-    let overrides = both _ _ simple in
-    let ifs = both _ _ overrides.1 in
-    let groups = both _ _ ifs.1 in
-    let delim = both _ _ groups.1 in
-    let exclusive = both _ _ free in
-    let conflicts = both _ _ exclusive.1 in
-    record {
-      plain = (is_false _ exclusive.0, is_nil _ conflicts.0, is_nil _ overrides.0, is_nil _ groups.0);
-      ifs = is_nil _ ifs.0;
-      delim = is_none _ delim.0;
-    }
+    record { plain = grind (arith, both, is_false, is_nil); ifs = grind (arith, both, is_nil); delim = grind (arith, both, is_none) }
 
 some_arg : (xs : List Arg) → 0 < length xs → Arg
 some_arg [] lt = absurd (omega arith)
@@ -70,10 +60,7 @@ is_not id other e same = both_ways _ (is_false _ e) ((bytes_eq-Decides id other)
 
 ids_differ : IsDistinct bytes_eq (map (λ (r : Rule). r.id) the_rules)
 unfolding IsDistinct
-ids_differ = (
-  (refl, (refl, (refl, (refl, (refl, tt))))),
-  ((refl, (refl, (refl, (refl, tt)))), ((refl, (refl, (refl, tt))), ((refl, (refl, tt)), ((refl, tt), (tt, tt))))),
-)
+ids_differ = grind (arith, nat_tests)
 
 module _ (c : Command) (line : app_of c ≡ the_app) where
   rules_are : map rule_of (args_of c) ≡ the_rules
@@ -83,8 +70,7 @@ module _ (c : Command) (line : app_of c ≡ the_app) where
   six = sym (length-map (args_of c) rule_of) ∙ ap length rules_are
 
   rule_at : (k : ℕ) (d : Arg) → k < 6 → rule_of (slice_index_or (args_of c) k d) ≡ slice_index_or the_rules k (rule_of d)
-  rule_at k d lt =
-      sym (get_or-map rule_of (args_of c) k d (rule_of d) (rw six lt)) ∙ ap (λ (rs : List Rule). slice_index_or rs k (rule_of d)) rules_are
+  rule_at k d lt = let same = get_or-map rule_of (args_of c) k d (rule_of d) (rw six lt) in grind (arith, rules_are)
 
   each : (p : Rule → Bool) → list_all p the_rules ≡ true → (k : ℕ) (d : Arg) → k < 6 → p (rule_of (slice_index_or (args_of c) k d)) ≡ true
   each p passes k d lt = each_rule p (args_of c) (ap (list_all p) rules_are ∙ passes) k d (rw six lt)
@@ -96,24 +82,14 @@ module _ (c : Command) (line : app_of c ≡ the_app) where
   plain_fields = ap (λ (a : App). a.top.is_plain) line
 
   is_plain : IsPlain c
-  is_plain =
-      let groups = both _ _ plain_fields in
-      ((λ k d lt. (plain_at k d (rw (← six) lt)).plain), is_nil _ groups.0)
+  is_plain = grind (arith, nat_tests, both, plain_fields, plain_at, six, is_nil)
 
   no_globals : (out-Command c).has_globals ≡ false
-  no_globals =
-      let groups = both _ _ plain_fields in
-      let external = both _ _ groups.1 in
-      let globals = both _ _ external.1 in
-      is_false _ globals.0
+  no_globals = grind (arith, nat_tests, both, plain_fields, is_false)
 
   -- no two arguments have one id
   apart : (j k : ℕ) (e d : Arg) → j < k → k < 6 → (slice_index_or (args_of c) j e).id.now ≡ (slice_index_or (args_of c) k d).id.now → ⊥
-  apart j k e d less lt same =
-      let id_at = λ (i : ℕ) (a : Arg). get_or-map (λ (r : Rule). r.id) the_rules i (rule_of a) [] in
-      both_ways _ (apart_from_distinct bytes_eq (map (λ (r : Rule). r.id) the_rules) j k [] ids_differ less lt)
-      ((bytes_eq-Decides _ _).1 (id_at j e (omega arith) ∙ sym (ap (λ (r : Rule). r.id) (rule_at j e (omega arith)))
-      ∙ same ∙ ap (λ (r : Rule). r.id) (rule_at k d lt) ∙ sym (id_at k d lt)))
+  apart j k e d less lt same = grind (arith, nat_tests, get_or-map, both_ways, apart_from_distinct, ids_differ, bytes_eq-Decides, rule_at)
 
   named : (k : ℕ) (d : Arg) → k < 6 → IsNamed c k d
   named k d lt =
@@ -124,16 +100,14 @@ module _ (c : Command) (line : app_of c ≡ the_app) where
       record {
         unique = λ j e low same.
             let one = (bytes_eq-Decides (slice_index_or (args_of c) j e).id.now id).0 same in
-            ⊎_elim (λ (is : j ≡ k). is) (λ r. absurd (⊎_elim (λ less. apart j k e d less lt one) (λ more. apart k j d e more (rw (← six) low) (sym one)) r))
-            (cases_order j k);
-        named = λ empty. let no : is_empty id ≡ true = ap is_empty empty in absurd (true≢false (sym no ∙ is_false _ filled.0));
+            let small : j < 6 = rw (← six) low in grind (arith, apart j k e d, apart k j d e);
+        named = λ empty. absurd (both_ways _ (is_false _ filled.0) (ap is_empty empty));
         own = λ auto. elim auto [ inl h ↦ is_not _ _ flags.0 h | inr h ↦ is_not _ _ flags.1 h ];
       }
 
   least_one : (k : ℕ) (d : Arg) → k < 6 → 1 ≤ least_values (slice_index_or (args_of c) k d)
   least_one k d lt =
-      let none : not (is_some (slice_index_or (args_of c) k d).num_vals) ≡ true = each (λ r. not (is_some r.range)) refl k d lt in
-      let one : (slice_index_or (args_of c) k d).num_vals ≡ None = is_none _ none in
+      let one = is_none (slice_index_or (args_of c) k d).num_vals (each (λ r. not (is_some r.range)) refl k d lt) in
       subst (λ (range : Option ValueRange). 1 ≤ (unwrap_or_range range).start_inclusive) (sym one) (omega arith)
 
   module _ (m : ArgMatches) (p : IsParsedFrom c m) where
@@ -150,8 +124,7 @@ module _ (c : Command) (line : app_of c ≡ the_app) where
         let given = required_has_value c m p is_plain no_globals (ap (λ (a : App). a.top.subcommand_negates_reqs) line) k d (rw six lt)
         (ap (λ (r : Rule). r.required) at ∙ required)
         (ap (λ (r : Rule). r.action) at ∙ set) (plain_at k d lt).delim (least_one k d lt) name.unique name.named name.own in
-        subst (λ (id : Text). is_some (first_of id (rows_of (found_of m))) ≡ true) (ap (λ (r : Rule). r.id) at)
-        (rw (← first_value-rows (found_of m) (slice_index_or (args_of c) k d).id.now) given)
+        grind (arith, first_value-rows (found_of m) (slice_index_or (args_of c) k d).id.now)
 
     -- an argument with a default has a text that its parser takes
     has_text : (k : ℕ) (d : Arg) (q : ValueParser) → k < 6 → 0 < length (slice_index_or the_rules k (rule_of d)).defaults
@@ -168,9 +141,8 @@ module _ (c : Command) (line : app_of c ≡ the_app) where
           least = least_one k d lt;
           parser = ap (λ (r : Rule). r.parser) at ∙ parser;
         } in
-        let lengths : length (items_of a.default_vals) ≡ length (slice_index_or the_rules k (rule_of d)).defaults =
-        sym (length-map (items_of a.default_vals) (λ s. s.now)) ∙ ap (λ (r : Rule). length r.defaults) at in
-        let there = default_present c m p no_globals k d (rw six lt) ((plain_at k d lt).ifs, rw lengths some) in
+        let filled : 0 < length (items_of a.default_vals) = rw (← length-map (items_of a.default_vals) (λ s. s.now), ap (λ (r : Rule). r.defaults) at) some in
+        let there = default_present c m p no_globals k d (rw six lt) ((plain_at k d lt).ifs, filled) in
         let read = valued_reads c m p no_groups k d q valued (named k d lt) (p.from.globals ∙ no_globals) there in (
           read.0,
           subst (λ (id : Text). one_of id (rows_of (found_of m)) ≡ Some (read_as (reading_of q) read.0)) (ap (λ (r : Rule). r.id) at)

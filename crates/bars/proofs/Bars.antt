@@ -1,6 +1,6 @@
 -- The bar of sales in any order, bars by key, and that a list of sales has one table.
-use Rattle.std.proofs.Common.{◌≡◌, ℕ, ◌*◌, Bool, true, false, ◌&&◌, cond, eqb, List, [], ◌∷◌, Some, Contains, IsPermutation, Less, Equal, refl, sym, ◌∙◌, arith}
-use Rattle.std.proofs.Common.{subst, ⊎_elim}
+use Rattle.std.proofs.Common.{◌≡◌, ℕ, ◌*◌, Bool, true, false, ◌&&◌, eqb, List, [], ◌∷◌, Some, Contains, IsPermutation, Less, Equal, refl, sym, ◌∙◌, arith}
+use Rattle.std.proofs.Common.{⊎_elim}
 use Rattle.std.specs.Cmp.{IsTotalOrder}
 use Rattle.std.proofs.lemmas.Bool.{eq-eqb, and_from}
 use Rattle.std.proofs.lemmas.Bool.Decides.{nat_tests}
@@ -79,31 +79,21 @@ higher_misses a b key h t = grind (arith, nat_tests)
 
 -- ---- a list of sales has one table
 
-not_same_key : (a b : Bar) → key_cmp a b ≡ Less → has a (key_of b) ≡ false
-not_same_key a b h = grind (arith, nat_tests)
-
 -- what a table has stands under its own key
 pub found_itself : (table : List Bar) (bar : Bar) → IsByKey table → Contains table bar → found table (key_of bar) ≡ Some bar
 found_itself [] bar up c = absurd (omega (arith, c.1))
 found_itself (head ∷ table) bar up c =
-    ⊎_elim
-    (λ e. subst (λ z. found (head ∷ table) (key_of z) ≡ Some z) e (rw (has_itself head) refl))
-    (λ d. rw (not_same_key head bar (All-contains (λ z. key_cmp head z ≡ Less) table bar (All-from_recursion _ table (sorted_head key_cmp head table up)) d))
-    (found_itself table bar (sorted_tail key_cmp head table up) d))
-    (Contains_cons head bar table c)
+    let below = All-contains (λ z. key_cmp head z ≡ Less) table bar (All-from_recursion _ table (sorted_head key_cmp head table up)) in
+    let more = found_itself table bar (sorted_tail key_cmp head table up) in
+    ⊎_elim (λ e. grind (arith, has_itself head)) (λ d. let less = below d in let here = more d in grind (arith, nat_tests)) (Contains_cons head bar table c)
 
 pub found_in : (table : List Bar) (key : Key) (bar : Bar) → found table key ≡ Some bar → Contains table bar
 found_in [] key bar e = absurd (cc)
-found_in (head ∷ table) key bar e =
-    elim (has head key) as (λ t. cond t (Some head) (found table key) ≡ Some bar → Contains (head ∷ table) bar) [
-      | true ↦ λ f. (let same : head ≡ bar = cc in subst (Contains (head ∷ table)) same (Contains_head head table))
-      | false ↦ λ f. Contains_later head bar table (found_in table key bar f)
-    ] e
+found_in (head ∷ table) key bar e = grind (arith, Contains_head head table, Contains_later head bar table, found_in table key bar)
 
 pub tables_agree : (one other : List Bar) → IsByKey one → IsByKey other → ((key : Key) → found one key ≡ found other key) → one ≡ other
 tables_agree one other up vp same =
-    same_from_items key_cmp key_total one other up vp
-    (λ bar c. found_in other _ bar (sym (same _) ∙ found_itself one bar up c))
+    same_from_items key_cmp key_total one other up vp (λ bar c. found_in other _ bar (sym (same _) ∙ found_itself one bar up c))
     (λ bar c. found_in one _ bar (same _ ∙ found_itself other bar vp c))
 
 pub AreBarsOf-unique : (width : ℕ) (sales : List Sale) (one other : List Bar) → AreBarsOf width sales one → AreBarsOf width sales other → one ≡ other

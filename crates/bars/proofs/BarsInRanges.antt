@@ -1,25 +1,28 @@
 -- The bars of many tables whose locates are in a range are those of the range of their union.
-use Rattle.std.proofs.Common.{◌≡◌, eqb, ℕ, ◌+◌, ◌<◌, ◌≤◌, Bool, true, false, All, List, [], ◌∷◌, ◌++◌, map, get_or, filter, Some, None, Less, Contains, refl}
-use Rattle.std.proofs.Common.{sym, ap, ◌∙◌, subst, arith, ⊎_elim, sum_by}
+use Rattle.std.proofs.Common.{◌≡◌, ℕ, ◌+◌, ◌<◌, ◌≤◌, Bool, true, false, All, List, [], ◌∷◌, ◌++◌, map, filter, Some, None, Contains, refl}
+use Rattle.std.proofs.Common.{ap, ◌∙◌, arith, ⊎_elim, sum_by}
 use Rattle.std.specs.List.Sorted.{IsNonDecreasingBy}
-use Rattle.std.proofs.lemmas.Bool.{and_parts, and_right, both_ways, cases_Bool, cases_lt, eqb-true, false_from_ne_true, ne_eqb}
+use Rattle.std.proofs.lemmas.Bool.{and_parts, cases_lt, eqb-true}
 use Rattle.std.proofs.lemmas.Bool.Decides.{nat_tests}
+use Rattle.std.proofs.lemmas.Grind.{common_steps}
 use Rattle.std.proofs.lemmas.Map.Keys.{Less-from_sorted}
+use Rattle.std.proofs.lemmas.List.{take_all}
+use Rattle.std.proofs.lemmas.List.Folds.{flat_map-map}
 use Rattle.std.proofs.lemmas.List.Concat.{flat_map-append}
 use Rattle.std.proofs.lemmas.List.Kept.{IsStrictlySortedBy-filter}
-use Rattle.std.proofs.lemmas.List.Elements.{filter_agree, filter_passes, All-contains_itself, All-weaker}
+use Rattle.std.proofs.lemmas.List.Elements.{filter-append, filter_agree, filter_passes, All-contains_itself, All-nil, All-weaker}
 use Rattle.std.proofs.lemmas.List.Sorted.{IsNonDecreasingBy-from_all_adjacent}
 use Rattle.lists.proofs.Lists.{filter_of_filter}
 use Rattle.lists.proofs.Order.{Contains-filter}
 use Rattle.time_and_sales.specs.Parted.{is_in_first}
-use Rattle.time_and_sales.proofs.RangesJoined.{none_pass}
+use Rattle.time_and_sales.proofs.RangesJoined.{flat_map_next, in_first_alike, none_pass}
 use Rattle.row_types.specs.declared.trade.Sale.{Sale}
 use Rattle.time_and_sales.proofs.SortedByPlace.{no_sale}
 use Rattle.bars.specs.Bars.{Key, Bar, key_cmp, under, joined_all, joined_bar, IsByKey, IsUnionOf, AllSumsFit}
 use Rattle.bars.specs.Steps.{AreJoinedAlike, bar_of_one, bars_of}
 use Rattle.bars.specs.Texts.{bar_line, lines_text}
 use Rattle.bars.proofs.Bars.{has, has_itself, key_of}
-use Rattle.bars.proofs.JoinedTables.{Adds, alike_from, filter-map, of, sum_together, union_from}
+use Rattle.bars.proofs.JoinedTables.{Adds, alike_from, alike_parts, filter-map, of, sum_together, union_from}
 use Rattle.bars.proofs.BarsOfSales.{ones_alike}
 
 -- ---- by key is by locate
@@ -27,22 +30,17 @@ use Rattle.bars.proofs.BarsOfSales.{ones_alike}
 abbrev pub locate_of : Bar → ℕ
 locate_of bar = bar.locate
 
-no_lower : (a b : Bar) → key_cmp a b ≡ Less → a.locate ≤ b.locate
-no_lower a b h = grind (arith, nat_tests)
-
 pub locates_rise : (bars : List Bar) → IsByKey bars → IsNonDecreasingBy locate_of bars
 locates_rise bars up =
-    IsNonDecreasingBy-from_all_adjacent locate_of bars (λ k d h.
-    no_lower (get_or bars k d) (get_or bars (k + 1) d) (Less-from_sorted key_cmp bars k (k + 1) d up (omega arith) h))
+    IsNonDecreasingBy-from_all_adjacent locate_of bars
+    (λ k d h. let less = Less-from_sorted key_cmp bars k (k + 1) d up (omega arith) h in grind (arith, nat_tests))
 
 -- a test that tells bars of one locate the same
 abbrev pub IsOfLocates : (Bar → Bool) → Type 0
 IsOfLocates test = (a b : Bar) → a.locate ≡ b.locate → test a ≡ test b
 
 pub first_as_locate : (bounds : List ℕ) → IsOfLocates (is_in_first locate_of bounds)
-first_as_locate [] a b e = refl
-first_as_locate (low ∷ []) a b e = ap (is_in_first (λ (n : ℕ). n) (low ∷ [])) e
-first_as_locate (low ∷ high ∷ bounds) a b e = ap (is_in_first (λ (n : ℕ). n) (low ∷ high ∷ bounds)) e
+first_as_locate bounds a b = in_first_alike locate_of locate_of bounds a b
 
 -- ---- what there is under a key is in the range or it isn't
 
@@ -58,18 +56,11 @@ module _ (test : Bar → Bool) (same : IsOfLocates test) where
   under_inside key bars e = filter_of_filter (λ b. has b key) test (λ b h. as_key key b h ∙ e) bars
 
   under_outside : (key : Key) (bars : List Bar) → test (at key) ≡ false → under key (filter test bars) ≡ []
-  under_outside key bars e =
-      none_pass (λ b. has b key) (filter test bars)
-      (All-weaker (λ b. test b ≡ true) (λ b. has b key ≡ false)
-      (λ b t. false_from_ne_true (has b key) (λ h. both_ways _ (as_key key b h ∙ e) t)) (filter test bars) (filter_passes test bars))
+  under_outside key bars e = grind (arith, none_pass, All-weaker, as_key, filter_passes)
 
   -- ranges of what is joined alike are joined alike
   pub alike_within : (one other : List Bar) → AreJoinedAlike one other → AreJoinedAlike (filter test one) (filter test other)
-  alike_within one other alike key =
-      ⊎_elim
-      (λ e. rw (under_inside key one e, under_inside key other e) (alike key))
-      (λ e. rw (under_outside key one e, under_outside key other e) refl)
-      (cases_Bool (test (at key)))
+  alike_within one other alike key = grind (arith, under_inside, under_outside)
 
   -- so the union of a range is the range of the union
   pub IsUnionOf-within : (bars table : List Bar) → IsUnionOf bars table → IsUnionOf (filter test bars) (filter test table)
@@ -77,15 +68,14 @@ module _ (test : Bar → Bool) (same : IsOfLocates test) where
       union_from (filter test bars) (filter test table) (IsStrictlySortedBy-filter key_cmp test table union.rise) (alike_within table bars (alike_from union))
 
   at_most : (f : Bar → ℕ) (key : Key) (bars : List Bar) → sum_by f (under key (filter test bars)) ≤ sum_by f (under key bars)
-  at_most f key bars =
-      ⊎_elim (λ e. rw (under_inside key bars e) (omega arith)) (λ e. rw (under_outside key bars e) (omega arith)) (cases_Bool (test (at key)))
+  at_most f key bars = grind (arith, under_inside, under_outside)
 
   -- and what is joined as they are fits where all bars do
   pub sums_within : (one bars : List Bar) → AreJoinedAlike one (filter test bars) → AllSumsFit bars → AllSumsFit one
   sums_within one bars alike fit = record {
-    volume = λ key. let l = less (λ b. b.volume) (λ a b. refl) key in omega (arith, l, fit.volume key);
-    notional = λ key. let l = less (λ b. b.notional) (λ a b. refl) key in omega (arith, l, fit.notional key);
-    trades = λ key. let l = less (λ b. b.trades) (λ a b. refl) key in omega (arith, l, fit.trades key);
+    volume = λ key. omega (arith, less (λ b. b.volume) (λ a b. refl) key, fit.volume key);
+    notional = λ key. omega (arith, less (λ b. b.notional) (λ a b. refl) key, fit.notional key);
+    trades = λ key. omega (arith, less (λ b. b.trades) (λ a b. refl) key, fit.trades key);
   }
     where
       less : (f : Bar → ℕ) → Adds f → (key : Key) → sum_by f (under key one) ≤ sum_by f (under key bars)
@@ -94,7 +84,7 @@ module _ (test : Bar → Bool) (same : IsOfLocates test) where
 -- ---- what is joined alike has the same starts
 
 some_joined : (bar : Bar) (bars : List Bar) → joined_all (Some bar) bars ≡ None → ⊥
-some_joined bar [] e = absurd (cc)
+some_joined bar [] e = cc
 some_joined bar (x ∷ xs) e = some_joined (joined_bar bar x) xs e
 
 not_none : (bars : List Bar) → joined_all None bars ≡ None → bars ≡ []
@@ -106,20 +96,13 @@ starts_alike limit one other alike fits =
     All-weaker (Contains one) (λ bar. bar.start < limit) (λ bar c.
     ⊎_elim (λ low. low) (λ high.
     let key = key_of bar in
-    let other_way = λ (b : Bar) (low : b.start < limit). and_right (eqb b.locate bar.locate) _ (ne_eqb b.start bar.start (λ e. omega (arith, low, high, e))) in
-    let none = none_pass (λ b. has b key) other (All-weaker (λ b. b.start < limit) (λ b. has b key ≡ false) other_way other fits) in
+    let none = none_pass (λ b. has b key) other (All-weaker (λ b. b.start < limit) (λ b. has b key ≡ false) (λ b low. grind (arith, nat_tests)) other fits) in
     let gone = not_none (under key one) (alike key ∙ ap (joined_all None) none) in
-    absurd (omega (arith, (subst (λ l. Contains l bar) gone (Contains-filter (λ b. has b key) one bar c (has_itself bar))).1)))
+    absurd (omega (arith, (rw gone at (Contains-filter (λ b. has b key) one bar c (has_itself bar))).1)))
     (cases_lt bar.start limit))
     one (All-contains_itself one)
 
 -- ---- the loop over the tables
-
-in_first_alike : (bounds : List ℕ) (width : ℕ) (sale : Sale)
-    → is_in_first locate_of bounds (bar_of_one width sale) ≡ is_in_first (λ (s : Sale). s.locate) bounds sale
-in_first_alike [] width sale = refl
-in_first_alike (low ∷ []) width sale = refl
-in_first_alike (low ∷ high ∷ bounds) width sale = refl
 
 -- the bars of one sale each of a range are joined alike with the range of their table
 pub sales_in_range : (bounds : List ℕ) (width : ℕ) (sales : List Sale)
@@ -127,11 +110,12 @@ pub sales_in_range : (bounds : List ℕ) (width : ℕ) (sales : List Sale)
     (filter (is_in_first locate_of bounds) (bars_of width sales))
 sales_in_range bounds width sales =
     let test = is_in_first locate_of bounds in
-    rw (
-      sym (filter_agree (λ s. test (bar_of_one width s)) (is_in_first (λ (s : Sale). s.locate) bounds) (in_first_alike bounds width) sales),
-      ← filter-map (bar_of_one width) test sales,
-    )
+    let same = λ (s : Sale). in_first_alike locate_of (λ (s : Sale). s.locate) bounds (bar_of_one width s) s refl in
+    rw (← filter_agree (λ s. test (bar_of_one width s)) (is_in_first (λ (s : Sale). s.locate) bounds) same sales, ← filter-map (bar_of_one width) test sales)
     (alike_within test (first_as_locate bounds) (map (bar_of_one width) sales) (bars_of width sales) (ones_alike width sales))
+
+-- what the loop takes
+pub ruleset gathering = (common_steps, flat_map_next, filter-append, alike_parts, flat_map-map, take_all, All-nil)
 
 -- ---- the lines
 

@@ -1,8 +1,7 @@
 -- Bars of one sale each: joined, they are the bars of all the sales.
-use Rattle.std.proofs.Common.{◌≡◌, ℕ, ◌*◌, ◌+◌, ◌/◌, ◌<◌, ◌≤◌, true, false, cond, ltb, All, List, [], ◌∷◌, ◌++◌, length, map}
-use Rattle.std.proofs.Common.{filter, get_or, None, Some, IsPermutation, fold, nat_eq, Bor, nat_cmp, refl, sym, ap, ◌∙◌, arith}
+use Rattle.std.proofs.Common.{◌≡◌, ℕ, ◌*◌, ◌+◌, ◌<◌, ◌≤◌, true, cond, ltb, All, List, [], ◌∷◌, ◌++◌, length, map}
+use Rattle.std.proofs.Common.{filter, get_or, None, Some, IsPermutation, fold, nat_eq, Bor, refl, sym, ap, ◌∙◌, arith}
 use Rattle.std.specs.Fn.{Mut, Called, ComputesKey}
-use Rattle.std.specs.Ordering.{is_lt, ordering_then}
 use Rattle.std.specs.List.{IsDistinct}
 use Rattle.std.specs.List.Sorted.{IsNonDecreasingBy, IsSorted, IsSortedByKey, IsStrictlySortedBy}
 use Rattle.std.proofs.lemmas.Bool.Decides.{nat_tests}
@@ -22,8 +21,7 @@ use Rattle.bars.specs.declared.form.Form.{Form}
 use Rattle.bars.specs.declared.form.Form.TheVariants.{Sales, Bars}
 use Rattle.bars.specs.Steps.{AreJoinedAlike, AreOfForm, bars_of_form, bar_of_one, bars_of}
 use Rattle.bars.proofs.Bars.{AreBarsOf-permutation, AreBarsOf-unique, has, made}
-use Rattle.bars.proofs.JoinedTables.{alike_from, alike_parts, by_parts, filter-map, joined_traded, table_has, together, union_alike, union_itself}
-use Rattle.bars.proofs.MergedTables.{put_union}
+use Rattle.bars.proofs.JoinedTables.{alike_from, alike_parts, by_parts, filter-map, joined_traded, put_union, table_has, together, union_alike, union_of_one}
 
 -- ---- bars of one sale each
 
@@ -49,14 +47,11 @@ module _ (width : ℕ) (key : Key) where
   ones_joined [] has = refl
   ones_joined (x ∷ xs) has =
       let passes = All-head (λ s. has_key width key s ≡ true) x xs has in
-      let one : bar_of_one width x ≡ made key x x x.price x.price (0 + x.shares) (0 + x.shares * x.price) 1 = grind (arith, nat_tests, passes) in
-      ap (λ b. joined_all (Some b) (map (bar_of_one width) xs)) one
-      ∙ all_joined xs x x x x (0 + x.shares) (0 + x.shares * x.price) 1 (length (x ∷ xs)) (omega arith)
+      let all = all_joined xs x x x x (0 + x.shares) (0 + x.shares * x.price) 1 (length (x ∷ xs)) (omega arith) in
+      grind (arith, nat_tests)
 
   pub together_ones : (sales : List Sale) → together key (map (bar_of_one width) sales) ≡ bar_of key (filter (has_key width key) sales)
-  together_ones sales =
-      ap (joined_all None) (filter-map (bar_of_one width) (λ b. has b key) sales)
-      ∙ ones_joined (filter (has_key width key) sales) (filter_passes (has_key width key) sales)
+  together_ones sales = grind (arith, filter-map, ones_joined, filter_passes)
 
 -- so a table is that of the sales if their bars are joined to it
 pub ones_union : (width : ℕ) (sales : List Sale) (table : List Bar) → AreBarsOf width sales table → IsUnionOf (map (bar_of_one width) sales) table
@@ -82,7 +77,7 @@ bars_of_are width [] = record { rise = tt; each = λ key. refl }
 bars_of_are width (x ∷ xs) =
     let one = bar_of_one width x ∷ [] in
     let others = bars_of_are width xs in
-    AreBarsOf-both width (x ∷ []) xs one (bars_of width xs) _ (bars_from_ones width (x ∷ []) one (union_itself one (tt, tt))) others
+    AreBarsOf-both width (x ∷ []) xs one (bars_of width xs) _ (bars_from_ones width (x ∷ []) one (union_of_one (bar_of_one width x))) others
     (put_union (bar_of_one width x) (bars_of width xs) others.rise)
 
 -- so a table of the sales is that one
@@ -133,14 +128,7 @@ form_traded (Bars table) of = of.1
 -- ---- sales by locate and time
 
 start_rises : (width a b : ℕ) → 0 < width → a ≤ b → start_of width a ≤ start_of width b
-start_rises width a b some h =
-    let k = width * 1000000000 in
-    let below = div-mul-le_self a k in
-    mul-le-mul_right k (le-div (a / k) b k (omega arith) (omega arith))
-
--- the bars of two sales in order of time stand in order too
-in_order : (l t m u s v : ℕ) → is_lt (by_parts (m, u) (l, t)) ≡ false → (t ≤ u → s ≤ v) → is_lt (ordering_then (nat_cmp m l) (nat_cmp v s)) ≡ false
-in_order l t m u s v h up = grind (arith, nat_tests)
+start_rises width a b some h = grind (arith, div-mul-le_self, mul-le-mul_right, le-div)
 
 pub ones_rise : {F : Type 0} {g : Mut F (Bor Sale × Unit {0}) (ℕ × ℕ)} {f : F} (width : ℕ) (sales : List Sale) → 0 < width
     → ((key : Sale → ℕ × ℕ) → ComputesKey g key f → IsSortedByKey key by_parts sales)
@@ -148,25 +136,18 @@ pub ones_rise : {F : Type 0} {g : Mut F (Bor Sale × Unit {0}) (ℕ × ℕ)} {f 
     → IsSorted key_cmp (map (bar_of_one width) sales)
 ones_rise {g = g} {f = f} width sales some up h k d low within =
     let n = length-map sales (bar_of_one width) in
-    let one = get_or sales k no_sale in
-    let next = get_or sales (k + 1) no_sale in
+    let turn = up (λ s. (s.locate, s.time)) (answers_always g (λ a r. r ≡ (a.0.now.locate, a.0.now.time)) f h) k no_sale low (omega (arith, n)) in
+    let times = start_rises width (get_or sales k no_sale).time (get_or sales (k + 1) no_sale).time some in
     rw (get_or-map (bar_of_one width) sales k no_sale d (omega (arith, n)), get_or-map (bar_of_one width) sales (k + 1) no_sale d (omega (arith, n)))
-    (in_order one.locate one.time next.locate next.time (start_of width one.time) (start_of width next.time)
-    (up (λ s. (s.locate, s.time)) (answers_always g (λ a r. r ≡ (a.0.now.locate, a.0.now.time)) f h) k no_sale low (omega (arith, n)))
-    (start_rises width one.time next.time some))
-
-not_lower : (a b : Bar) → is_lt (key_cmp b a) ≡ false → a.locate ≤ b.locate
-not_lower a b h = grind (arith, nat_tests)
+    (grind (arith, nat_tests))
 
 pub locates_rise : (width : ℕ) (sales : List Sale) → IsSorted key_cmp (map (bar_of_one width) sales) → IsNonDecreasingBy (λ (s : Sale). s.locate) sales
-locates_rise width sales up = IsNonDecreasingBy-from_all_adjacent (λ (s : Sale). s.locate) sales (λ k d h. next k d (bar_of_one width d) h)
-  where
-    next : (k : ℕ) (d : Sale) (e : Bar) → k + 1 < length sales → (get_or sales k d).locate ≤ (get_or sales (k + 1) d).locate
-    next k d e h =
-        let one = bar_of_one width in
-        not_lower (one (get_or sales k d)) (one (get_or sales (k + 1) d))
-        (rw (get_or-map one sales k d e (omega (arith, h)), get_or-map one sales (k + 1) d e h) at
-        (up k e (omega arith) (omega (arith, h, length-map sales one))))
+locates_rise width sales up =
+    let one = bar_of_one width in
+    let e = one no_sale in
+    IsNonDecreasingBy-from_all_adjacent (λ (s : Sale). s.locate) sales (λ k d h.
+    let low = up k e (omega arith) (omega (arith, h, length-map sales one)) in
+    grind (arith, nat_tests, get_or-map one sales k d e, get_or-map one sales (k + 1) d e))
 
 -- the table of sales in another order is theirs
 pub AreBarsOf-sorted : (width : ℕ) (sales sorted : List Sale) (table : List Bar) → IsPermutation sales sorted → IsDistinct nat_eq (map place_of sales)

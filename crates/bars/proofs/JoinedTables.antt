@@ -1,9 +1,10 @@
 -- Bars joined under each key: of lists one after another, and of tables, which are what lists are joined to.
-use Rattle.std.proofs.Common.{◌≡◌, ℕ, ◌+◌, ◌<◌, Bool, true, false, ◌&&◌, cond, not, All, List, [], ◌∷◌, ◌++◌, length, map, filter, take, eqb, get_or, Option}
-use Rattle.std.proofs.Common.{Some, None, option_to_list, Contains, IsPermutation, Ordering, Less, Equal, Bor, refl, sym, ap, ap₂, ◌∙◌, subst, arith, IfSome}
+use Rattle.std.proofs.Common.{◌≡◌, ℕ, ◌+◌, ◌<◌, Bool, true, ◌&&◌, cond, not, All, List, [], ◌∷◌, ◌++◌, length, map, filter, take, eqb, get_or, Option}
+use Rattle.std.proofs.Common.{Some, None, option_to_list, Contains, IsPermutation, Ordering, Less, Equal, Greater, Bor, refl, sym, ap, ap₂, ◌∙◌, subst, arith}
+use Rattle.std.proofs.Common.{IfSome}
 use Rattle.std.specs.List.{AllByRecursion, sum_by}
 use Rattle.std.specs.List.Sorted.{IsStrictlySortedBy, IsStableByKey, IsSortedByKey}
-use Rattle.std.specs.Ordering.{is_lt, nat_cmp, ordering_then}
+use Rattle.std.specs.Ordering.{is_lt, nat_cmp, ordering_reverse, ordering_then}
 use Rattle.std.specs.Fn.{Mut, Called, ComputesKey}
 use Rattle.std.proofs.lemmas.Bool.Decides.{nat_tests}
 use Rattle.std.proofs.lemmas.List.{get_or-map, length-map, map_push, take_more}
@@ -12,9 +13,9 @@ use Rattle.std.proofs.lemmas.List.Elements.{All-append, All-contains_itself, All
 use Rattle.std.proofs.lemmas.List.Sorted.{answers_always, IsPermutation-map}
 use Rattle.std.proofs.lemmas.Map.Keys.{sorted_head, sorted_tail}
 use Rattle.time_and_sales.proofs.RangesJoined.{flat_map_push}
-use Rattle.bars.specs.Bars.{Key, Bar, key_cmp, found, joined_bar, joined, joined_all, under, all_bars, IsByKey, IsUnionOf, IsTraded}
-use Rattle.bars.specs.Steps.{AreJoinedAlike, IsOrderOf}
-use Rattle.bars.proofs.Bars.{found_itself, has, higher_misses, key_of, same_has, tables_agree}
+use Rattle.bars.specs.Bars.{Key, Bar, key_cmp, found, joined_bar, joined, joined_all, under, all_bars, IsByKey, IsMergeOf, IsUnionOf, IsTraded}
+use Rattle.bars.specs.Steps.{AreJoinedAlike, IsOrderOf, by_order, put}
+use Rattle.bars.proofs.Bars.{found_itself, has, higher_misses, key_of, key_total, same_has, tables_agree}
 
 -- ---- bars joined, one after another
 
@@ -22,21 +23,15 @@ joined_bars : (a b c : Bar) → joined_bar (joined_bar a b) c ≡ joined_bar a (
 joined_bars a b c = grind (arith, nat_tests)
 
 pub joined_none : (before : Option Bar) → joined before None ≡ before
-joined_none None = refl
-joined_none (Some a) = refl
+joined_none before = grind arith
 
 pub joined_three : (a b c : Option Bar) → joined (joined a b) c ≡ joined a (joined b c)
-joined_three None b c = refl
-joined_three (Some a) None c = refl
-joined_three (Some a) (Some b) None = refl
-joined_three (Some a) (Some b) (Some c) = ap Some (joined_bars a b c)
+joined_three a b c = grind (arith, joined_bars)
 
 -- what there was before is joined to all the others
 joined_before : (before : Option Bar) (bars : List Bar) → joined_all before bars ≡ joined before (joined_all None bars)
 joined_before before [] = sym (joined_none before)
-joined_before before (bar ∷ bars) =
-    joined_before (joined before (Some bar)) bars ∙ joined_three before (Some bar) (joined_all None bars)
-    ∙ ap (joined before) (sym (joined_before (Some bar) bars))
+joined_before before (bar ∷ bars) = grind (arith, joined_before (joined before (Some bar)) bars, joined_before (Some bar) bars, joined_three)
 
 -- ---- bars joined under a key
 
@@ -48,25 +43,18 @@ abbrev pub alone : Key → Bar → Option Bar
 alone key bar = cond (has bar key) (Some bar) None
 
 pub together_cons : (key : Key) (bar : Bar) (bars : List Bar) → together key (bar ∷ bars) ≡ joined (alone key bar) (together key bars)
-together_cons key bar bars =
-    elim (has bar key) as (λ t. joined_all None (cond t (bar ∷ under key bars) (under key bars)) ≡ joined (cond t (Some bar) None) (together key bars))
-    [ true ↦ joined_before (Some bar) (under key bars) | false ↦ refl ]
+together_cons key bar bars = grind (arith, joined_before)
 
 pub together-append : (key : Key) (xs ys : List Bar) → together key (xs ++ ys) ≡ joined (together key xs) (together key ys)
 together-append key [] ys = refl
-together-append key (x ∷ xs) ys =
-    together_cons key x (xs ++ ys) ∙ ap (joined (alone key x)) (together-append key xs ys)
-    ∙ sym (joined_three (alone key x) (together key xs) (together key ys)) ∙ ap (λ o. joined o (together key ys)) (sym (together_cons key x xs))
+together-append key (x ∷ xs) ys = grind (arith, together_cons, joined_three, together-append key xs ys)
 
 pub alike_parts : (one other more others : List Bar) → AreJoinedAlike one other → AreJoinedAlike more others → AreJoinedAlike (one ++ more) (other ++ others)
 alike_parts one other more others h g key = together-append key one more ∙ ap₂ joined (h key) (g key) ∙ sym (together-append key other others)
 
 -- two bars of one key, and the bar of both
 pub pair_alike : (a b : Bar) → key_cmp a b ≡ Equal → AreJoinedAlike (joined_bar a b ∷ []) (a ∷ b ∷ [])
-pair_alike a b e key =
-    rw (← same_has a b key e)
-    (elim (has a key) as (λ t. joined_all None (cond t (joined_bar a b ∷ []) []) ≡ joined_all None (cond t (a ∷ cond t (b ∷ []) []) (cond t (b ∷ []) [])))
-    [ true ↦ refl | false ↦ refl ])
+pair_alike a b e key = grind (arith, same_has)
 
 -- above a bar there is none of its key
 none_above : (bar : Bar) (bars : List Bar) (key : Key) → AllByRecursion (λ z. key_cmp bar z ≡ Less) bars → has bar key ≡ true → under key bars ≡ []
@@ -77,14 +65,12 @@ none_above bar (z ∷ bars) key above t = rw (higher_misses bar z key above.0 t)
 pub under_found : (key : Key) (table : List Bar) → IsByKey table → under key table ≡ option_to_list (found table key)
 under_found key [] up = refl
 under_found key (bar ∷ table) up =
-    elim (has bar key) as (λ t. has bar key ≡ t → cond t (bar ∷ under key table) (under key table) ≡ option_to_list (cond t (Some bar) (found table key))) [
-      | true ↦ λ e. ap (λ l. bar ∷ l) (none_above bar table key (sorted_head key_cmp bar table up) e)
-      | false ↦ λ e. under_found key table (sorted_tail key_cmp bar table up)
-    ] refl
+    let more = under_found key table (sorted_tail key_cmp bar table up) in
+    let none = none_above bar table key (sorted_head key_cmp bar table up) in
+    grind arith
 
 joined_alone : (o : Option Bar) → joined_all None (option_to_list o) ≡ o
-joined_alone None = refl
-joined_alone (Some bar) = refl
+joined_alone o = grind arith
 
 pub together_found : (key : Key) (table : List Bar) → IsByKey table → together key table ≡ found table key
 together_found key table up = ap (joined_all None) (under_found key table up) ∙ joined_alone (found table key)
@@ -104,9 +90,13 @@ union_alike one other table alike union = record { rise = union.rise; each = λ 
 pub union_itself : (table : List Bar) → IsByKey table → IsUnionOf table table
 union_itself table up = union_from table table up (λ key. refl)
 
-pub IsUnionOf-none : IsUnionOf [] []
+pub union_of_none : IsUnionOf [] []
 unfolding IsStrictlySortedBy
-IsUnionOf-none = union_itself [] tt
+union_of_none = union_itself [] tt
+
+pub union_of_one : (bar : Bar) → IsUnionOf (bar ∷ []) (bar ∷ [])
+unfolding IsStrictlySortedBy
+union_of_one bar = union_itself (bar ∷ []) (tt, tt)
 
 -- bars have one union
 pub one_union : (bars one other : List Bar) → IsUnionOf bars one → IsUnionOf bars other → one ≡ other
@@ -116,16 +106,16 @@ one_union bars one other here there = tables_agree one other here.rise there.ris
 pub union_more : (bars : List Bar) (i : ℕ) (d : Bar) (table new : List Bar) → i < length bars → IsUnionOf (take i bars) table
     → IsUnionOf (table ++ get_or bars i d ∷ []) new → IsUnionOf (take (i + 1) bars) new
 union_more bars i d table new within union made =
+    let one = get_or bars i d ∷ [] in
     rw (take_more bars i d within)
-    (union_alike (take i bars ++ get_or bars i d ∷ []) (table ++ get_or bars i d ∷ []) new
-    (alike_parts (take i bars) table (get_or bars i d ∷ []) (get_or bars i d ∷ []) (λ key. sym (alike_from union key)) (λ key. refl)) made)
+    (union_alike _ (table ++ one) new (alike_parts (take i bars) table one one (λ key. sym (alike_from union key)) (λ key. refl)) made)
 
 -- what holds of bars, and of two joined where it holds of both, holds of the table that they are joined to
 module _ (P : Bar → Type 0) (closed : (a b : Bar) → P a → P b → P (joined_bar a b)) where
   pub joined_has : (before : Option Bar) (bars : List Bar) → IfSome before P → All P bars → IfSome (joined_all before bars) P
   joined_has before [] one all = one
-  joined_has None (x ∷ xs) one all = joined_has (Some x) xs (All-head P x xs all) (All-tail P x xs all)
-  joined_has (Some a) (x ∷ xs) one all = joined_has (Some (joined_bar a x)) xs (closed a x one (All-head P x xs all)) (All-tail P x xs all)
+  joined_has before (x ∷ xs) one all =
+      joined_has (joined before (Some x)) xs (let here = All-head P x xs all in grind (arith, closed)) (All-tail P x xs all)
 
   pub table_has : (bars table : List Bar) → IsUnionOf bars table → All P bars → All P table
   table_has bars table union all =
@@ -150,8 +140,7 @@ of f (Some bar) = f bar
 sum_joined : (f : Bar → ℕ) → Adds f → (before : Option Bar) (xs : List Bar) → of f (joined_all before xs) ≡ of f before + sum_by f xs
 unfolding of
 sum_joined f h before [] = omega arith
-sum_joined f h None (x ∷ xs) = omega (arith, sum_joined f h (Some x) xs, sum_by-cons f x xs)
-sum_joined f h (Some a) (x ∷ xs) = omega (arith, sum_joined f h (Some (joined_bar a x)) xs, sum_by-cons f x xs, h a x)
+sum_joined f h before (x ∷ xs) = grind (arith, sum_joined f h (joined before (Some x)) xs, sum_by-cons f x xs, h)
 
 pub sum_of_joined : (f : Bar → ℕ) → Adds f → (bars : List Bar) (kept : Bar) → joined_all None bars ≡ Some kept → f kept ≡ sum_by f bars
 unfolding of
@@ -165,9 +154,7 @@ sum_together f h key bars = omega (arith, sum_joined f h None (under key bars))
 
 pub filter-map : {X Y : Type 0} (f : X → Y) (p : Y → Bool) (xs : List X) → filter p (map f xs) ≡ map f (filter (λ x. p (f x)) xs)
 filter-map f p [] = refl
-filter-map f p (x ∷ xs) =
-    elim (p (f x)) as (λ t. cond t (f x ∷ filter p (map f xs)) (filter p (map f xs)) ≡ map f (cond t (x ∷ filter (λ z. p (f z)) xs) (filter (λ z. p (f z)) xs)))
-    [ true ↦ ap (λ l. f x ∷ l) (filter-map f p xs) | false ↦ filter-map f p xs ]
+filter-map f p (x ∷ xs) = let more = filter-map f p xs in grind (arith, nat_tests)
 
 abbrev pub by_parts : ℕ × ℕ → ℕ × ℕ → Ordering
 by_parts a b = ordering_then (nat_cmp a.0 b.0) (nat_cmp a.1 b.1)
@@ -216,3 +203,54 @@ pub traded_more : (parts new : List (Bor (List Bar))) (part : Bor (List Bar)) �
     → All IsTraded (all_bars (map (λ (p : Bor (List Bar)). p.now) new))
 traded_more parts new part so_far one made =
     rw (made, map_push, flat_map_push) (All-append IsTraded _ part.now so_far one)
+
+-- ---- a bar put into a table, and two tables made one
+
+abbrev Below : Bar → List Bar → Type 0
+Below bar table = AllByRecursion (λ z. key_cmp bar z ≡ Less) table
+
+below_all : (x y : Bar) → ((z : Bar) → key_cmp y z ≡ Less → key_cmp x z ≡ Less) → (t : List Bar) → Below y t → Below x t
+below_all x y f [] p = tt
+below_all x y f (z ∷ t) p = (f z p.0, below_all x y f t p.1)
+
+-- two bars of different keys may come in either order
+turned_alike : (a b : Bar) → key_cmp b a ≡ Less → AreJoinedAlike (b ∷ a ∷ []) (a ∷ b ∷ [])
+turned_alike a b less key =
+    let none = higher_misses b a key less in grind arith
+
+record Puts (bar : Bar) (table made : List Bar) : Type 0 where
+  rise : IsByKey made
+  above : (x : Bar) → key_cmp x bar ≡ Less → Below x table → Below x made
+  alike : AreJoinedAlike made (bar ∷ table)
+
+puts : (a : Bar) (table : List Bar) → IsByKey table → Puts a table (put a table)
+unfolding IsStrictlySortedBy
+puts a [] up = record { rise = (tt, tt); above = λ x p q. (p, tt); alike = λ key. refl }
+puts a (b ∷ table) up =
+    elim (key_cmp a b) as (λ o. key_cmp a b ≡ o → Puts a (b ∷ table) (by_order o (a ∷ b ∷ table) (joined_bar a b ∷ table) (b ∷ put a table))) [
+      | Less ↦ λ e. record {
+        rise = ((e, below_all a b (λ z h. key_total.trans a b z e h) table up.0), up);
+        above = λ x p q. (p, q);
+        alike = λ key. refl;
+      }
+      | Equal ↦ λ e. record {
+        rise = (below_all a b (λ z h. key_total.congr a b z e ∙ h) table up.0, up.1);
+        above = λ x p q. (p, q.1);
+        alike = alike_parts (joined_bar a b ∷ []) (a ∷ b ∷ []) table table (pair_alike a b e) (λ key. refl);
+      }
+      | Greater ↦ λ e.
+          let m = puts a table up.1 in
+          let turned : key_cmp b a ≡ Less = key_total.antisymm b a ∙ ap ordering_reverse e in
+          record {
+            rise = (m.above b turned up.0, m.rise);
+            above = λ x p q. (q.0, m.above x p q.1);
+            alike = λ key. alike_parts (b ∷ []) (b ∷ []) (put a table) (a ∷ table) (λ key. refl) m.alike key
+                ∙ alike_parts (b ∷ a ∷ []) (a ∷ b ∷ []) table table (turned_alike a b turned) (λ key. refl) key;
+          }
+    ] refl
+
+pub put_union : (bar : Bar) (table : List Bar) → IsByKey table → IsUnionOf (bar ∷ table) (put bar table)
+put_union bar table up = let m = puts bar table up in union_from (bar ∷ table) (put bar table) m.rise m.alike
+
+pub merge_from : (one other table : List Bar) → IsByKey one → IsByKey other → IsUnionOf (one ++ other) table → IsMergeOf one other table
+merge_from one other table up vp union = record { rise = union.rise; each = λ key. grind (arith, union.each key, together-append, together_found) }

@@ -1,6 +1,5 @@
 pub mod Bars
 pub mod BarsInRanges
-pub mod MergedTables
 pub mod JoinedTables
 pub mod LastBar
 pub mod SumsAreBounded

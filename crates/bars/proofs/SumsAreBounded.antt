@@ -1,7 +1,7 @@
 -- The sums of a bar: how large they can be, and what they mean for the text of a bar.
-use Rattle.std.proofs.Common.{◌≡◌, ℕ, ◌+◌, ◌*◌, ◌/◌, ◌^◌, ◌<◌, ◌≤◌, cond, true, All, List, [], ◌∷◌, ◌++◌, length, filter, map, take, drop, get_or, Some}
+use Rattle.std.proofs.Common.{◌≡◌, ℕ, ◌+◌, ◌*◌, ◌/◌, ◌^◌, ◌<◌, ◌≤◌, true, All, List, [], ◌∷◌, ◌++◌, length, map, take, drop, get_or, Some}
 use Rattle.std.proofs.Common.{Contains, Equal, Option, None, option_to_list, append_assoc, refl, sym, ap, ap₂, ◌∙◌, arith, sum_by}
-use Rattle.std.proofs.lemmas.List.{length-append, map-append, take-append-drop}
+use Rattle.std.proofs.lemmas.List.{append-nil, length-append, map-append, take-append-drop}
 use Rattle.std.proofs.lemmas.List.Sums.{count_by-le-length, length-filter, sum_by-append, sum_by-cons}
 use Rattle.std.proofs.lemmas.List.Elements.{All-append, All-filter, All-head, All-map, All-tail, All-weaker, filter-append, filter_more}
 use Rattle.std.proofs.Math.Nat.{div-mul-le_self, div-le_of_le-mul}
@@ -11,28 +11,22 @@ use Rattle.bars.specs.Bars.{IsTraded, joined_all, under, all_bars, all_sales}
 use Rattle.bars.specs.Steps.{AreJoinedAlike, EachJoins, bar_of_one}
 use Rattle.bars.specs.Texts.{IsWritable}
 use Rattle.bars.proofs.Bars.{found_itself, has, has_itself, key_of, same_has}
-use Rattle.bars.proofs.JoinedTables.{Adds, alike_from, alike_parts, of, sum_of_joined, sum_together, table_has, under_found}
+use Rattle.bars.proofs.JoinedTables.{Adds, alike_from, alike_parts, of, sum_of_joined, sum_together, under_found}
+use Rattle.bars.proofs.BarsInRanges.{starts_alike}
 use Rattle.bars.proofs.BarsOfSales.{each_alike, ones_union, together_ones}
 
 -- ---- the sums of few sales fit
 
 trades_of : (key : Key) (sales : List Sale) → of (λ b. b.trades) (bar_of key sales) ≡ length sales
 unfolding of
-trades_of key [] = refl
-trades_of key (x ∷ xs) = refl
+trades_of key sales = grind arith
 
 few_trades : (width : ℕ) (sales : List Sale) (bars : List Bar) → AreJoinedAlike bars (map (bar_of_one width) sales) → (key : Key)
     → sum_by (λ (b : Bar). b.trades) (under key bars) ≤ length sales
 few_trades width sales bars alike key =
-    let some = filter (has_key width key) sales in
-    omega (
-      arith,
-      sum_together (λ b. b.trades) (λ a b. refl) key bars,
-      ap (of (λ b. b.trades)) (alike key ∙ together_ones width key sales),
-      trades_of key some,
-      length-filter (has_key width key) sales,
-      count_by-le-length (has_key width key) sales,
-    )
+    let same = alike key ∙ together_ones width key sales in
+    let short = count_by-le-length (has_key width key) sales in
+    grind (arith, sum_together (λ b. b.trades) (λ a b. refl) key bars, trades_of, length-filter)
 
 sums_of_traded : (bars : List Bar) → All IsTraded bars
     → (sum_by (λ (b : Bar). b.volume) bars ≤ sum_by (λ (b : Bar). b.trades) bars * 2 ^ 64) ×
@@ -41,10 +35,7 @@ sums_of_traded [] h = (omega arith, omega arith)
 sums_of_traded (x ∷ xs) h =
     let one = All-head IsTraded x xs h in
     let more = sums_of_traded xs (All-tail IsTraded x xs h) in
-    let v = sum_by-cons (λ (b : Bar). b.volume) x xs in
-    let n = sum_by-cons (λ (b : Bar). b.notional) x xs in
-    let t = sum_by-cons (λ (b : Bar). b.trades) x xs in
-    (omega (arith, one.2, more.0, v, t), omega (arith, one.1, more.1, v, n))
+    (omega (arith, one.2, more.0, sum_by-cons {X = Bar}), omega (arith, one.1, more.1, sum_by-cons {X = Bar}))
 
 -- the sums of the bars of fewer than 2,147,483,648 sales fit, in whatever bars the sales are
 pub sums_of_few : (width : ℕ) (sales : List Sale) (bars : List Bar) → AreJoinedAlike bars (map (bar_of_one width) sales) → All IsTraded bars
@@ -52,11 +43,7 @@ pub sums_of_few : (width : ℕ) (sales : List Sale) (bars : List Bar) → AreJoi
 sums_of_few width sales bars alike traded few =
     let at = λ (key : Key). sums_of_traded (under key bars) (All-filter (λ b. has b key) IsTraded bars traded) in
     let trades = few_trades width sales bars alike in
-    record {
-      volume = λ key. let t = trades key in let s = at key in omega (arith, t, s.0);
-      notional = λ key. let t = trades key in let s = at key in omega (arith, t, s.0, s.1);
-      trades = λ key. let t = trades key in omega (arith, t);
-    }
+    record { volume = λ key. omega (arith, trades key, at key); notional = λ key. omega (arith, trades key, at key); trades = λ key. omega (arith, trades key) }
 
 pub all_sums_fit : (width : ℕ) (lists : List (List Sale)) (tables : List (List Bar)) → AreBarsOfEach width lists tables → All IsTraded (all_bars tables)
     → length (all_sales lists) < 2 ^ 31 → AllSumsFit (all_bars tables)
@@ -67,10 +54,9 @@ all_sums_fit width lists tables are = sums_of_few width (all_sales lists) (all_b
 -- where all sums fit, each next bar can be joined
 pub each_joins : (bars : List Bar) → AllSumsFit bars → EachJoins bars
 each_joins bars fit key front rest bar kept split before =
-    let v = within (λ z. z.volume) (λ a b. refl) in
-    let n = within (λ z. z.notional) (λ a b. refl) in
-    let t = within (λ z. z.trades) (λ a b. refl) in
-    (omega (arith, v, fit.volume key), omega (arith, n, fit.notional key), omega (arith, t, fit.trades key))
+    let volume = within (λ z. z.volume) (λ a b. refl) in
+    let notional = within (λ z. z.notional) (λ a b. refl) in
+    let trades = within (λ z. z.trades) (λ a b. refl) in grind (arith, fit.volume key, fit.notional key, fit.trades key)
   where
     within : (f : Bar → ℕ) → Adds f → f kept + f bar ≤ sum_by f (under key bars)
     within f h = omega (arith, ap (sum_by f) split, sum_by-append f front (bar ∷ rest), sum_by-cons f bar rest, sum_of_joined f h front kept before)
@@ -84,9 +70,9 @@ next_fits bars table i d kept within union fit there same =
     let here : has bar key ≡ true = sym (same_has kept bar key same) ∙ has_itself kept in
     let before = under key (take i bars) in
     let after = under key (drop (i + 1) bars) in
+    let whole = filter-append (λ b. has b key) (take (i + 1) bars) (drop (i + 1) bars) in
     let split : under key bars ≡ before ++ bar ∷ after =
-    ap (under key) (sym (take-append-drop (i + 1) bars)) ∙ filter-append (λ b. has b key) (take (i + 1) bars) (drop (i + 1) bars)
-    ∙ ap (λ l. l ++ after) (filter_more (λ b. has b key) bars i d within ∙ ap (λ t. before ++ cond t (bar ∷ []) []) here) ∙ append_assoc before _ after in
+    grind (arith, take-append-drop (i + 1) bars, filter_more (λ b. has b key) bars i d within, append_assoc before (bar ∷ []) after) in
     fit key before after bar kept split (sym (union.each key) ∙ found_itself table kept union.rise there)
 
 -- the bars of one key of two tables
@@ -100,10 +86,9 @@ pub sums_fit : (width : ℕ) (xs ys : List Sale) (one other : List Bar) → AreB
 sums_fit width xs ys one other p q traded also few key a b e f =
     let alike = alike_parts one (map (bar_of_one width) xs) other (map (bar_of_one width) ys) (alike_from (ones_union width xs one p))
     (alike_from (ones_union width ys other q)) in
-    let fit = sums_of_few width (xs ++ ys) (one ++ other) (rw (map-append (bar_of_one width) xs ys) alike) (All-append IsTraded one other traded also)
-    (rw length-append few) in
-    each_joins (one ++ other) fit key (a ∷ []) [] b a
-    (under_both key one other p.rise q.rise ∙ ap₂ (λ x y. option_to_list x ++ option_to_list y) e f) refl
+    let all = All-append IsTraded one other traded also in
+    let fit = sums_of_few width (xs ++ ys) (one ++ other) (rw (map-append (bar_of_one width) xs ys) alike) all (rw length-append few) in
+    each_joins (one ++ other) fit key (a ∷ []) [] b a (grind (arith, under_both key one other p.rise q.rise)) refl
 
 -- where the sums of two tables fit, each next of their bars can be joined
 pub tables_join : (one other : List Bar) → IsByKey one → IsByKey other → SumsFit one other → EachJoins (one ++ other)
@@ -119,17 +104,24 @@ tables_join one other up vp fit key front rest bar kept split before =
     go (Some a) (Some b) h (z ∷ []) e f = h kept bar (cc) (cc)
     go (Some a) (Some b) h (z ∷ w ∷ front) e f = absurd (omega (arith, ap length e, length-append front (bar ∷ rest)))
 
+pub ruleset merging = (append-nil, tables_join)
+
 -- ---- what the text of a bar asks
 
 pub average_fits : (bar : Bar) → IsTraded bar → bar.notional / bar.volume < 2 ^ 32
 average_fits bar has = let quotient : bar.notional / bar.volume ≤ 4294967295 = div-le_of_le-mul bar.volume has.1 in omega (arith, quotient)
 
--- each bar of a table whose sales' times are of 48 bits can be written
+-- bars that are joined as those of sales whose times are of 48 bits start at such times
+pub starts_of_sales : (width : ℕ) (sales : List Sale) (bars : List Bar) → AreJoinedAlike bars (map (bar_of_one width) sales)
+    → All (λ (s : Sale). s.time < 2 ^ 48) sales → All (λ (b : Bar). b.start < 2 ^ 48) bars
+starts_of_sales width sales bars alike times =
+    starts_alike (2 ^ 48) bars _ alike (All-map (λ (b : Bar). b.start < 2 ^ 48) (bar_of_one width) sales
+    (All-weaker (λ (s : Sale). s.time < 2 ^ 48) (λ s. start_of width s.time < 2 ^ 48)
+    (λ s h. omega (arith, h, div-mul-le_self s.time (width * 1000000000))) sales times))
+
+-- so each bar of a table of theirs can be written
 pub table_is_writable : (width : ℕ) (sales : List Sale) (table : List Bar) → AreBarsOf width sales table → All IsTraded table
     → All (λ (s : Sale). s.time < 2 ^ 48) sales → All IsWritable table
 table_is_writable width sales table are traded times =
-    let small = λ (b : Bar). b.start < 2 ^ 48 in
-    let starts = table_has small (λ a b p q. p) (map (bar_of_one width) sales) table (ones_union width sales table are)
-    (All-map small (bar_of_one width) sales (All-weaker (λ (s : Sale). s.time < 2 ^ 48) (λ s. start_of width s.time < 2 ^ 48)
-    (λ s h. omega (arith, h, div-mul-le_self s.time (width * 1000000000))) sales times)) in
+    let starts = starts_of_sales width sales table (alike_from (ones_union width sales table are)) times in
     λ k d h. (starts k d h, (traded k d h).0, average_fits (get_or table k d) (traded k d h))

@@ -140,6 +140,7 @@ fn range_of<'a>(
 }
 
 /// What is kept of all tables of locates in the first range, each sale or bar beside its key.
+#[tactic(auto, using(crate::proofs::BarsInRanges::gathering))]
 fn gathered<'a>(
     alloc: Global,
     tables: &[&'a BucketBars],
@@ -157,6 +158,7 @@ fn gathered<'a>(
 }
 
 /// Appends what is kept of a table of locates in the first range.
+#[tactic(auto, using(crate::proofs::BarsInRanges::locates_rise))]
 fn append_within<'a>(
     keyed: &mut Vec<Keyed<'a>>,
     table: &'a BucketBars,

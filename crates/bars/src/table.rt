@@ -36,6 +36,7 @@ impl<A: Allocator> Model for BarTable<A> {
 
 impl<A: Allocator> BarTable<A> {
     /// A table of no bars, in memory of `alloc`.
+    #[tactic(auto, using(crate::proofs::JoinedTables::union_of_none))]
     pub fn empty(alloc: A) -> BarTable<A>
         ensures { result ≡ [] }
     {
@@ -100,6 +101,7 @@ impl<A: Allocator + Clone> BarTable<A> {
     }
 
     /// The table of sales that are in order of the keys of their bars, in room for so many bars.
+    #[tactic(auto, using(crate::proofs::JoinedTables::union_of_none))]
     pub(crate) fn of_sorted(
         alloc: A,
         sales: &[Sale],
@@ -155,6 +157,7 @@ impl<A: Allocator + Clone> BarTable<A> {
 
     /// Takes in the bars of `other`, and joins those of one locate and start. It is refused if
     /// there is no memory for the bars of both or to sort them, and then leaves the table as it was.
+    #[tactic(auto, using(crate::proofs::JoinedTables::merge_from))]
     pub fn merge<B: Allocator>(&mut self, other: &BarTable<B>) -> Result<(), OutOfMemory>
         requires sums { SumsFit self.old other.now }
         ensures merged { OnOk result (IsMergeOf self.old other.now self.new) }
@@ -205,6 +208,7 @@ fn count_bars_of(sales: &[Sale], width: u32) -> usize
 
 /// Puts in a bar that no bar of the table stands after.
 #[inline]
+#[tactic(auto, using(crate::proofs::LastBar::adding))]
 fn add<A: Allocator>(bars: &mut Vec<Bar, A>, bar: Bar) -> Result<(), OutOfMemory>
     requires { CanAdd bars.old.items bar }
     ensures { OnOk result (IsUnionOf (bars.old.items ++ bar ∷ []) bars.new.items) }
@@ -222,6 +226,7 @@ fn add<A: Allocator>(bars: &mut Vec<Bar, A>, bar: Bar) -> Result<(), OutOfMemory
 }
 
 /// Two tables in one.
+#[tactic(auto, using(crate::proofs::SumsAreBounded::merging))]
 fn merge_bars<'a, A: Allocator + Clone>(
     alloc: A,
     one: &'a [Bar],
@@ -270,7 +275,7 @@ fn count_bars(parts: &[&[Bar]]) -> usize {
 }
 
 /// Sorted bars in one list, those of one key made one.
-#[tactic(auto, using(std::proofs::lemmas::List::take_all))]
+#[tactic(auto, using(std::proofs::lemmas::List::take_all, crate::proofs::JoinedTables::union_of_none))]
 fn join_all<A: Allocator>(alloc: A, sorted: &[&Bar]) -> Result<Vec<Bar, A>, OutOfMemory>
     requires rise { IsSorted key_cmp (map (λ bar. bar.now) sorted.now) }
     requires sums { EachJoins (map (λ bar. bar.now) sorted.now) }

@@ -1,9 +1,8 @@
 -- What a piece has read and walked so far.
-use Rattle.std.proofs.Common.{◌≡◌, ℕ, ◌+◌, ◌-◌, ◌<◌, ◌≤◌, List, [], ◌∷◌, ◌++◌, length, take, drop, refl, sym, ap, ◌∙◌, subst, arith, append_assoc}
-use Rattle.std.proofs.lemmas.List.{drop-take, length-append, length-drop, take-append-drop, take-take, length-take-le}
+use Rattle.std.proofs.Common.{◌≡◌, ℕ, ◌+◌, ◌-◌, ◌<◌, ◌≤◌, List, [], ◌∷◌, ◌++◌, length, take, drop, sym, ap, ◌∙◌, subst, arith, append_assoc, take_at}
+use Rattle.std.proofs.lemmas.List.{drop-take, length-append, length-drop, take-append-drop, take-append-le, length-take-le}
 use Rattle.std.proofs.lemmas.List.Edits.{take-paste}
 use Rattle.std.proofs.lemmas.List.Elements.{All-append}
-use Rattle.std.proofs.lemmas.Slice.{put_mid-paste}
 use Rattle.std.proofs.Math.Seq.{take-append-add}
 use borrow.Rule.Slice.PartMut.{put_mid}
 use lib.Seq.{paste}
@@ -33,24 +32,15 @@ pub record IsFilling {S : Type 0} (GaveAt : S → ℕ → List ℕ → Type 0) (
 -- the bytes between two places are moved to the front
 pub moved : (all : List ℕ) (from to : ℕ) → from ≤ to → to ≤ length all → take (to - from) (paste all 0 (drop from all) (to - from)) ≡ drop from (take to all)
 moved all from to up within =
-    let whole : from + (to - from) ≡ to = omega (arith, up) in
-    ap (λ k. take k (paste all 0 (drop from all) (to - from))) (omega arith)
-    ∙ take-paste all 0 (drop from all) (to - from) (omega arith) (omega (arith, length-drop from all, up, within))
-    ∙ sym (drop-take from (to - from) all) ∙ ap (λ n. drop from (take n all)) whole
+    take_at (take (to - from) (drop from all)) _ (to - from) (length-take-le (to - from) (drop from all) (omega (arith, length-drop from all, up, within)))
+    ∙ sym (drop-take from (to - from) all) ∙ ap (λ n. drop from (take n all)) (omega (arith, up))
 
 -- what is read goes behind what the buffer begins with
-pub filled_more : (buffer into : List ℕ) (filled room count : ℕ) → room ≡ length into → filled + room ≤ length buffer → count ≤ room
-    → length (take filled buffer) ≡ filled → take (filled + count) (put_mid filled room buffer into) ≡ take filled buffer ++ take count into
-filled_more buffer into filled room count n fits few long =
-    let pasted : put_mid filled room buffer into ≡ paste buffer filled into room = put_mid-paste filled room buffer into into room refl refl n in
-    let whole : take (filled + room) (paste buffer filled into room) ≡ take filled buffer ++ take room into = take-paste buffer filled into room
-    (omega (arith, fits)) (omega (arith, n)) in
-    ap (take (filled + count)) pasted
-    ∙ sym (take-take (filled + count) (filled + room) (paste buffer filled into room) (omega (arith, few)))
-    ∙ ap (take (filled + count)) whole
-    ∙ ap (λ k. take (k + count) (take filled buffer ++ take room into)) (sym long)
-    ∙ take-append-add (take filled buffer) (take room into) count
-    ∙ ap (λ l. take filled buffer ++ l) (take-take count room into few)
+pub filled_more : (buffer into : List ℕ) (filled room count : ℕ) → count ≤ length into → length (take filled buffer) ≡ filled
+    → take (filled + count) (put_mid filled room buffer into) ≡ take filled buffer ++ take count into
+filled_more buffer into filled room count few long =
+    ap (λ k. take (k + count) (put_mid filled room buffer into)) (sym long)
+    ∙ take-append-add (take filled buffer) (into ++ _) count ∙ ap (λ l. take filled buffer ++ l) (take-append-le count into _ few)
 
 module _ {S : Type 0} (GaveAt : S → ℕ → List ℕ → Type 0)
     (gave_more : (s : S) (place : ℕ) (xs ys : List ℕ) → GaveAt s place xs → GaveAt s (place + length xs) ys → GaveAt s place (xs ++ ys)) where
@@ -62,12 +52,13 @@ module _ {S : Type 0} (GaveAt : S → ℕ → List ℕ → Type 0)
       subst (GaveAt source start) (append_assoc bytes rest piece) (gave_more source start (bytes ++ rest) piece p (subst (λ k. GaveAt source k piece) at q))
 
   -- a turn of the loop: some bytes more are in the buffer, which now begins with all, and of those some were walked and the others kept
-  pub fills_more : (source : S) (request : Request) (start target place filled count walked : ℕ) (buffer all last piece : List ℕ) (scan new : ScanView)
+  pub fills_more : {source : S} {request : Request} {start target place filled walked : ℕ} (count : ℕ) {buffer all last piece : List ℕ} {scan new : ScanView}
       → IsAskable request → IsFilling GaveAt source request start target place filled buffer scan → GaveAt source (place + filled) piece
       → all ≡ take filled buffer ++ piece → length all ≡ filled + count → place + filled + count ≤ request.limit
       → IsWalked request.as_of all place target walked scan new → take (filled + count - walked) last ≡ drop walked all → length last ≡ length buffer
       → IsFilling GaveAt source request start target (place + walked) (filled + count - walked) last new
-  fills_more source request start target place filled count walked buffer all last piece scan new ask old gave all_is n fits w kept long =
+  fills_more {source} {request} {start} {place = place} {filled = filled} {walked = walked} count {buffer} {all} {last} {piece} ask old gave all_is n fits w
+      kept long =
       let halves : all ≡ take walked all ++ drop walked all = sym (take-append-drop walked all) in
       let whole : GaveAt source start (old.bytes ++ all) = subst (λ l. GaveAt source start (old.bytes ++ l)) (sym all_is)
       (gave_on source start place filled old.bytes (take filled buffer) piece old.gave old.place_is old.filled_is gave) in

@@ -40,9 +40,9 @@ stuck_short (high ∷ low ∷ after) b s = go (nat_le size (length after)) refl
 -- ---- the walk
 
 -- what is taken in of the frames of bytes is walked
-pub walked_of : (as_of : Option ℕ) (bytes : List ℕ) (place target walked : ℕ) (all : List PlacedBody) (rest : List ℕ) (old new : ScanView)
-    → AreBytes bytes → IsReading place bytes all rest → AreTakenIn as_of all (target - place) walked old new → IsWalked as_of bytes place target walked old new
-walked_of as_of bytes place target walked all rest old new are reading w =
+pub walked_of : {as_of : Option ℕ} {bytes : List ℕ} {place target walked : ℕ} {all : List PlacedBody} {rest : List ℕ} {old new : ScanView} → AreBytes bytes
+    → IsReading place bytes all rest → AreTakenIn as_of all (target - place) walked old new → IsWalked as_of bytes place target walked old new
+walked_of {bytes = bytes} {place} {target} {walked} {rest = rest} are reading w =
     let front = w.front in
     let split : bytes ≡ spelling front ++ (spelling w.rest ++ rest) = reading.split ∙ ap (λ l. spelling l ++ rest) w.split
     ∙ ap (λ l. l ++ rest) (spelling-append front w.rest) ∙ append_assoc (spelling front) (spelling w.rest) rest in

@@ -1,12 +1,11 @@
 -- Blocks that compare as equal are one.
 -- Derived: the laws of `BlockWork` cite it, and it defines nothing.
 use Rattle.std.proofs.Common.{◌≡◌, Bool, true, List}
-use Rattle.std.proofs.Common.{sym, ◌∙◌, subst}
+use Rattle.std.proofs.Common.{sym, ◌∙◌}
 use Rattle.std.specs.Cmp.{IsEquivalence, nat_eq_equiv}
 use Rattle.std.specs.Cmp.Lexicographic.{options_equiv}
 use Rattle.std.proofs.lemmas.Bool.{eqb-true}
 use Rattle.std.proofs.lemmas.Cmp.{and_equiv, on_equiv}
-use Rattle.std.proofs.lemmas.List.{map-id}
 use Rattle.gathering.proofs.EqualInputs.{map_alike}
 use Rattle.gathering.specs.Adding.{same_inputs}
 use Rattle.scanning.specs.EqualScans.{and_left, and_right, same_moment}
@@ -34,29 +33,26 @@ module _ {S : Type 0} (eq : S → S → Bool) where
   -- the comparison of blocks is reflexive, symmetric and transitive
   pub block_equiv : IsEquivalence eq → IsEquivalence (is_same_block eq)
   block_equiv laws =
-      let source = on_equiv (λ (b : BlockView S). b.source) laws in
-      let request = on_equiv (λ (b : BlockView S). b.request) request_equiv in
+      let source = on_equiv (λ (b : BlockView S). b.asked.source) laws in
+      let request = on_equiv (λ (b : BlockView S). b.asked.request) request_equiv in
       let from = on_equiv (λ (b : BlockView S). b.from) nat_eq_equiv in
       let to = on_equiv (λ (b : BlockView S). b.to) nat_eq_equiv in
       and_equiv (and_equiv (and_equiv source request) from) to
 
   module _ (one : (a b : S) → eq a b ≡ true → a ≡ b) where
-    same_block : (a b : BlockView S) → is_same_block eq a b ≡ true → a ≡ b
-    same_block a b same =
-        let before = and_left _ _ same in
-        let source = one a.source b.source (and_left _ _ (and_left _ _ before)) in
-        let request = same_request a.request b.request (and_right _ _ (and_left _ _ before)) in
-        let from = eqb-true a.from b.from (and_right _ _ before) in
-        let to = eqb-true a.to b.to (and_right _ _ same) in
-        λ i. record { source = source i; request = request i; from = from i; to = to i }
+    same_asked : (a b : BlockView S) → is_same_block eq a b ≡ true → a.asked ≡ b.asked
+    same_asked a b same =
+        let asked = and_left _ _ (and_left _ _ same) in
+        let source = one a.asked.source b.asked.source (and_left _ _ asked) in
+        let request = same_request a.asked.request b.asked.request (and_right _ _ asked) in
+        λ i. record { source = source i; request = request i }
 
     pub equal_blocks : (a b : BlockView S) (attempt : AttemptView S) → is_same_block eq a b ≡ true → Gives a attempt
         → Gives b attempt
-    equal_blocks a b attempt same gives = subst (λ block. Gives block attempt) (same_block a b same) gives
+    equal_blocks a b attempt same gives = gives ∙ same_asked a b same
 
     pub equal_attempts : (xs ys : List (BlockView S)) → same_inputs (is_same_block eq) xs ys ≡ true
         → (attempts : List (AttemptView S))
         → AreOf ys attempts → AreOf xs attempts
     equal_attempts xs ys same attempts are =
-        let one_by_one = map_alike (is_same_block eq) (λ x. x) same_block xs ys same in
-        subst (λ blocks. AreOf blocks attempts) (sym (sym (map-id xs) ∙ one_by_one ∙ map-id ys)) are
+        are ∙ sym (map_alike (is_same_block eq) (λ (b : BlockView S). b.asked) same_asked xs ys same)

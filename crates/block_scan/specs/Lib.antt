@@ -4,4 +4,3 @@ pub mod EqualBlocks
 pub mod Known
 pub mod KnownLaws
 pub mod Pieces
-pub mod ScannedBlocks

@@ -1,16 +1,14 @@
--- What is known of a piece of a source that was read and scanned.
+-- What is known of pieces of a source that were read and scanned.
 -- To be believed of a crate used by itself: a promise of the program speaks of the whole source alone.
 use Rattle.std.specs.Prelude.{◌≡◌, ℕ, ◌+◌, ◌<◌, ◌≤◌, List, ◌++◌, length, take, drop, All}
-use Rattle.std.specs.Prelude.{Bool, true, false, Option, None, Some, Result, Ok, Err}
+use Rattle.std.specs.Prelude.{Bool, false, Option, Result, Ok, Err, IfOk, IfErr}
 use Rattle.std.specs.List.{concat}
 use Rattle.lists.specs.declared.limits.TheConstants.{LONGEST_FILE, MOST_PARTITIONS}
 use Rattle.day_file.specs.Cuts.{AreBytes, IsRun}
 use Rattle.day_file.specs.Frames.{IsStuck, PlacedBody, StandsFrom}
-use Rattle.scanning.specs.Scans.{ScanTotalView, ScanView, TakesIn, inputs_of, scan_of, total_of, with_scan}
+use Rattle.scanning.specs.Scans.{ScanTotalView, ScanView, TakesIn, inputs_of, scan_of, total_of}
 use Rattle.block_scan.specs.Blocks.{IsBlocksFault}
-use Rattle.block_scan.specs.ScannedBlocks.{IsScannedWhole}
 use Rattle.streaming.specs.declared.fault.SourceFault.{SourceFault}
-use Rattle.streaming.specs.declared.fault.SourceFault.TheVariants.{Truncated, OutOfMemory}
 use Rattle.block_scan.specs.declared.piece.Piece.{Piece}
 use Rattle.block_scan.specs.declared.piece.Tail.{Tail}
 use Rattle.block_scan.specs.declared.piece.Tail.TheVariants.{More, Whole, Cut}
@@ -21,6 +19,19 @@ pub record IsAskable (request : Request) : Type 0 where
   pub limit : request.limit ≤ LONGEST_FILE
   pub some : 0 < request.parts
   pub most : request.parts ≤ MOST_PARTITIONS
+
+-- S is sources
+module _ (S : Type 0) where
+  -- a source, and what is asked of it
+  pub record Asked : Type 0 where
+    pub source : S
+    pub request : Request
+
+  -- what contracts see of pieces that were put together: of what they are, where they end, the total of their scans
+  pub record ChainedView : Type 0 where
+    pub asked : Asked
+    pub at : ℕ
+    pub total : ScanTotalView
 
 -- what a walk did over bytes that begin at this place: the frames of the first `walked` of them were taken in, and it
 -- ended at the target, or where there is no whole frame
@@ -33,24 +44,6 @@ pub record IsWalked (as_of : Option ℕ) (bytes : List ℕ) (place target walked
   pub takes : TakesIn as_of frames old new
   pub ends : place + walked < target → IsStuck (drop walked bytes)
   pub short : place + walked < target → length bytes < walked + 65538
-
--- a total, and the same total with the scan of a piece, if the piece has a frame
-pub record IsJoined (piece : Piece) (old new : ScanTotalView) : Type 0 where
-  pub none : piece.start ≡ piece.end → new ≡ old
-  pub some : piece.start < piece.end → new ≡ with_scan old piece.scanned
-
--- what follows from a piece: more comes after it, or it was the last, or it is cut off
-abbrev pub IsFollowedBy : Piece → ScanTotalView → ScanTotalView → Result (Option ℕ) SourceFault → Type 0
-IsFollowedBy piece old new (Ok (Some end)) = (piece.tail ≡ More) × (end ≡ piece.end) × IsJoined piece old new
-IsFollowedBy piece old new (Ok None) = (piece.tail ≡ Whole) × IsJoined piece old new
-IsFollowedBy piece old new (Err (Truncated place)) = (piece.tail ≡ Cut) × (place ≡ piece.end)
-IsFollowedBy piece old new (Err OutOfMemory) = Unit {0}
-IsFollowedBy piece old new (Err _) = ⊥
-
--- there is no piece, since memory was refused
-abbrev pub wants_memory : Result Piece SourceFault → Bool
-wants_memory (Err OutOfMemory) = true
-wants_memory _ = false
 
 -- S is a source. `GaveAt` says which bytes it gave to readings from a place on, and `EndsAt` that one found none there.
 module _ {S : Type 0} (GaveAt : S → ℕ → List ℕ → Type 0) (EndsAt : S → ℕ → Type 0) where
@@ -89,9 +82,13 @@ module _ {S : Type 0} (GaveAt : S → ℕ → List ℕ → Type 0) (EndsAt : S �
     pub within : at ≤ request.limit
     pub are : total ≡ total_of (inputs_of request.as_of request.parts runs)
 
-  -- what follows from a piece, of the total with it: it is chained to its end, or whole, or a refusal says what it does
-  abbrev pub IsGoneOn : (S → ℕ → Type 0) → S → Request → ScanTotalView → Result (Option ℕ) SourceFault → Type 0
-  IsGoneOn FailsAt source request total (Ok (Some end)) = IsChained source request end total
-  IsGoneOn FailsAt source request total (Ok None) =
-      IsScannedWhole GaveAt EndsAt source request.limit request.as_of request.parts total
-  IsGoneOn FailsAt source request total (Err fault) = IsBlocksFault GaveAt EndsAt FailsAt source request.limit fault
+  -- the total of the scans of runs of frames, which are all that the source gave
+  abbrev pub IsScannedWhole : S → Request → ScanTotalView → Type 0
+  IsScannedWhole source request total = (at : ℕ) × IsChained source request at total × EndsAt source at
+
+  -- a piece more was put to the others; where no more is to come, the source ends; a refusal says what it does
+  pub record IsGoneOn (FailsAt : S → ℕ → Type 0) (old new : ChainedView S) (result : Result Bool SourceFault)
+      : Type 0 where
+    pub asked : new.asked ≡ old.asked
+    pub ended : IfOk result (λ more. more ≡ false → EndsAt new.asked.source new.at)
+    pub fault : IfErr result (IsBlocksFault GaveAt EndsAt FailsAt old.asked.source old.asked.request.limit)

@@ -1,8 +1,9 @@
 //! What comes of blocks.
-ghost use Rattle.std.specs.Prelude.{◌≡◌, List, false, map};
+ghost use Rattle.std.specs.Prelude.{IsErrOf, List, map};
 ghost use Rattle.std.specs.Arc.{arc_value};
+ghost use Rattle.streaming.specs.declared.fault.SourceFault.{SourceFault};
 ghost use Rattle.block_scan.specs.Attempts.{AttemptView};
-ghost use Rattle.block_scan.specs.Pieces.{IsAskable, IsTried, wants_memory};
+ghost use Rattle.block_scan.specs.Pieces.{IsAskable, IsTried};
 
 use crate::piece::Piece;
 use crate::request::Request;
@@ -25,14 +26,13 @@ impl<S: BlockSource> Model for Attempt<S> {
     ghost Value = { AttemptView S };
 
     ghost view = { λ attempt. record {
-      source = arc_value attempt.source;
-      request = attempt.request;
+      asked = record { source = arc_value attempt.source; request = attempt.request };
       found = attempt.found;
     } };
 
     ghost invariant = { λ attempt. IsAskable attempt.request
         × IsTried S.GaveAt S.EndsAt S.FailsAt (arc_value attempt.source) attempt.request attempt.found
-        × (wants_memory attempt.found ≡ false) };
+        × (IsErrOf attempt.found SourceFault.OutOfMemory → ⊥) };
 }
 
 /// What came of each block, in the order of the blocks.

@@ -25,8 +25,7 @@ impl<S: BlockSource> Model for Block<S> {
     ghost Value = { BlockView S };
 
     ghost view = { λ block. record {
-      source = arc_value block.source;
-      request = block.request;
+      asked = record { source = arc_value block.source; request = block.request };
       from = block.from;
       to = block.to;
     } };

@@ -30,7 +30,7 @@ pub(crate) fn scan_block<S: BlockSource>(
     alloc: Global,
     block: &Block<S>,
 ) -> Result<Piece, SourceFault>
-    ensures { IsTried S.GaveAt S.EndsAt S.FailsAt block.now.source block.now.request result }
+    ensures { IsTried S.GaveAt S.EndsAt S.FailsAt block.now.asked.source block.now.asked.request result }
 {
     let (source, request) = (&*block.source, block.request);
     let mut seen = [0u8; SEEN];

@@ -44,7 +44,8 @@ module _ (rows needed : List OrderRow) (executions : List Execution)
   same_unknown =
       rw are.2 (ap (λ l. least_by (λ (execution : Execution). execution.place) l)
       (ap (filter (is_unknown some)) (sym all_executions)
-      ∙ filters_commute (is_unknown some) (is_unknown rows) of_it (λ execution h. ap is_none (price_where test rows execution.order_no execution.place h)) executions
+      ∙ filters_commute (is_unknown some) (is_unknown rows) of_it (λ execution h. ap is_none (price_where test rows execution.order_no execution.place h))
+      executions
       ∙ sym (filters_commute (is_unknown rows) (is_unknown rows) of_it (λ execution h. refl) executions)
       ∙ ap (filter (is_unknown rows)) all_executions))
 

@@ -91,7 +91,8 @@ pub lasts_do_not_fall : (parts : List Part) → AllPairs IsAbove parts → IsNon
 lasts_do_not_fall parts apart = rising_does_not_fall (λ (part : Part). part.last) parts (λ i j d p q. (apart i j d p q).0)
 
 -- what is above the last list is above all
-pub below_last : (parts : List Part) (q : ℕ) (e : Part) → AllPairs IsAbove parts → (get_or parts (length parts - 1) e).last < q → All (λ part. part.last < q) parts
+pub below_last : (parts : List Part) (q : ℕ) (e : Part) → AllPairs IsAbove parts → (get_or parts (length parts - 1) e).last < q
+    → All (λ part. part.last < q) parts
 below_last parts q e apart less k d l =
     omega (
       arith,

@@ -12,7 +12,7 @@ use Rattle.lists.proofs.Lists.{map_more}
 use Rattle.row_types.specs.declared.order.OrderRow.{OrderRow}
 use Rattle.row_types.specs.declared.trade.Execution.{Execution}
 use Rattle.row_types.specs.declared.trade.Sale.{Sale}
-use Rattle.morsel_rows.specs.SameRows.{is_same_partition, same_partition}
+use Rattle.morsel_rows.specs.SameRows.{is_same_partition, partition_equiv, same_partition}
 use Rattle.morsel_rows.specs.Partitions.{MorselRowsView, PartitionView, class_of, joined_partitions, no_rows_in, partition_at}
 use Rattle.buckets.specs.BucketRows.{rows_at, rows_of_parts}
 
@@ -41,6 +41,12 @@ joined_more parts part =
 joined_none : (rows : PartitionView) → with_rows rows no_rows_in ≡ rows
 unfolding with_rows
 joined_none rows = same_rows (append-nil rows.orders) (append-nil rows.executions) (append-nil rows.own_priced)
+
+pub none_turned : (rows : PartitionView) → is_same_partition rows no_rows_in ≡ is_same_partition no_rows_in rows
+none_turned rows = partition_equiv.symm rows no_rows_in
+
+-- of the partition of a number those that it has, or none, on either side of a comparison
+pub ruleset rows_of_one = (get_or_past, get_or_from_slice_get, none_turned)
 
 -- ---- the partition of one morsel more
 

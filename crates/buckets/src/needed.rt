@@ -19,11 +19,11 @@ pub(crate) fn needed_orders(
         AreNeeded (executed_in (rows_of_parts parts.now)) (rows_of_parts parts.now).orders rows.items) }
 {
     let (orders, executions) = count_rows(parts);
-    let mut filter = OrderFilter::new(alloc, orders)?;
+    let mut filter = OrderFilter::new(alloc, orders, executions)?;
     add_executions(&mut filter, parts);
     add_orders(&mut filter, parts);
-    // Those that are executed, and the fifteenth part, or less, that the filter keeps for nothing.
-    let room = executions.saturating_add(orders / 15).min(orders);
+    // Those that are executed, and the thirtieth part, or less, that the filter keeps for nothing.
+    let room = executions.saturating_add(orders / 30).min(orders);
     let mut rows = Vec::with_capacity(alloc, room)?;
     for part in parts {
         append_needed(&filter, part.orders(), &mut rows)?;
@@ -77,8 +77,8 @@ fn add_orders_of(filter: &mut OrderFilter, orders: &OrderList)
     ensures { (executed ordered : List ℕ) → IsFilterOf executed ordered filter.old →
         IsFilterOf executed (ordered ++ map (λ row. row.order_no) orders.now) filter.new }
 {
-    for index in 0..orders.len() {
-        filter.add_order(orders.at(index).order_no);
+    for row in orders.iter() {
+        filter.add_order(row.order_no);
     }
 }
 
@@ -91,8 +91,7 @@ fn append_needed(
     ensures { OnOk result (rows.new.items
         ≡ rows.old.items ++ filter (λ row. is_needed found.now row.order_no) orders.now) }
 {
-    for index in 0..orders.len() {
-        let row = orders.at(index);
+    for row in orders.iter() {
         if found.needs(row.order_no) {
             rows.push(row)?;
         }

@@ -1,7 +1,9 @@
 //! Equality of what is asked of sales.
 ghost use Rattle.std.specs.Prelude.{◌≡◌};
-ghost use Rattle.buckets.specs.SameQuestions.{are_same_kinds, are_same_locates, is_same_bool};
-ghost use Rattle.buckets.specs.SameQuestions.{is_same_selection, is_same_span, is_same_what};
+ghost use Rattle.std.specs.Bool.{beq};
+ghost use Rattle.std.specs.Option.{option_eq};
+ghost use Rattle.buckets.specs.SameQuestions.{are_same_kinds, are_same_locates, is_same_selection};
+ghost use Rattle.buckets.specs.SameQuestions.{is_same_span, is_same_what};
 
 use meaning::What;
 use probe::{Kinds, Locates, Selection, Span};
@@ -23,7 +25,7 @@ fn same_locates(a: &Locates, b: &Locates) -> bool
 }
 
 fn same_span(a: Option<Span>, b: Option<Span>) -> bool
-    ensures { result ≡ is_same_span a b }
+    ensures { result ≡ option_eq is_same_span a b }
 {
     match (a, b) {
         (None, None) => true,
@@ -33,17 +35,19 @@ fn same_span(a: Option<Span>, b: Option<Span>) -> bool
 }
 
 fn same_bool(a: bool, b: bool) -> bool
-    ensures { result ≡ is_same_bool a b }
+    ensures { result ≡ beq a b }
 {
     if a { b } else { !b }
 }
 
+#[tactic(auto, unfolding(crate::specs::SameQuestions::are_same_kinds))]
 fn same_kinds(a: Kinds, b: Kinds) -> bool
     ensures { result ≡ are_same_kinds a b }
 {
     same_bool(a.e, b.e) && same_bool(a.c, b.c) && same_bool(a.p, b.p) && same_bool(a.q, b.q)
 }
 
+#[tactic(auto, unfolding(crate::specs::SameQuestions::is_same_selection))]
 pub(crate) fn same_selection(a: &Selection, b: &Selection) -> bool
     ensures { result ≡ is_same_selection a.now b.now }
 {

@@ -1,11 +1,11 @@
 //! The rows of one partition in all morsels.
-ghost use Rattle.std.specs.Prelude.{◌≡◌, ◌<◌, IfOk, map};
+ghost use Rattle.std.specs.Prelude.{◌≡◌, ◌<◌, IfOk, map, nat_eq};
 ghost use Rattle.std.specs.Arc.{arc_value};
 ghost use Rattle.std.specs.Cmp.Lexicographic.{pointwise};
+ghost use Rattle.std.specs.Option.{option_eq};
 ghost use Rattle.morsel_rows.specs.Partitions.{class_of, joined_partitions, no_rows_in, partition_at};
 ghost use Rattle.morsel_rows.specs.SameRows.{is_same_partition};
 ghost use Rattle.buckets.specs.BucketRows.{rows_at, rows_of_parts};
-ghost use Rattle.buckets.specs.Buckets.{is_same_modulus};
 
 use crate::OutOfMemory;
 use morsel_rows::{MorselRows, Partition};
@@ -66,7 +66,7 @@ pub(crate) fn lent<'a>(
 
 /// Whether both are the same modulus, or neither is one.
 pub(crate) fn same_modulus(one: Option<u32>, other: Option<u32>) -> bool
-    ensures { result ≡ is_same_modulus one other }
+    ensures { result ≡ option_eq nat_eq one other }
 {
     match (one, other) {
         (None, None) => true,
@@ -96,6 +96,7 @@ pub(crate) fn same_rows(
 
 /// Whether a partition of two morsels has the same rows. A morsel that has none of its number has
 /// no rows there.
+#[tactic(auto, using(crate::proofs::RowsOfParts::rows_of_one))]
 fn same_part(number: u32, one: &MorselRows, other: &MorselRows) -> bool
     ensures { result ≡ is_same_partition (partition_at number one.now) (partition_at number other.now) }
 {

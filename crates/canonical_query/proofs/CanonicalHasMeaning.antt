@@ -1,12 +1,12 @@
 -- The canonical text of a query has that query as its meaning.
 use Rattle.std.proofs.Common.{◌≡◌, ℕ, ◌+◌, ◌-◌, ◌*◌, ◌/◌, ◌%◌, ◌^◌, ◌<◌, ◌≤◌, Bool, true, false, cond, ◌&&◌, List, [], ◌∷◌, ◌++◌, length, Option, Some, None}
-use Rattle.std.proofs.Common.{refl, ap, ◌∙◌, subst, inl, inr, arith, rules, nat_lt, nat_le, filter, length-append, not, codes, ◌==◌, fold, decimal, bytes_eq}
+use Rattle.std.proofs.Common.{refl, ap, ◌∙◌, subst, arith, rules, nat_lt, nat_le, filter, length-append, not, codes, ◌==◌, fold, decimal}
 use Rattle.std.specs.Char.{is_ascii_digit}
 use Rattle.std.specs.List.{join_with_byte, list_all, All}
 use Rattle.std.proofs.lemmas.Fmt.{digits_decimal, digits_value-decimal, length-decimal-le, decimal_nonempty}
 use Rattle.std.proofs.lemmas.Str.Parse.{IsNumeralModel, numerals_by_fold}
 use Rattle.std.proofs.lemmas.Slice.Eq.{bytes_eq-Decides}
-use Rattle.std.proofs.lemmas.Bool.{and_from, and_parts, not-true, lt-ltb, le-leb, ltb-true, leb-true, ne_eqb, eq-eqb, cases_lt, false_from_ne_true}
+use Rattle.std.proofs.lemmas.Bool.{and_from, and_parts, not-true, lt-ltb, ltb-true, leb-true, ne_eqb, eq-eqb, cases_lt, false_from_ne_true}
 use Rattle.std.proofs.lemmas.Bool.Decides.{nat_tests}
 use Rattle.std.proofs.lemmas.List.Elements.{All-weaker}
 use Rattle.std.proofs.lemmas.List.Folds.{list_all-append}
@@ -21,15 +21,14 @@ use Rattle.meaning.specs.declared.query.What.{What}
 use Rattle.query.specs.Said.{Said, only, meaning_of}
 use Rattle.query.specs.Grammar.{Conditions, Linked, Moment, Means}
 use Rattle.query.specs.Grammar.{symbol, time, kind, done, further, any_moment, up_to, sales, bars}
-use Rattle.canonical_query.specs.Canonical.{pair_text, clock_text, what_words, symbol_condition, time_condition, kind_letters, kind_condition, conditions_of, linked}
-use Rattle.canonical_query.specs.Canonical.{moment_words, canonical}
+use Rattle.canonical_query.specs.Canonical.{pair_text, clock_text, what_words, symbol_condition, time_condition, kind_letters, kind_condition}
+use Rattle.canonical_query.specs.Canonical.{canonical, conditions_of, linked, moment_words}
 
 -- ---- joined parts are the parts of what is joined
 
 -- items that pass a test pass a weaker one
 weaker : {X : Type 0} (p q : X → Bool) → ((x : X) → p x ≡ true → q x ≡ true) → (xs : List X) → list_all p xs ≡ true → list_all q xs ≡ true
-weaker p q each xs h =
-    list_all-from_AllPass q xs (All-weaker (λ x. p x ≡ true) (λ x. q x ≡ true) each xs (AllPass-from_list_all p xs h))
+weaker p q each xs h = grind (arith, nat_tests, list_all-from_AllPass, All-weaker, AllPass-from_list_all)
 
 -- no byte is the separator
 abbrev lacks : ℕ → List ℕ → Bool
@@ -37,16 +36,15 @@ lacks separator bytes = list_all (λ byte. not (byte == separator)) bytes
 
 -- the same of each byte, as std says it of what it parts
 others : (separator : ℕ) (bytes : List ℕ) → lacks separator bytes ≡ true → All (λ byte. (byte == separator) ≡ false) bytes
-others separator bytes h =
-    All-weaker (λ byte. not (byte == separator) ≡ true) (λ byte. (byte == separator) ≡ false) (λ byte. not-true (byte == separator)) bytes
-    (AllPass-from_list_all (λ byte. not (byte == separator)) bytes h)
+others separator bytes h = grind (arith, nat_tests, All-weaker, not-true, AllPass-from_list_all)
 
 parts_joined : (separator : ℕ) (xs : List (List ℕ)) (x : List ℕ) → list_all (lacks separator) (x ∷ xs) ≡ true
     → parts separator (join_with_byte separator (x ∷ xs)) ≡ x ∷ xs
 parts_joined separator [] x h = slice_split_none (λ byte. byte == separator) x (others separator x (and_parts (lacks separator x) _ h).0)
 parts_joined separator (y ∷ ys) x h =
-    slice_split_at (λ byte. byte == separator) x separator _ (others separator x (and_parts (lacks separator x) _ h).0) (eq-eqb separator separator refl)
-    ∙ ap (λ zs. x ∷ zs) (parts_joined separator ys y (and_parts (lacks separator x) _ h).1)
+    let apart = and_parts (lacks separator x) _ h in
+    slice_split_at (λ byte. byte == separator) x separator _ (others separator x apart.0) (eq-eqb separator separator refl)
+    ∙ ap (λ zs. x ∷ zs) (parts_joined separator ys y apart.1)
 
 -- ---- the words of joined words
 
@@ -56,15 +54,11 @@ is_plain bytes = nat_lt 0 (length bytes) && lacks 32 bytes
 
 plain_stay : (ws : List (List ℕ)) (at : ℕ) → list_all is_plain ws ≡ true → filter (λ w. nat_lt 0 (length w.bytes)) (words_of_parts at ws) ≡ words_of_parts at ws
 plain_stay [] at h = refl
-plain_stay (w ∷ ws) at h =
-    let plain = and_parts (is_plain w) _ h in
-    rw ((and_parts (nat_lt 0 (length w)) _ plain.0).0, plain_stay ws (at + (length w + 1)) plain.1) refl
+plain_stay (w ∷ ws) at h = grind (arith, rules, plain_stay ws (at + (length w + 1)))
 
 words_joined : (w : List ℕ) (ws : List (List ℕ)) → list_all is_plain (w ∷ ws) ≡ true → words_of (join_with_byte 32 (w ∷ ws)) ≡ words_of_parts 0 (w ∷ ws)
 unfolding words_from
-words_joined w ws h =
-    ap (λ ps. filter (λ w. nat_lt 0 (length w.bytes)) (words_of_parts 0 ps))
-    (parts_joined 32 ws w (weaker is_plain (lacks 32) (λ v i. (and_parts (nat_lt 0 (length v)) _ i).1) (w ∷ ws) h)) ∙ plain_stay (w ∷ ws) 0 h
+words_joined w ws h = grind (arith, nat_tests, parts_joined, weaker, and_parts, plain_stay)
 
 -- ---- numbers and symbols
 
@@ -77,14 +71,11 @@ own = numerals_by_fold (λ ds. list_all is_ascii_digit ds ≡ true) (search rule
 decimal_value : (n : ℕ) → n < 2 ^ 64 → n < 10 ^ 5 → count_of (decimal n) ≡ Some n
 unfolding count_of
 decimal_value n small short =
-    let some : nat_lt 0 (length (decimal n)) ≡ true = lt-ltb _ _ (decimal_nonempty n small) in
-    let few : nat_le (length (decimal n)) 5 ≡ true = le-leb _ _ (length-decimal-le 5 n (omega arith) short small) in
-    rw (some, few, digits_decimal own n small, digits_value-decimal own n small) refl
+    let few = length-decimal-le 5 n (omega arith) short small in
+    grind (arith, nat_tests, decimal_nonempty n small, digits_decimal own n small, digits_value-decimal own n small)
 
 decimal_plain : (n : ℕ) → n < 2 ^ 64 → is_plain (decimal n) ≡ true
-decimal_plain n small =
-    and_from _ _ (lt-ltb _ _ (decimal_nonempty n small))
-    (weaker is_ascii_digit (λ byte. not (byte == 32)) (λ byte h. grind (arith, nat_tests)) (decimal n) (digits_decimal own n small))
+decimal_plain n small = grind (arith, nat_tests, weaker, decimal_nonempty, digits_decimal, own)
 
 -- a symbol has bytes, each of them a symbol's
 symbol_parts : (name : List ℕ) → is_symbol name ≡ true → (nat_lt 0 (length name) ≡ true) × (list_all is_symbol_byte name ≡ true)
@@ -92,62 +83,41 @@ unfolding is_symbol
 symbol_parts name h = (grind arith, grind arith)
 
 symbol_plain : (name : List ℕ) → is_symbol name ≡ true → is_plain name ≡ true
-symbol_plain name h =
-    and_from _ _ (symbol_parts name h).0
-    (weaker is_symbol_byte (λ byte. not (byte == 32)) (λ byte i. grind (arith, nat_tests)) name (symbol_parts name h).1)
+symbol_plain name h = grind (arith, nat_tests, and_from, symbol_parts, weaker)
 
 no_comma : (name : List ℕ) → is_symbol name ≡ true → lacks 44 name ≡ true
 no_comma name h =
-    weaker is_symbol_byte (λ byte. not (byte == 44)) (λ byte i. (and_parts (nat_le 33 byte && nat_le byte 126) _ i).1) name (symbol_parts name h).1
+    weaker is_symbol_byte (λ byte. not (byte == 44)) (λ byte i. grind (arith, nat_tests)) name (symbol_parts name h).1
 
 -- the text of symbols is a word
 joined_plain : (name : List ℕ) (names : List (List ℕ)) → list_all is_symbol (name ∷ names) ≡ true → is_plain (join_with_byte 44 (name ∷ names)) ≡ true
-joined_plain name [] h = symbol_plain name (and_parts (is_symbol name) _ h).0
+joined_plain name [] h = grind (arith, symbol_plain)
 joined_plain name (next ∷ names) h =
     let list : List ℕ = join_with_byte 44 (next ∷ names) in
-    let this = and_parts (nat_lt 0 (length name)) _ (symbol_plain name (and_parts (is_symbol name) _ h).0) in
-    let rest = and_parts (nat_lt 0 (length list)) _ (joined_plain next names (and_parts (is_symbol name) _ h).1) in
-    and_from _ _ (lt-ltb _ _ (omega (arith, length-append name (44 ∷ list))))
-    (list_all-append (λ byte. not (byte == 32)) name (44 ∷ list) ∙ and_from _ _ this.1 rest.1)
+    let whole = list_all-append (λ byte. not (byte == 32)) name (44 ∷ list) in
+    grind (arith, nat_tests, symbol_plain name, joined_plain next names, length-append name (44 ∷ list))
 
 symbols_spelled : (names : List (List ℕ)) → are_symbols names ≡ true
     → (symbols_of (join_with_byte 44 names) ≡ Some names) × (is_plain (join_with_byte 44 names) ≡ true)
 unfolding symbols_of
 symbols_spelled [] h = absurd (cc)
 symbols_spelled (name ∷ names) h =
-    let sound : list_all is_symbol (name ∷ names) ≡ true = (and_parts (nat_lt 0 (length (name ∷ names))) _ h).1 in
-    (rw (parts_joined 44 names name (weaker is_symbol (lacks 44) no_comma (name ∷ names) sound)) (rw sound refl), joined_plain name names sound)
+    grind (arith, nat_tests, parts_joined 44 names name, weaker is_symbol (lacks 44) no_comma (name ∷ names), joined_plain name names)
 
 -- ---- times
 
 pair_value : (n : ℕ) → n < 100
     → cond (is_ascii_digit (48 + n / 10) && is_ascii_digit (48 + n % 10)) (Some (10 * ((48 + n / 10) - 48) + ((48 + n % 10) - 48))) None
     ≡ Some n
-pair_value n small =
-    let value : 10 * ((48 + n / 10) - 48) + ((48 + n % 10) - 48) ≡ n = omega arith in
-    let tens : is_ascii_digit (48 + n / 10) ≡ true = grind (arith, nat_tests) in
-    let units : is_ascii_digit (48 + n % 10) ≡ true = grind (arith, nat_tests) in
-    rw (tens, units) (ap Some value)
+pair_value n small = grind (arith, nat_tests)
 
 clock_value : (h m s : ℕ) → h < 24 → m < 60 → s < 60 → clock_of (pair_text h ++ (58 ∷ pair_text m ++ (58 ∷ pair_text s))) ≡ Some (3600 * h + 60 * m + s)
 unfolding clock_of pair_at
-clock_value h m s hours minutes seconds =
-    rw (pair_value h (omega arith), pair_value m (omega arith), pair_value s (omega arith), lt-ltb _ _ hours, lt-ltb _ _ minutes, lt-ltb _ _ seconds) refl
+clock_value h m s hours minutes seconds = grind (arith, nat_tests, pair_value, lt-ltb)
 
 time_value : (t : ℕ) → t ≤ 86400 → time_of (clock_text t) ≡ Some t
 unfolding time_of clock_text
-time_value t within = elim (cases_lt t 86400) [
-  | inl before ↦
-      let text : List ℕ = pair_text (t / 3600) ++ (58 ∷ pair_text (t / 60 % 60) ++ (58 ∷ pair_text (t % 60))) in
-      let value : 3600 * (t / 3600) + 60 * (t / 60 % 60) + t % 60 ≡ t = omega arith in
-      let other : bytes_eq text (codes "24:00:00") ≡ false = false_from_ne_true _ (λ same.
-      let lists : text ≡ codes "24:00:00" = (bytes_eq-Decides text (codes "24:00:00")).0 same in
-      let tens : 48 + t / 3600 / 10 ≡ 50 = cc in
-      let units : 48 + t / 3600 % 10 ≡ 52 = cc in
-      absurd (omega arith)) in
-      rw other (clock_value (t / 3600) (t / 60 % 60) (t % 60) (omega arith) (omega arith) (omega arith) ∙ ap Some value)
-  | inr end ↦ let last : t ≡ 86400 = omega arith in rw last refl
-]
+time_value t within = grind (arith, nat_tests, cases_lt, false_from_ne_true, bytes_eq-Decides, clock_value)
 
 clock_plain : (t : ℕ) → is_plain (clock_text t) ≡ true
 unfolding clock_text
@@ -196,11 +166,10 @@ span_says : (said : Said) (span : Option Span) (kinds : Kinds) → ((some : Span
 span_says said None kinds bound some = kinds_say (record said { span = None }) kinds.e kinds.c kinds.p kinds.q some
 span_says said (Some span) kinds bound some =
     let rest = kinds_say (record said { span = Some span }) kinds.e kinds.c kinds.p kinds.q some in
-    let rises = (and_parts (nat_lt span.since span.until) _ (bound span refl)).0 in
-    let within : span.until ≤ 86400 = leb-true _ _ (and_parts (nat_lt span.since span.until) _ (bound span refl)).1 in
-    let before : span.since < span.until = ltb-true _ _ rises in
+    let sound = and_parts (nat_lt span.since span.until) _ (bound span refl) in
+    let within : (span.since < span.until) × (span.until ≤ 86400) = (ltb-true _ _ sound.0, leb-true _ _ sound.1) in
     record {
-      says = λ at. time refl (time_value span.since (omega arith)) (time_value span.until within) rises
+      says = λ at. time refl (time_value span.since (omega arith)) (time_value span.until within.1) sound.0
           (linked_says (codes "and") _ (kind_condition kinds) _ _ rest.says);
       plain = λ link l. rw (l, clock_plain span.since, clock_plain span.until, rest.plain (codes "and") refl) refl;
     }
@@ -235,8 +204,7 @@ moment_says what (Some last) conditions query at bound h =
     up_to (time_value last (bound last refl)) (linked_says (codes "where") (at_moment what (Some last)) conditions query _ h)
 
 moment_plain : (moment : Option ℕ) (rest : List (List ℕ)) → list_all is_plain rest ≡ true → list_all is_plain (moment_words moment ++ rest) ≡ true
-moment_plain None rest h = h
-moment_plain (Some last) rest h = and_from _ _ (clock_plain last) h
+moment_plain moment rest h = grind (arith, clock_plain)
 
 what_means : (what : What) (rest : List (List ℕ)) (query : Meaning) → ((n : ℕ) → what ≡ Bars n → is_width n ≡ true) → list_all is_plain rest ≡ true
     → ((at : ℕ) → Moment (only what) (words_of_parts at rest) query) → Means (words_of (join_with_byte 32 (what_words what ++ rest))) query

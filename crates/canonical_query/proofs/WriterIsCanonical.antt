@@ -1,5 +1,5 @@
 -- A text that is written word by word is the canonical one.
-use Rattle.std.proofs.Common.{◌≡◌, ℕ, zero, suc, ◌+◌, ◌<◌, ◌≤◌, nat_lt, cond, List, [], ◌∷◌, ◌++◌, length, take, get_or, Option, Some, refl, sym, ap, ◌∙◌}
+use Rattle.std.proofs.Common.{◌≡◌, ℕ, zero, suc, ◌+◌, ◌<◌, ◌≤◌, nat_lt, cond, List, [], ◌∷◌, ◌++◌, length, take, get_or, Option, Some, refl, sym, ap}
 use Rattle.std.proofs.Common.{arith, append_assoc, append-nil, codes, decimal}
 use Rattle.std.specs.List.{join_with_byte}
 use Rattle.std.proofs.lemmas.Grind.{flat_map-append}
@@ -20,18 +20,14 @@ joined_is first [] = sym (append-nil first)
 joined_is first (second ∷ rest) = ap (λ ys. first ++ (32 ∷ ys)) (joined_is second rest)
 
 joined_more : (first : List ℕ) (rest more : List (List ℕ)) → join_with_byte 32 ((first ∷ rest) ++ more) ≡ join_with_byte 32 (first ∷ rest) ++ spaced more
-joined_more first rest more =
-    simp (joined_is, append_assoc) (ap (λ ys. first ++ ys) (flat_map-append (λ bytes. 32 ∷ bytes) rest more))
+joined_more first rest more = grind (arith, nat_tests, joined_is, append_assoc, flat_map-append)
 
 and_stays : (conditions : List (List (List ℕ))) → next_link (codes "and") conditions ≡ codes "and"
-and_stays [] = refl
-and_stays (c ∷ cs) = refl
+and_stays conditions = grind arith
 
 linked-append : (link : List ℕ) (a b : List (List (List ℕ))) → linked link (a ++ b) ≡ linked link a ++ linked (next_link link a) b
 linked-append link [] b = refl
-linked-append link (c ∷ cs) b =
-    ap (λ ws. (link ∷ c) ++ ws) (linked-append (codes "and") cs b ∙ ap (λ l. linked (codes "and") cs ++ linked l b) (and_stays cs))
-    ∙ sym (append_assoc (link ∷ c) (linked (codes "and") cs) (linked (codes "and") b))
+linked-append link (c ∷ cs) b = grind (arith, append_assoc c, and_stays cs, linked-append (codes "and") cs b)
 
 what_more : (what : What) (more : List (List ℕ)) → join_with_byte 32 (what_words what ++ more) ≡ join_with_byte 32 (what_words what) ++ spaced more
 what_more Sales more = joined_more (codes "sales") [] more
@@ -64,17 +60,14 @@ span_text text link span times e = rw (e, in_order_seven, append-nil)
 
 joined_push : (xs : List (List ℕ)) (x y : List ℕ) → join_with_byte 44 ((x ∷ xs) ++ y ∷ []) ≡ join_with_byte 44 (x ∷ xs) ++ (44 ∷ y)
 joined_push [] x y = refl
-joined_push (z ∷ zs) x y =
-    ap (λ ys. x ++ (44 ∷ ys)) (joined_push zs z y) ∙ sym (append_assoc x (44 ∷ join_with_byte 44 (z ∷ zs)) (44 ∷ y))
+joined_push (z ∷ zs) x y = grind (arith, append_assoc x, joined_push zs z y)
 
 -- one name more stands after a comma, if it isn't the first
 pub joined_next : (names : List (List ℕ)) (i : ℕ) (name : List ℕ) → i < length names → name ≡ get_or names i name
     → join_with_byte 44 (take (i + 1) names) ≡ join_with_byte 44 (take i names) ++ cond (nat_lt 0 i) (44 ∷ name) name
 joined_next [] i name within is = absurd (omega arith)
 joined_next (x ∷ xs) zero name within is = sym is
-joined_next (x ∷ xs) (suc i) name within is =
-    rw (lt-ltb 0 (suc i) (omega arith))
-    (ap (join_with_byte 44) (take_more (x ∷ xs) (suc i) name within ∙ ap (λ y. take (suc i) (x ∷ xs) ++ y ∷ []) (sym is)) ∙ joined_push (take i xs) x name)
+joined_next (x ∷ xs) (suc i) name within is = let next = take_more (x ∷ xs) (suc i) name within in grind (arith, joined_push (take i xs) x name, lt-ltb)
 
 -- times that a query has are no later than the day's end
 pub span_fits : {listed : What} {moment : Option ℕ} {names : Option (List (List ℕ))} {times : Option Span} → IsSound listed moment names times

@@ -26,21 +26,18 @@ impl<'s, W: Work + 's, G: Gate, R: Threads + Wait + Sync> Pipeline<'s, W, G, R> 
         workers: u32,
         own: Sender<Piece<W>>,
         others: &Vec<Gatherer<W>>,
-    )
+    ) -> Option<()>
         requires some_task { 0 < length (arc_value self.now.inputs) }
         requires workers { (0 < workers) × (workers ≤ MOST_WORKERS) }
     {
-        let Ok((dispatcher, mut seats)) = Dispatcher::new(self.alloc, self.inputs.count(), workers)
-        else {
-            return;
-        };
-        let Ok(dispatcher) = Arc::new(self.alloc, dispatcher) else {
-            return;
-        };
+        let tasks = self.inputs.count();
+        let (dispatcher, mut seats) = Dispatcher::new(self.alloc, tasks, workers).ok()?;
+        let dispatcher = Arc::new(self.alloc, dispatcher).ok()?;
         while let Some(seat) = seats.pop() {
             let to = channel_of(seats.len(), &own, others);
             self.start_worker(scope, &dispatcher, seat, to);
         }
+        Some(())
     }
 
     /// Starts one worker, if it can be started.
@@ -50,37 +47,34 @@ impl<'s, W: Work + 's, G: Gate, R: Threads + Wait + Sync> Pipeline<'s, W, G, R> 
         dispatcher: &Arc<Dispatcher, Global>,
         mut seat: Seat,
         to: &Sender<Piece<W>>,
-    )
+    ) -> Option<()>
         requires tasks { tasks_of (arc_value dispatcher.now) ≡ length (arc_value self.now.inputs) }
         requires own { IsSeatOf (arc_value dispatcher.now) seat }
         requires unused { IsUnused seat }
     {
-        let Ok(dispatcher) = Arc::try_clone(dispatcher) else {
-            return;
-        };
-        let Ok(inputs) = Arc::try_clone(&self.inputs) else {
-            return;
-        };
-        let Ok(to) = to.clone() else {
-            return;
-        };
+        let dispatcher = Arc::try_clone(dispatcher).ok()?;
+        let inputs = Arc::try_clone(&self.inputs).ok()?;
+        let to = to.clone().ok()?;
         let (alloc, number, gate) = (self.alloc, self.number, self.gate);
         let mut port = ChannelPort::new(self.rt, to);
-        let _ = scope.spawn(
-            move || -> u32
-                requires { (tasks_of (arc_value dispatcher) ≡ length (arc_value inputs))
-                    × IsSeatOf (arc_value dispatcher) seat × IsUnused seat }
-            {
-                work(
-                    alloc,
-                    &*dispatcher,
-                    &mut seat,
-                    &*inputs,
-                    &mut port,
-                    number,
-                    gate,
-                )
-            },
-        );
+        scope
+            .spawn(
+                move || -> u32
+                    requires { (tasks_of (arc_value dispatcher) ≡ length (arc_value inputs))
+                        × IsSeatOf (arc_value dispatcher) seat × IsUnused seat }
+                {
+                    work(
+                        alloc,
+                        &*dispatcher,
+                        &mut seat,
+                        &*inputs,
+                        &mut port,
+                        number,
+                        gate,
+                    )
+                },
+            )
+            .ok()?;
+        Some(())
     }
 }

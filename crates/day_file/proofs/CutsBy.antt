@@ -5,6 +5,7 @@ use Rattle.std.proofs.Math.Seq.{drop-append_seam, take-append_seam, take-length}
 use Rattle.std.specs.List.{concat}
 use Rattle.std.proofs.lemmas.List.{append-nil, drop_all, drop_at, drop-drop, length-append, length-drop, length-take, length-take-le, take_at, take-append-drop, take-take, take_more}
 use Rattle.std.proofs.lemmas.List.Elements.{All-cons, All-nil, All-tail, All-take}
+use Rattle.std.proofs.lemmas.Result.{err_from_is_err_and}
 use Rattle.lists.proofs.Lists.{length-concat_push}
 use Rattle.day_file.specs.Frames.{PlacedBody, spelling, IsShort, IsWhole}
 use Rattle.day_file.specs.Cuts.{IsRun, IsCutBy, HasNoShorter, but_last}
@@ -16,8 +17,7 @@ use Rattle.day_file.proofs.Readings.{AreShort, length-spelling}
 -- ---- all runs but the last
 
 pub but_last_more : (first : List ℕ) (runs : List (List ℕ)) → 0 < length runs → but_last (first ∷ runs) ≡ first ∷ but_last runs
-but_last_more first runs h =
-    let n : length (first ∷ runs) - 1 ≡ suc (length runs - 1) = omega (arith, h) in ap (λ k. take k (first ∷ runs)) n
+but_last_more first runs h = grind arith
 
 pub but_last_push : (runs : List (List ℕ)) (last : List ℕ) → but_last (runs ++ last ∷ []) ≡ runs
 but_last_push runs last =
@@ -144,7 +144,8 @@ pub Begun-more : {target start n : ℕ} {front : List (List ℕ)} {bytes : List 
 Begun-more {target} {start} {n} {front} {bytes} b f =
     let tail = drop start bytes in
     let run = take n tail in
-    let full : 0 < length (drop n tail) → target ≤ length run = λ h. omega (arith, f.full (omega (arith, h, length-drop n tail)), length-take-le n tail f.within) in
+    let full : 0 < length (drop n tail) → target ≤ length run = λ h. omega
+    (arith, f.full (omega (arith, h, length-drop n tail)), length-take-le n tail f.within) in
     record {
       within = omega (arith, f.within, length-drop start bytes, b.within);
       whole = IsWhole-further start n bytes b.whole f.run.whole;
@@ -155,6 +156,8 @@ Begun-more {target} {start} {n} {front} {bytes} b f =
 
 pub Begun-all : {target start : ℕ} {front : List (List ℕ)} {bytes : List ℕ} → Begun target start front bytes → length bytes ≤ start → IsCutBy target front bytes
 Begun-all {target} {start} {front} {bytes} b h = rw append-nil at (b.cut [] (rw (drop_all start bytes h) (cut_none target)))
+
+pub ruleset begun = (Begun-none, peeled, length-append, err_from_is_err_and)
 
 -- ---- how long a run is
 

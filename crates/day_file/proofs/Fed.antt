@@ -35,9 +35,7 @@ truncated_after_full target full rest place h t =
 -- whole frames that are shorter than the target are their own cut
 cut_of_rest : (target : ℕ) (rest : List ℕ) → IsWhole rest → length rest < target → IsCutBy target (rest_run rest) rest
 cut_of_rest target [] w below = cut_none target
-cut_of_rest target (b ∷ rest) w below =
-    rw append-nil at (cut_more target (b ∷ rest) [] [] (record { some = omega arith; whole = w }) (λ m less _. omega (arith, less, below))
-    (λ h. absurd (omega (arith, h))) (cut_none target))
+cut_of_rest target (b ∷ rest) w below = grind (arith, append-nil, cut_more, cut_none)
 
 -- ---- what was fed
 
@@ -152,14 +150,7 @@ module _ (v : CutterView) (end : ℕ) (f : IsFirstRun v.target end v.rest) (h : 
 
 -- so the cutter goes on
 pub Taken-cutting : (whole end : ℕ) (old new : CutterView) → IsCutting old whole → IsTaken end old new → end ≤ length old.rest → IsCutting new 0
-Taken-cutting whole end old new c t h = record {
-  fed = c.fed;
-  has = t.fed c.fed c.has;
-  below = omega (arith, t.target, c.below);
-  within = omega arith;
-  front = IsWhole-nil;
-  bound = omega (arith, t.bytes, c.bound, ap length t.rest, length-drop end old.rest, h);
-}
+Taken-cutting whole end old new c t h = grind (arith, IsWhole-nil, length-drop)
 
 -- ---- the full runs are taken out
 
@@ -173,8 +164,7 @@ Cutting-rest v whole c none =
 -- ---- a piece is fed
 
 pub HasFed-more : (v : CutterView) (fed piece : List ℕ) → HasFed v fed → HasFed (record v { rest = v.rest ++ piece }) (fed ++ piece)
-HasFed-more v fed piece h =
-    record { beyond = h.beyond; full = h.full; past = h.past; most = h.most; joined = rw h.joined (append_assoc (concat (v.cut ++ h.beyond)) v.rest piece) }
+HasFed-more v fed piece h = grind (arith, append_assoc)
 
 -- a piece was appended, or refused
 pub Cutting-grown : (b : Bool) (whole : ℕ) (v : CutterView) (piece grown : List ℕ) → IsCutting v whole → grown ≡ (if b then v.rest ++ piece else v.rest)

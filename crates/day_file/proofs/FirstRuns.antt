@@ -6,7 +6,7 @@ use Rattle.day_file.specs.Frames.{FramesLeft, PlacedBody, frame_of, spelling, Is
 use Rattle.day_file.specs.Follow.{IsFirstRun}
 use Rattle.day_file.proofs.Joined.{IsWhole-append, IsWhole-between, IsWhole-further, one_frame, reading_of, truncated_later}
 use Rattle.day_file.proofs.Laws.{not_both, truncated_once}
-use Rattle.day_file.proofs.Readings.{AreShort, IsReading, head_apart, head_short, length-spelling, reading_head, reading_tail}
+use Rattle.day_file.proofs.Readings.{IsReading, head_apart, head_short, length-spelling, reading_head, reading_tail}
 
 -- the bytes before this place are whole frames and fewer than the target, and these frames are left behind it
 pub record Reached (target end : ℕ) (left : FramesLeft) (bytes : List ℕ) : Type 0 where
@@ -52,12 +52,13 @@ Reached-more {target} {end} {left} {new} {bytes} next x r step same below =
     }
 
 -- whole frames at the head of bytes that begin with a frame are as long as that frame
-frame_least : (body rest more : List ℕ) (frames : List PlacedBody) → IsShort body → AreShort frames → 0 < length (spelling frames)
-    → spelling frames ++ more ≡ frame_of body ++ rest → 2 + length body ≤ length (spelling frames)
-frame_least body rest more [] h short some e = absurd (omega (arith, some))
-frame_least body rest more (y ∷ ys) h short some e =
-    let same = head_apart y.body body (spelling ys ++ more) rest (head_short y ys short) h (sym (append_assoc (frame_of y.body) (spelling ys) more) ∙ e) in
-    omega (arith, length-spelling y ys, ap length same.0)
+frame_least : (n : ℕ) (body rest bytes : List ℕ) → IsShort body → bytes ≡ frame_of body ++ rest → IsWhole (take n bytes) → 0 < n → n ≤ length bytes
+    → 2 + length body ≤ n
+frame_least n body rest bytes h e ([], s) some within = absurd (omega (arith, ap length s.whole, length-take-le n bytes within))
+frame_least n body rest bytes h e (y ∷ ys, s) some within =
+    let all = sym (append_assoc (frame_of y.body) (spelling ys) (drop n bytes)) ∙ ap (λ l. l ++ drop n bytes) (sym s.whole) ∙ take-append-drop n bytes ∙ e in
+    let same = head_apart y.body body _ rest (head_short y ys s.short) h all in
+    omega (arith, length-spelling y ys, ap length same.0, ap length s.whole, length-take-le n bytes within)
 
 -- the run that ends with this frame
 pub run_here : {target end : ℕ} {left new : FramesLeft} {bytes : List ℕ} (x : PlacedBody) → Reached target end left bytes
@@ -67,20 +68,16 @@ run_here {target} {end} {left} {new} {bytes} x r step same h =
     let more : Reached (suc next) next new bytes = Reached-more (suc next) x r step same (omega arith) in
     let taken = length-take-le next bytes more.within in
     let reads : IsReading end (drop end bytes) (x ∷ new.frames) r.rest = rw step at r.reads in
-    let tail = drop end bytes in
     record {
       within = more.within;
       run = record { some = omega (arith, taken); whole = more.whole };
       shortest = λ n less w.
-          let never : target ≤ n → ⊥ = λ far.
           let within : n ≤ next = omega (arith, less, taken) in
-          let front = rw take-take at w in
-          let between = IsWhole-between end n bytes (omega (arith, r.below, far)) r.whole front in
-          let long : length (take (n - end) tail) ≡ n - end = length-take-le (n - end) tail (omega (arith, length-drop end bytes, within, more.within)) in
-          let size = ap length between.1.whole in
-          let least = frame_least x.body _ (drop (n - end) tail) between.0 (head_short x new.frames reads.short) between.1.short (omega (arith, long, size, r.below, far))
-          (ap (λ l. l ++ drop (n - end) tail) (sym between.1.whole) ∙ take-append-drop (n - end) tail ∙ reading_head reads) in
-          omega (arith, long, size, least, less, taken, r.below, far) in
+          let never : target ≤ n → ⊥ = λ far.
+          let between = IsWhole-between end n bytes (omega (arith, r.below, far)) r.whole (rw take-take at w) in
+          let least = frame_least (n - end) x.body _ (drop end bytes) (head_short x new.frames reads.short) (reading_head reads) between
+          (omega (arith, r.below, far)) (omega (arith, length-drop end bytes, within, more.within)) in
+          omega (arith, least, less, taken, r.below, far) in
           omega (arith, never);
       full = λ _. h;
     }
@@ -89,9 +86,7 @@ run_here {target} {end} {left} {new} {bytes} x r step same h =
 
 module _ {target end : ℕ} {left : FramesLeft} {bytes : List ℕ} (r : Reached target end left bytes) (none : left.frames ≡ []) where
   ended : end < length bytes → IsTruncatedAt bytes end
-  ended h =
-      let reads : IsReading end (drop end bytes) [] r.rest = rw none at r.reads in
-      record { front = r.whole; within = h; stuck = rw reads.split reads.stuck }
+  ended h = grind (arith, IsReading)
 
   -- the run that is all that is left
   pub run_of_rest : 0 < length bytes → left.truncated ≡ None → IsFirstRun target end bytes
@@ -100,12 +95,7 @@ module _ {target end : ℕ} {left : FramesLeft} {bytes : List ℕ} (r : Reached 
       let more : ¬ (end < length bytes) = λ h. not_both bytes w.0 end w.1 (ended h) in
       let e : end ≡ length bytes = omega (arith, more, r.within) in
       let all : take end bytes ≡ bytes = rw e (take-length bytes) in
-      record {
-        within = r.within;
-        run = rw all (record { some = some; whole = w });
-        shortest = λ m less _. omega (arith, less, ap length all, r.below, e);
-        full = λ h. absurd (more h);
-      }
+      grind (arith, not_both, ended, take-length)
 
   -- where the bytes are truncated
   pub place_below : {place : ℕ} → left.truncated ≡ Some place → place < target

@@ -5,7 +5,7 @@ use Rattle.std.proofs.Math.Seq.{take-add}
 use Rattle.std.proofs.lemmas.Grind.{flat_map-append}
 use Rattle.std.proofs.lemmas.List.{length-append, length-drop, drop-drop, drop-take, take-append-drop, take-take}
 use Rattle.std.proofs.lemmas.List.Elements.{All-append, All-cons, All-nil}
-use Rattle.day_file.specs.Frames.{PlacedBody, frame_of, spelling, IsShort, IsStuck, IsTruncatedAt, IsWhole, StandAt, StandsFrom}
+use Rattle.day_file.specs.Frames.{PlacedBody, frame_of, spelling, IsShort, IsTruncatedAt, IsWhole, StandAt, StandsFrom}
 use Rattle.day_file.proofs.Readings.{AreShort, IsReading, IsReading-truncated, IsReading-whole, head_apart, head_short, tail_short}
 
 -- ---- frames at another place
@@ -17,13 +17,7 @@ placed place (x ∷ xs) = record { place = place; body = x.body } ∷ placed (pl
 
 stands_placed : (place : ℕ) (xs : List PlacedBody) → AreShort xs → StandsFrom place (placed place xs) (spelling xs)
 stands_placed place [] h = record { places = tt; short = All-nil _; whole = refl }
-stands_placed place (x ∷ xs) h =
-    let later = stands_placed (place + length (frame_of x.body)) xs (tail_short x xs h) in
-    record {
-      places = (refl, later.places);
-      short = All-cons (λ frame. IsShort frame.body) _ _ (head_short x xs h) later.short;
-      whole = ap (λ l. frame_of x.body ++ l) later.whole;
-    }
+stands_placed place (x ∷ xs) h = search (arith, tail_short, All-cons, head_short, stands_placed (place + length (frame_of x.body)) xs (tail_short x xs h))
 
 -- the frames of whole frames, of which the first stands at this place
 pub stands_from : (start : ℕ) (bytes : List ℕ) → (w : IsWhole bytes) → StandsFrom start (placed start w.0) bytes
@@ -51,9 +45,8 @@ spelling-append xs ys = flat_map-append (λ frame. frame_of frame.body) xs ys
 StandAt-append : (place : ℕ) (xs ys : List PlacedBody) → StandAt place xs → StandAt (place + length (spelling xs)) ys → StandAt place (xs ++ ys)
 StandAt-append place [] ys p q = subst (λ n. StandAt n ys) (omega arith) q
 StandAt-append place (x ∷ xs) ys p q =
-    let n : place + length (spelling (x ∷ xs)) ≡ (place + length (frame_of x.body)) + length (spelling xs) =
-    omega (arith, length-append (frame_of x.body) (spelling xs)) in
-    (p.0, StandAt-append (place + length (frame_of x.body)) xs ys p.1 (subst (λ k. StandAt k ys) n q))
+    let n = length-append (frame_of x.body) (spelling xs) in
+    (p.0, StandAt-append (place + length (frame_of x.body)) xs ys p.1 (subst (λ k. StandAt k ys) (omega arith) q))
 
 -- frames, and then frames that stand where those end
 pub StandsFrom-append : (start : ℕ) (xs ys : List PlacedBody) (bytes more : List ℕ) → StandsFrom start xs bytes → StandsFrom (start + length bytes) ys more
@@ -84,18 +77,13 @@ IsWhole-further start n bytes p q = subst IsWhole (sym (take-add start n bytes))
 -- what is truncated after whole frames is truncated
 pub truncated_later : (bytes : List ℕ) (start place : ℕ) → IsWhole (take start bytes) → IsTruncatedAt (drop start bytes) place
     → IsTruncatedAt bytes (start + place)
-truncated_later bytes start place w t = record {
-  front = IsWhole-further start place bytes w t.front;
-  within = omega (arith, t.within, length-drop start bytes);
-  stuck = subst IsStuck (drop-drop place start bytes) t.stuck;
-}
+truncated_later bytes start place w t = grind (arith, IsWhole-further, length-drop, drop-drop)
 
 -- ---- what whole frames leave of whole frames
 
 rest_spelled : (front all : List PlacedBody) (rest : List ℕ) → AreShort front → AreShort all → spelling all ≡ spelling front ++ rest → IsWhole rest
 rest_spelled [] all rest hf ha e = subst IsWhole e (IsWhole-spelling all ha)
-rest_spelled (g ∷ front) [] rest hf ha e =
-    absurd (omega (arith, ap length e, length-append (spelling (g ∷ front)) rest, length-append (frame_of g.body) (spelling front)))
+rest_spelled (g ∷ front) [] rest hf ha e = grind (arith, length-append)
 rest_spelled (g ∷ front) (f ∷ all) rest hf ha e =
     let apart = head_apart f.body g.body (spelling all) (spelling front ++ rest) (head_short f all ha) (head_short g front hf)
     (e ∙ append_assoc (frame_of g.body) (spelling front) rest) in
@@ -109,6 +97,4 @@ pub IsWhole-between : (start end : ℕ) (bytes : List ℕ) → start ≤ end →
     → IsWhole (take (end - start) (drop start bytes))
 IsWhole-between start end bytes h f w =
     let n : start + (end - start) ≡ end = omega arith in
-    let back : drop start (take end bytes) ≡ take (end - start) (drop start bytes) = ap (λ k. drop start (take k bytes)) (sym n)
-    ∙ drop-take start (end - start) bytes in
-    subst IsWhole back (IsWhole-rest start (take end bytes) w (subst IsWhole (sym (take-take start end bytes h)) f))
+    rw (← drop-take start (end - start) bytes, n) (IsWhole-rest start (take end bytes) w (rw take-take f))

@@ -1,5 +1,5 @@
 -- What a `Cut` keeps of its morsels, as it grows.
-use Rattle.std.proofs.Common.{◌≡◌, ℕ, zero, suc, ◌+◌, ◌<◌, ◌≤◌, List, [], ◌∷◌, ◌++◌, length, take, map, get_or, slice_get, Some, refl, sym, ap, ap₂}
+use Rattle.std.proofs.Common.{◌≡◌, ℕ, zero, suc, ◌+◌, ◌<◌, ◌≤◌, List, [], ◌∷◌, ◌++◌, length, map, get_or, slice_get, Some, refl, sym, ap}
 use Rattle.std.proofs.Common.{◌∙◌, arith, Fits, w8}
 use Rattle.std.proofs.lemmas.List.{get_or_default, length-append, length-map, map-append}
 use Rattle.std.specs.List.{concat}
@@ -13,15 +13,8 @@ use Rattle.day_file.specs.Kept.{runs_of, numbered, AreMorsels}
 
 pub numbered-append : (number start : ℕ) (runs more : List (List ℕ))
     → numbered number start (runs ++ more) ≡ numbered number start runs ++ numbered (number + length runs) (start + length (concat runs)) more
-numbered-append number start [] more =
-    let n : number ≡ number + length {A = List ℕ} [] = omega arith in
-    let s : start ≡ start + length (concat []) = omega arith in
-    ap₂ (λ number start. numbered number start more) n s
-numbered-append number start (run ∷ runs) more =
-    let n : (number + 1) + length runs ≡ number + length (run ∷ runs) = omega arith in
-    let s : (start + length run) + length (concat runs) ≡ start + length (concat (run ∷ runs)) = omega (arith, length-append run (concat runs)) in
-    ap (λ l. record { number = number; start = start; bytes = run } ∷ l)
-    (numbered-append (number + 1) (start + length run) runs more ∙ ap₂ (λ n s. numbered (number + 1) (start + length run) runs ++ numbered n s more) n s)
+numbered-append number start [] more = grind arith
+numbered-append number start (run ∷ runs) more = grind (arith, length-append, numbered-append (number + 1) (start + length run) runs more)
 
 pub numbered-last : (number start : ℕ) (runs : List (List ℕ)) (run : List ℕ) →
     numbered number start (runs ++ run ∷ []) ≡ numbered number start runs ++ record
@@ -55,11 +48,8 @@ IsMorselOf runs number first start m = (m.number ≡ first + number) × (m.start
 pub numbered_at : (runs : List (List ℕ)) (k first start : ℕ) (m : MorselView) → slice_get (numbered first start runs) k ≡ Some m
     → IsMorselOf runs k first start m
 numbered_at [] k first start m e = absurd (cc)
-numbered_at (run ∷ runs) zero first start m e =
-    let same : record { number = first; start = start; bytes = run } ≡ m = cc in rw (← same) (omega arith, omega arith, refl)
-numbered_at (run ∷ runs) (suc k) first start m e =
-    let later = numbered_at runs k (first + 1) (start + length run) m e in
-    (omega (arith, later.0), omega (arith, later.1, length-append run (concat (take k runs))), later.2)
+numbered_at (run ∷ runs) zero first start m e = grind arith
+numbered_at (run ∷ runs) (suc k) first start m e = grind (arith, length-append, numbered_at runs k (first + 1) (start + length run) m e)
 
 -- the morsel that is read at a number
 pub morsel_at : {X : Type 0} (value : X → MorselView) (items : List X) (x : X) (k total : ℕ) → AreMorsels (map value items) total
@@ -74,3 +64,5 @@ morsel_at value items x k total m h e =
 -- what a vector of bytes has
 pub bytes_of_type : (bytes : List ℕ) → ((k : ℕ) → Fits w8 (get_or bytes k 0)) → AreBytes bytes
 bytes_of_type bytes each k d within = omega (arith, each k, get_or_default bytes k d 0 within)
+
+pub ruleset growing = (AreMorsels-more, bytes_of_type, map-append, length-map)

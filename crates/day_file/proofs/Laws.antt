@@ -1,10 +1,9 @@
 -- What follows for the frames of a file.
-use Rattle.std.proofs.Common.{◌≡◌, ℕ, ◌+◌, ◌<◌, ◌≤◌, List, [], ◌∷◌, ◌++◌, length, All, Less, nat_cmp, sym, ap, subst, arith}
+use Rattle.std.proofs.Common.{◌≡◌, ℕ, ◌+◌, ◌≤◌, List, [], ◌∷◌, ◌++◌, length, All, Less, nat_cmp, sym, ap, subst, arith}
 use Rattle.std.specs.Cmp.{nat_cmp_is}
-use Rattle.std.specs.List.{AllByRecursion}
 use Rattle.std.specs.List.Sorted.{IsStrictlySortedBy}
 use Rattle.std.proofs.lemmas.List.{length-append, length-drop}
-use Rattle.std.proofs.lemmas.List.Elements.{All-cons, All-nil}
+use Rattle.std.proofs.lemmas.List.Elements.{All-cons, All-nil, recursion_from_All}
 use Rattle.day_file.specs.Frames.{PlacedBody, frame_of, spelling, StandAt, StandsFor, IsTruncatedAt}
 use Rattle.day_file.proofs.Readings.{same_reading, IsReading-whole, IsReading-truncated, length-spelling}
 
@@ -14,16 +13,18 @@ use Rattle.day_file.proofs.Readings.{same_reading, IsReading-whole, IsReading-tr
 pub StandAt-split : (place : ℕ) (xs ys : List PlacedBody) → StandAt place (xs ++ ys) → StandAt place xs × StandAt (place + length (spelling xs)) ys
 StandAt-split place [] ys p = (tt, subst (λ n. StandAt n ys) (omega arith) p)
 StandAt-split place (x ∷ xs) ys p =
-    let n : (place + length (frame_of x.body)) + length (spelling xs) ≡ place + length (spelling (x ∷ xs)) =
-    omega (arith, length-append (frame_of x.body) (spelling xs)) in
     let q = StandAt-split (place + length (frame_of x.body)) xs ys p.1 in
-    ((p.0, q.0), subst (λ k. StandAt k ys) n q.1)
+    ((p.0, q.0), subst (λ n. StandAt n ys) (omega (arith, length-append (frame_of x.body) (spelling xs))) q.1)
 
-later_places : (least place : ℕ) (xs : List PlacedBody) → least < place → StandAt place xs → AllByRecursion (λ y. nat_cmp least y.place ≡ Less) xs
-later_places least place [] h p = tt
-later_places least place (x ∷ xs) h p =
-    let below : least < x.place = omega (arith, p.0) in
-    (sym (nat_cmp_is least x.place Less below), later_places least (place + length (frame_of x.body)) xs (omega (arith, h)) p.1)
+-- frames begin and end between their place and where they end
+spans : (place : ℕ) (xs : List PlacedBody) → StandAt place xs
+    → All (λ frame. (place ≤ frame.place) × (frame.place + 2 + length frame.body ≤ place + length (spelling xs))) xs
+spans place [] p = All-nil _
+spans place (x ∷ xs) p =
+    let n = length-spelling x xs in
+    let later = spans (place + length (frame_of x.body)) xs p.1 in
+    All-cons (λ frame. (place ≤ frame.place) × (frame.place + 2 + length frame.body ≤ place + length (spelling (x ∷ xs)))) x xs
+    (omega (arith, p.0), omega (arith, p.0, n)) (λ k d h. let one = later k d h in (omega (arith, one.0), omega (arith, one.1, n)))
 
 -- the places of frames rise
 pub places_rise : (place : ℕ) (xs : List PlacedBody) → StandAt place xs → IsStrictlySortedBy (λ a b. nat_cmp a.place b.place) xs
@@ -31,20 +32,13 @@ unfolding IsStrictlySortedBy
 places_rise place [] p = tt
 places_rise place (x ∷ xs) p =
     let next = place + length (frame_of x.body) in
-    (later_places x.place next xs (omega (arith, p.0)) p.1, places_rise next xs p.1)
-
-ends_by : (end place : ℕ) (xs : List PlacedBody) → place + length (spelling xs) ≤ end → StandAt place xs
-    → All (λ frame. frame.place + 2 + length frame.body ≤ end) xs
-ends_by end place [] h p = All-nil _
-ends_by end place (x ∷ xs) h p =
-    let n = length-spelling x xs in
-    All-cons (λ frame. frame.place + 2 + length frame.body ≤ end) x xs (omega (arith, p.0, h, n))
-    (ends_by end (place + length (frame_of x.body)) xs (omega (arith, h, n)) p.1)
+    let later = spans next xs p.1 in
+    (recursion_from_All _ xs (λ k d h. sym (nat_cmp_is x.place _ Less (omega (arith, p.0, later k d h)))), places_rise next xs p.1)
 
 -- each frame of a file ends within it
 pub frames_within : (bytes : List ℕ) (frames : List PlacedBody) → StandsFor frames bytes
     → All (λ frame. frame.place + 2 + length frame.body ≤ length bytes) frames
-frames_within bytes frames s = ends_by (length bytes) 0 frames (omega (arith, ap length s.whole)) s.places
+frames_within bytes frames s k d h = omega (arith, ap length s.whole, spans 0 frames s.places k d h)
 
 -- ---- one reading
 

@@ -63,12 +63,7 @@ module _ {place : ℕ} {bytes : List ℕ} {x : PlacedBody} {xs : List PlacedBody
 pub reading_more : {next : ℕ} {after : List ℕ} {frames : List PlacedBody} {rest : List ℕ} (place : ℕ) (bytes body : List ℕ) → bytes ≡ frame_of body ++ after
     → IsShort body → next ≡ place + (2 + length body) → IsReading next after frames rest
     → IsReading place bytes (record { place = place; body = body } ∷ frames) rest
-reading_more {next} {after} {frames} {rest} place bytes body e h n r = record {
-  places = (refl, subst (λ k. StandAt k frames) (omega (arith, n)) r.places);
-  short = All-cons (λ frame. IsShort frame.body) _ frames h r.short;
-  split = e ∙ ap (λ l. frame_of body ++ l) r.split ∙ sym (append_assoc (frame_of body) (spelling frames) rest);
-  stuck = r.stuck;
-}
+reading_more {next} {after} {frames} {rest} place bytes body e h n r = grind (arith, All-cons, append_assoc)
 
 -- bytes have one reading
 pub same_reading : (xs ys : List PlacedBody) {place : ℕ} {bytes r s : List ℕ} → IsReading place bytes xs r → IsReading place bytes ys s → (xs ≡ ys) × (r ≡ s)

@@ -27,10 +27,7 @@ first_length-some bytes size e = grind (arith, nat_tests)
 
 -- a frame tells the length of its body
 first_length-frame : (body rest : List ℕ) → IsShort body → first_length (frame_of body ++ rest) ≡ Some (length body)
-first_length-frame body rest h =
-    let told = length_told body rest h in
-    let n = length-append body rest in
-    grind (arith, nat_tests)
+first_length-frame body rest h = grind (arith, length_told, length-append, nat_tests)
 
 two_bytes : (high low n : ℕ) → high < 256 → low < 256 → high * 256 + (low * 1 + 0) ≡ n → (high ≡ n / 256 % 256) × (low ≡ n % 256) × (n < 2 ^ 16)
 two_bytes high low n p q e = (omega arith, omega arith, omega arith)
@@ -82,8 +79,7 @@ left_of-reading place bytes frames rest b r =
     let walked = walk_reads place bytes b in
     let same = (same_reading (walk (length bytes) place bytes) frames walked.1 r).0 in
     let left : drop (length (spelling frames)) bytes ≡ rest = rw r.split (drop-append_seam (spelling frames) rest) in
-    (λ i. record { frames = same i; truncated = place_if_any (place + length (spelling (same i))) (drop (length (spelling (same i))) bytes) })
-    ∙ (λ i. record { frames = frames; truncated = place_if_any (place + length (spelling frames)) (left i) })
+    grind (arith, walk_reads, same_reading, drop-append_seam)
 
 walk_each : (most start : ℕ) (all : List PlacedBody) → length (spelling all) ≤ most → AreShort all → StandAt start all → walk most start (spelling all) ≡ all
 walk_each zero start [] n h p = refl
@@ -112,17 +108,10 @@ walk_truncated start bytes count b t =
 -- ---- what stands behind the frames
 
 reading_ends : (start : ℕ) (bytes : List ℕ) (frames : List PlacedBody) (rest : List ℕ) → IsReading start bytes frames rest
-    → MatchOption (place_if_any (start + length (spelling frames)) rest) (IsWhole bytes) (λ end. (count : ℕ) × (end ≡ start + count) × IsTruncatedAt bytes count)
+    → MatchOption (place_if_any (start + length (spelling frames)) rest) (IsWhole bytes)
+    (λ end. (count : ℕ) × (end ≡ start + count) × IsTruncatedAt bytes count)
 reading_ends start bytes frames [] r = rw (r.split, append-nil) (IsWhole-spelling frames r.short)
-reading_ends start bytes frames (x ∷ rest) r = (
-  length (spelling frames),
-  refl,
-  record {
-    front = rw (r.split, take-append_seam) (IsWhole-spelling frames r.short);
-    within = omega (arith, ap length r.split, length-append (spelling frames) (x ∷ rest));
-    stuck = rw (r.split, drop-append_seam) r.stuck;
-  },
-)
+reading_ends start bytes frames (x ∷ rest) r = grind (arith, take-append_seam, IsWhole-spelling, length-append, drop-append_seam)
 
 -- the walk knows how the bytes end
 pub walk_ends : (start : ℕ) (bytes : List ℕ) → AreBytes bytes →
@@ -152,7 +141,8 @@ walk_next place size bytes prefix after body rest b two p a told fits bodies res
     rw (← a, ← bodies, ← rests) at (frame_found bytes size b first) in
     let are = rest_bytes bytes after rest size b a rests in
     let later = walk_reads next rest are in
-    let end : place + length (spelling (record { place = place; body = body } ∷ walk (length rest) next rest)) ≡ next + length (spelling (walk (length rest) next rest)) =
+    let end : place + length (spelling (record { place = place; body = body } ∷ walk (length rest) next rest)) ≡ next + length
+    (spelling (walk (length rest) next rest)) =
     omega (arith, length-append body (spelling (walk (length rest) next rest))) in
     left_of-reading place bytes _ later.0 b (reading_more place bytes body found.0 found.1 refl later.1)
     ∙ (λ i. record { frames = record { place = place; body = body } ∷ walk (length rest) next rest; truncated = place_if_any (end i) later.0 })
@@ -167,3 +157,5 @@ pub whole_has_no_end : (bytes : List ℕ) (start : ℕ) (o : Option ℕ) → IsW
     → MatchOption o (IsWhole bytes) (λ end. (count : ℕ) × (end ≡ start + count) × IsTruncatedAt bytes count) → o ≡ None
 whole_has_no_end bytes start None w told = refl
 whole_has_no_end bytes start (Some end) w told = absurd (not_both bytes w.0 told.0 w.1 told.2)
+
+pub ruleset walking = (walk_next, rest_bytes)

@@ -59,6 +59,7 @@ pub fn cut<A: Allocator>(alloc: Global, file: &DayFile<A>, target: u64) -> Resul
 }
 
 // The cut of these bytes, of which there is one with few morsels.
+#[tactic(auto, using(crate::proofs::CutsBy::begun))]
 fn make_cut(alloc: Global, bytes: &[u8], target: u64) -> Result<Cut, CutFault>
     requires limit { length bytes.now ≤ LONGEST_FILE }
     requires target { 0 < target }
@@ -116,6 +117,7 @@ fn first_bad(bytes: &[u8], ends: &[u64]) -> Option<u64>
 
 // Whether this end is greater than `start`, where a frame stands or the bytes begin, and a frame
 // stands there.
+#[tactic(auto, using(crate::proofs::CutsAt::end_told))]
 fn is_end(bytes: &[u8], start: u64, end: u64) -> bool
     requires limit { length bytes.now ≤ LONGEST_FILE }
     requires whole { IsWhole bytes.now }

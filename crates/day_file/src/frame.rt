@@ -58,6 +58,7 @@ impl<'a> Frames<'a> {
 
     /// Walks over the frames that are left. It is an error if and only if the bytes are truncated
     /// after them.
+    #[tactic(auto, using(crate::proofs::Walks::ended_walk))]
     pub fn finish(mut self) -> Result<(), Truncated>
         ensures { MatchResult result (λ _. self.entry.truncated ≡ None)
             (λ fault. self.entry.truncated ≡ Some fault.place) }
@@ -78,6 +79,7 @@ impl<'a> Iterator for Frames<'a> {
     ghost remaining = { item_count frames_left };
 
     #[inline(always)]
+    #[tactic(auto, using(crate::proofs::Walks::walking))]
     fn next(&mut self) -> Option<Frame<'a>> {
         let (prefix, after) = self.rest.split_at_checked(LENGTH_BYTES)?;
         let (body, rest) = after.split_at_checked(BigEndian::read_u16(prefix).into())?;

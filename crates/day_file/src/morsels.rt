@@ -44,6 +44,7 @@ impl Cut {
     }
 
     // Adds these frames as the last morsel, without a copy.
+    #[tactic(auto, using(crate::proofs::Kept::growing))]
     pub(crate) fn append(&mut self, alloc: Global, run: Vec<u8>) -> Result<(), OutOfMemory>
         requires run { IsRun run.items }
         requires room { length self.old < MOST_MORSELS }

@@ -25,7 +25,8 @@ pub fits_all : (rows : List OrderRow) (all : List Execution) (own : List Sale) �
     → All (λ s. IsStamped s.time s.locate) own → All (λ s. IsStamped s.time s.locate) (priced rows all ++ own)
 fits_all rows all own first second =
     All-append (λ (s : Sale). IsStamped s.time s.locate) (priced rows all) own
-    (All-filter_map (sale_of rows) (λ (e : Execution). IsStamped e.time e.locate) (λ (s : Sale). IsStamped s.time s.locate) (priced_stamped rows) all first) second
+    (All-filter_map (sale_of rows) (λ (e : Execution). IsStamped e.time e.locate) (λ (s : Sale). IsStamped s.time s.locate) (priced_stamped rows) all first)
+    second
 
 -- so of what is kept of them, in whatever order
 pub fits_listing : (breaks : List ℕ) (selection : Sale → Bool) (every listing : List Sale)

@@ -2,13 +2,11 @@
 -- Derived: it is used inside proofs, and the contracts of the calls say what follows from it.
 --
 -- Word 0 is the number of claims that were made. Word t + 1 is 1 if task t is marked, else 0.
-use Rattle.std.specs.Prelude.{◌≡◌, ◌⊎◌, ℕ, ◌+◌, ◌-◌, ◌*◌, ◌<◌, ◌≤◌, ◌==◌, nat_lt, nat_le}
+use Rattle.std.specs.Prelude.{◌≡◌, ◌⊎◌, ℕ, ◌+◌, ◌-◌, ◌*◌, ◌<◌, ◌≤◌, ◌==◌, min, nat_lt, nat_le}
 use Rattle.std.specs.Prelude.{if◌then◌else◌, List, [], ◌∷◌, ◌++◌, take, drop, length, slice_index}
 use Rattle.std.specs.Prelude.{All, Contains, sum_by, count_by}
 use Rattle.std.specs.List.{range_with_len}
 use Rattle.lists.specs.declared.limits.TheConstants.{MOST_TASKS, MOST_SEATS}
-use mathlib.Core.Option.{some}
-use lib.ListN.{get_elem?}
 use Rattle.atomic_table.specs.Table.{State, Me, Step}
 use Rattle.dispatcher.specs.declared.rule.View.{View}
 use Rattle.dispatcher.specs.declared.rule.Size.{Size}
@@ -39,8 +37,7 @@ view_from k seats = unused_view (range_with_len k (seats - k))
 
 -- the word of a task, how often seats marked the task, and how often seats saw it marked
 abbrev pub IsMarkWord : ℕ → ℕ → ℕ → Type 0
-IsMarkWord word marks looks =
-    ((word ≡ 0) × (marks ≡ 0) × (looks ≡ 0)) ⊎ ((word ≡ 1) × (0 < marks))
+IsMarkWord word marks looks = (word ≡ min 1 marks) × (0 < looks → 0 < marks)
 
 -- a seat has at most one claim that found no task for each number that it has, and one that has no number has done
 -- nothing
@@ -58,11 +55,10 @@ pub record IsConsistent (size : Size) (s : State (Unit {0}) View) : Type 0 where
   pub numbers_once : (k : ℕ)
       → sum_by (λ v. occurrences k v.numbers) s.views ≡ once_below size.seats k
   pub all_seats : sum_by (λ v. length v.numbers) s.views ≡ size.seats
-  pub few : slice_index s.words 0
-      ≤ 2 * size.tasks + sum_by (λ v. late_count size.tasks v.claims) s.views
+  pub late : slice_index s.words 0 - 2 * size.tasks ≡ sum_by (λ v. late_count size.tasks v.claims) s.views
   pub marks : (t : ℕ) → IsMarkWord (slice_index s.words (t + 1))
       (sum_by (λ v. occurrences t v.marked) s.views) (sum_by (λ v. occurrences t v.seen) s.views)
-  pub each : (id : ℕ) (v : View) → get_elem? s.views id ≡ some v → IsFair size v
+  pub each : All (IsFair size) s.views
 
 abbrev Sat : Type 0
 Sat = Me (Unit {0}) View

@@ -4,7 +4,7 @@ use Rattle.std.specs.Prelude.{◌≡◌, ℕ, ◌<◌, ◌≤◌, ◌*◌, List,
 use Rattle.std.specs.Prelude.{length, flat_map, slice_index, slice_index_or, All, Contains}
 use Rattle.atomic_table.specs.Seated.{TableId}
 use Rattle.dispatcher.specs.Claims.{Gives, times_given}
-use Rattle.dispatcher.specs.Rule.{occurrences}
+use Rattle.dispatcher.specs.Rule.{joined_view}
 use Rattle.dispatcher.specs.declared.rule.View.{View}
 use Rattle.dispatcher.specs.declared.seat.Seat.{Seat}
 use Rattle.dispatcher.specs.declared.dispatcher.Dispatcher.{Dispatcher}
@@ -81,12 +81,8 @@ SomeSaw seats task = Any (λ s. Contains (seen_tasks s) task) seats
 abbrev pub flag_of : List Bool → ℕ → Bool
 flag_of flags task = slice_index_or flags task false
 
--- the view has what the seats of `whole` have, without what those of `rest` have
+-- of whatever adds up when views are joined the view has what the seats of `whole` have, without those of `rest`
 pub record HasAllBut (v : View) (rest whole : List Seat) : Type 0 where
   pub seats : length v.numbers + length rest ≡ length whole
-  pub claimed : (c : ℕ) → occurrences c v.claims + sum_by (λ s. occurrences c (claims s)) rest
-      ≡ sum_by (λ s. occurrences c (claims s)) whole
-  pub marks : (t : ℕ) → occurrences t v.marked + sum_by (λ s. occurrences t (marked_tasks s)) rest
-      ≡ sum_by (λ s. occurrences t (marked_tasks s)) whole
-  pub looks : (t : ℕ) → occurrences t v.seen + sum_by (λ s. occurrences t (seen_tasks s)) rest
-      ≡ sum_by (λ s. occurrences t (seen_tasks s)) whole
+  pub sums : (f : View → ℕ) → ((a b : View) → f (joined_view a b) ≡ f a + f b)
+      → f v + sum_by (λ s. f s.inner.me.0) rest ≡ sum_by (λ s. f s.inner.me.0) whole

@@ -19,6 +19,6 @@ pub struct Dispatcher<A: Allocator = Global> {
     pub(crate) seats: u32,
     pub(crate) alloc: A,
     ghost shape: { (table.shared.table_id.words ≡ tasks + 1) × (table.shared.table_id.slots ≡ 0) },
-    ghost size: { table.shared.key ≡ record { tasks = tasks; seats = seats } },
+    ghost size: { (table.shared.key.tasks ≡ tasks) × (table.shared.key.seats ≡ seats) },
     ghost in_range: { (0 < tasks) × (tasks ≤ MOST_TASKS) × (0 < seats) × (seats ≤ MOST_SEATS) },
 }

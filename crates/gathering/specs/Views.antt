@@ -1,6 +1,7 @@
 -- What contracts see of a piece and of a gathering.
 -- To be believed of a crate used by itself.
-use Rattle.std.specs.Prelude.{◌≡◌, ℕ, ◌<◌, List, Bool, true, false, Option, Some, None, length, slice_get, refl}
+use Rattle.std.specs.Prelude.{◌≡◌, ℕ, ◌<◌, List, Bool, true, false, Some, length, slice_get, refl}
+use Rattle.std.specs.Option.{option_eq}
 use Rattle.std.specs.Ordering.{nat_cmp}
 use Rattle.std.specs.FinSet.{FinSet, contains}
 use Rattle.std.specs.FinSet as set
@@ -27,14 +28,9 @@ module _ {A : Type 0} where
       (λ q. record { inputs = q.0; covered = q.1 })
       (λ _. refl)
 
-  -- an input is equal to the one that is there, if there is one
-  abbrev pub is_equal_to : (A → A → Bool) → A → Option A → Bool
-  is_equal_to eq input None = false
-  is_equal_to eq input (Some own) = eq input own
-
   -- the piece was run on an input that is equal to the one at its number in the list
   abbrev pub belongs : (A → A → Bool) → List A → PieceView A → Bool
-  belongs eq inputs piece = is_equal_to eq piece.input (slice_get inputs piece.number)
+  belongs eq inputs piece = option_eq eq (Some piece.input) (slice_get inputs piece.number)
 
   -- each task is covered
   abbrev pub IsComplete : GatheringView A → Type 0

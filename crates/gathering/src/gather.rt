@@ -1,10 +1,9 @@
 //! The pieces of some tasks, and their total.
 ghost use Rattle.std.specs.Prelude.{◌≡◌, ◌↔◌, ◌<◌, ◌≤◌, Bool, true, false, IsTrue, IsErr, IfOk, IfErr};
-ghost use Rattle.std.specs.Prelude.{OnOk, OnErr, MatchOption, length, if◌then◌else◌};
+ghost use Rattle.std.specs.Prelude.{OnOk, OnErr, MatchOption, length, max, nat_lt, if◌then◌else◌};
 ghost use Rattle.std.specs.Arc.{arc_value};
 ghost use Rattle.std.specs.FinSet as set;
 ghost use Rattle.gathering.specs.Adding.{same_inputs};
-ghost use Rattle.gathering.specs.Kept.{IsFolded, IsLonger};
 ghost use Rattle.gathering.specs.Refused.{IsRefusedFor, handed_back};
 ghost use Rattle.gathering.specs.Views.{belongs, merged, IsComplete, IsFirstMissing};
 
@@ -97,6 +96,7 @@ impl<W: Work, A: Allocator> Gathering<W, A> {
     ///
     /// The room for the pieces is taken of `memory`, and the work's own growths of `alloc`. It is
     /// refused if `memory` has no room for a place for each task.
+    #[tactic(auto, using(crate::proofs::CoveredTasks::gathered))]
     pub fn new_in(
         alloc: Global,
         memory: A,
@@ -119,6 +119,7 @@ impl<W: Work, A: Allocator> Gathering<W, A> {
     ///
     /// A piece is refused if its number is not below the count of inputs, or if the input that it
     /// was run on is not equal to the one of that number. It is handed back.
+    #[tactic(auto, using(crate::proofs::CoveredTasks::insert_member))]
     pub fn file(&mut self, piece: Piece<W>) -> Result<Filed, Stranger<W>>
         ensures stranger { IsErr result ↔ (belongs W.Input.eq self.old.inputs piece ≡ false) }
         ensures handed_back { IfErr result (λ stranger. stranger.piece ≡ piece) }
@@ -172,6 +173,7 @@ impl<W: Work, A: Allocator> Gathering<W, A> {
     }
 
     /// Whether a task is covered; false past the last task.
+    #[tactic(auto, using(crate::proofs::CoveredTasks::gathered))]
     pub fn covers(&self, task: u32) -> bool
         ensures covered { result ≡ set.contains self.now.covered task }
         ensures in_range { IsTrue result → task < length self.now.inputs }
@@ -181,6 +183,7 @@ impl<W: Work, A: Allocator> Gathering<W, A> {
     }
 
     /// The least task that is not covered.
+    #[tactic(auto, using(crate::proofs::CoveredTasks::gathered))]
     pub fn first_missing(&self) -> Option<u32>
         ensures { MatchOption result (IsComplete self.now) (λ task. IsFirstMissing self.now task) }
     {
@@ -247,7 +250,8 @@ fn is_own<W: Work>(inputs: &Inputs<W>, piece: &Piece<W>) -> bool
 
 /// Of two numbers of folded inputs, each with their total, keeps the greater.
 fn keep_longer<T: Drop>(own_folded: &mut u32, own_total: &mut T, folded: u32, total: T)
-    ensures { IsLonger own_folded.old folded own_folded.new own_total.old total own_total.new }
+    ensures longer { own_folded.new ≡ max own_folded.old folded }
+    ensures total { own_total.new ≡ (if nat_lt own_folded.old folded then total else own_total.old) }
 {
     if *own_folded < folded {
         *own_folded = folded;

@@ -13,6 +13,7 @@ use crate::work::Work;
 /// equal one by one, and the same tasks are covered. Gatherings that are alike have the same totals and
 /// one first missing task, refuse the same pieces and the same gatherings, and are complete
 /// together.
+#[tactic(auto, using(crate::proofs::CoveredTasks::joined))]
 pub fn merge_is_a_join<W: Work>()
     ensures commutative { (a b : GatheringView W.Input) → a.inputs ≡ b.inputs
         → merged a b ≡ merged b a }

@@ -8,7 +8,7 @@ use Rattle.byteorder.specs.Endian.{big_number}
 use Rattle.byteorder.specs.Numbers.{big_from-lt, big_number-reads_back, length-bytes_high_first}
 use Rattle.itch_messages.specs.Fields.{number_at, bytes_at, number_bytes, AreBytes}
 use Rattle.itch_messages.specs.Body.{IsText, kind_of}
-use Rattle.itch_messages.proofs.Numbers.{byte_in, bytes_high_first-big_from}
+use Rattle.itch_messages.proofs.Numbers.{AreBytes-of_slice, byte_in, bytes_high_first-big_from}
 
 -- ---- what is read of what was written
 
@@ -17,26 +17,10 @@ pub length-number_bytes : (width x : ℕ) → length (number_bytes width x) ≡ 
 unfolding number_bytes
 length-number_bytes width x = length-bytes_high_first width x
 
-behind_first : (first : ℕ) (rest : List ℕ) (offset : ℕ) → leb 1 offset ≡ true → drop offset (first ∷ rest) ≡ drop (offset - 1) rest
-behind_first first rest zero h = absurd (cc)
-behind_first first rest (suc offset) h = ap (λ n. drop n rest) (omega arith)
-
 behind : (front rest : List ℕ) (offset : ℕ) → leb (length front) offset ≡ true → drop offset (front ++ rest) ≡ drop (offset - length front) rest
-behind front rest offset h =
-    let e : offset ≡ length front + (offset - length front) = omega (arith, leb-true _ _ h) in
-    ap (λ n. drop n (front ++ rest)) e ∙ drop-append-add front rest (offset - length front)
+behind front rest offset h = grind (arith, leb-true, drop-append-add)
 
 -- a number, and bytes, that stand behind the first byte, behind others, and here
-pub number_behind_first : (first : ℕ) (rest : List ℕ) (offset width : ℕ) → leb 1 offset ≡ true
-    → number_at offset width (first ∷ rest) ≡ number_at (offset - 1) width rest
-unfolding number_at
-number_behind_first first rest offset width h = ap (big_number width) (behind_first first rest offset h)
-
-pub bytes_behind_first : (first : ℕ) (rest : List ℕ) (offset width : ℕ) → leb 1 offset ≡ true
-    → bytes_at offset width (first ∷ rest) ≡ bytes_at (offset - 1) width rest
-unfolding bytes_at
-bytes_behind_first first rest offset width h = ap (take width) (behind_first first rest offset h)
-
 pub number_behind : (front rest : List ℕ) (offset width : ℕ) → leb (length front) offset ≡ true
     → number_at offset width (front ++ rest) ≡ number_at (offset - length front) width rest
 unfolding number_at
@@ -46,6 +30,15 @@ pub bytes_behind : (front rest : List ℕ) (offset width : ℕ) → leb (length 
     → bytes_at offset width (front ++ rest) ≡ bytes_at (offset - length front) width rest
 unfolding bytes_at
 bytes_behind front rest offset width h = ap (take width) (behind front rest offset h)
+
+-- behind one byte
+pub number_behind_first : (first : ℕ) (rest : List ℕ) (offset width : ℕ) → leb 1 offset ≡ true
+    → number_at offset width (first ∷ rest) ≡ number_at (offset - 1) width rest
+number_behind_first first rest offset width h = number_behind (first ∷ []) rest offset width h
+
+pub bytes_behind_first : (first : ℕ) (rest : List ℕ) (offset width : ℕ) → leb 1 offset ≡ true
+    → bytes_at offset width (first ∷ rest) ≡ bytes_at (offset - 1) width rest
+bytes_behind_first first rest offset width h = bytes_behind (first ∷ []) rest offset width h
 
 pub number_here : (rest : List ℕ) (width x : ℕ) → x < 256 ^ width → number_at 0 width (number_bytes width x ++ rest) ≡ x
 unfolding number_at number_bytes
@@ -99,4 +92,4 @@ IsText-bytes_at offset width body are within = (
   All-take (λ byte. byte < 256) width (drop offset body) (All-drop (λ byte. byte < 256) offset body are),
 )
 
-pub ruleset fitting = (arith, number_at-lt, IsText-bytes_at)
+pub ruleset fitting = (arith, number_at-lt, IsText-bytes_at, AreBytes-of_slice)

@@ -1,15 +1,16 @@
 -- The law of bodies: a message reads back from its body, and a body that is read is the one that is written for it.
-use Rattle.std.proofs.Common.{◌≡◌, ℕ, false, List, length, Option, None, Some, refl, sym, ap, ◌∙◌}
-use Rattle.std.proofs.lemmas.Bool.{cond_both}
+use Rattle.std.proofs.Common.{◌≡◌, ℕ, false, List, length, Option, None, Some, refl, sym, ap, ◌∙◌, arith}
+use Rattle.std.proofs.lemmas.Bool.{eq-eqb, eqb-true}
 use Rattle.std.proofs.lemmas.List.{length-append}
-use Rattle.itch_messages.specs.Body.{FitsMessage, body_of, has_wrong_length, is_skipped, is_whole, kind_of, message_of, message_of_kind}
+use Rattle.itch_messages.specs.Body.{FitsMessage, body_of, has_wrong_length, is_skipped, kind_of, message_of, message_of_kind}
 use Rattle.itch_messages.specs.Fields.{AreBytes}
 use Rattle.itch_messages.specs.Layout.{length_of}
 use Rattle.itch_messages.specs.declared.message.Add.{Add as AddMessage}
 use Rattle.itch_messages.specs.declared.message.Message.{Message}
 use Rattle.itch_messages.specs.declared.message.Message.TheVariants.{Add, Executed, ExecutedAt, Replace, Trade, Cross, Broken, Directory, Skipped}
 use Rattle.itch_messages.proofs.FieldsOfBodies.{reading, writing, fitting, length-number_bytes}
-use Rattle.itch_messages.proofs.NineTypes.{by_kind, message_of_whole, right_of_whole, whole_of_message, whole_of_test}
+use Rattle.itch_messages.proofs.Numbers.{AreBytes-of_slice}
+use Rattle.itch_messages.proofs.NineTypes.{by_kind, message_of_whole, whole_of_message}
 
 ruleset sizes = (length-append, length-number_bytes)
 
@@ -17,9 +18,7 @@ ruleset sizes = (length-append, length-number_bytes)
 back : (message : Message) (size : ℕ) → length_of (kind_of (body_of message)) ≡ Some size → length (body_of message) ≡ size
     → message_of_kind (kind_of (body_of message)) (body_of message) ≡ message
     → (message_of (body_of message) ≡ message) × (has_wrong_length (body_of message) ≡ false)
-back message size known long reads =
-    let whole : length_of (kind_of (body_of message)) ≡ Some (length (body_of message)) = known ∙ ap Some (sym long) in
-    (message_of_whole (body_of message) whole ∙ reads, right_of_whole (body_of message) whole)
+back message size known long reads = grind (arith, eq-eqb)
 
 -- an add order, with an attribution or without
 add_back : (m : AddMessage) (attribution : Option (List ℕ)) → let message = Add (record m { attribution = attribution }) in FitsMessage message
@@ -54,11 +53,11 @@ FitsMessage-message_of_kind kind body are known =
     by_kind FitsAs (search fitting) (search fitting) (search fitting) (search fitting) (search fitting) (search fitting) (search fitting) (search fitting)
     (search fitting) kind (length body) known body are refl
 
+pub ruleset of_slices = (FitsMessage-message_of_kind, AreBytes-of_slice)
+
 -- what a body stands for has room in its fields
 pub FitsMessage-message_of : (body : List ℕ) → AreBytes body → FitsMessage (message_of body)
-FitsMessage-message_of body are =
-    cond_both (is_whole body) (message_of_kind (kind_of body) body) Skipped FitsMessage
-    (λ is. FitsMessage-message_of_kind (kind_of body) body are (whole_of_test body is)) (λ _. tt)
+FitsMessage-message_of body are = grind (arith, FitsMessage-message_of_kind, eqb-true)
 
 -- a body of a type and its length is the one that is written for its message
 abbrev WritesBackAs : ℕ → ℕ → Type 0

@@ -2,7 +2,7 @@
 use Rattle.std.proofs.Common.{◌≡◌, ℕ, zero, suc, ◌+◌, ◌*◌, ◌/◌, ◌^◌, ◌<◌, ◌≤◌, List, [], ◌∷◌, ◌++◌, length, take, get_or, refl, sym, ◌∙◌, Fits, w8, arith}
 use Rattle.std.proofs.Math.Nat.{mod-lt}
 use Rattle.std.proofs.lemmas.Nat.{same_from_place}
-use Rattle.std.proofs.lemmas.List.{append-nil, get_or_default, length-take-le}
+use Rattle.std.proofs.lemmas.List.{append-nil, get_or_default, get_or_past, length-take-le}
 use Rattle.std.proofs.lemmas.List.Elements.{All-cons, All-nil, All-tail, All-take}
 use Rattle.std.specs.Prelude.{slice_index}
 use Rattle.std.specs.Int.{byte_at, bytes_high_first}
@@ -12,9 +12,7 @@ use Rattle.itch_messages.specs.Fields.{AreBytes}
 
 -- each number of the list is a byte, and so is the 0 past its end
 pub byte_in : (xs : List ℕ) (k : ℕ) → AreBytes xs → slice_index xs k < 256
-byte_in [] k are = omega arith
-byte_in (x ∷ xs) zero are = are 0 0 (omega arith)
-byte_in (x ∷ xs) (suc k) are = byte_in xs k (All-tail (λ byte. byte < 256) x xs are)
+byte_in xs k are = grind (arith, get_or_past, are k 0)
 
 -- a slice of bytes has bytes
 pub AreBytes-of_slice : (xs : List ℕ) → ((k : ℕ) → Fits w8 (get_or xs k 0)) → AreBytes xs
@@ -27,8 +25,7 @@ byte_at-lt (suc k) x = mod-lt (x / 256 ^ suc k) (omega arith)
 
 pub AreBytes-bytes_high_first : (n x : ℕ) → AreBytes (bytes_high_first n x)
 AreBytes-bytes_high_first zero x = All-nil _
-AreBytes-bytes_high_first (suc n) x =
-    All-cons (λ byte. byte < 256) (byte_at n x) (bytes_high_first n x) (byte_at-lt n x) (AreBytes-bytes_high_first n x)
+AreBytes-bytes_high_first (suc n) x = grind (arith, All-cons, byte_at-lt, AreBytes-bytes_high_first n x)
 
 -- n bytes that spell one number are one list
 pub big_from-tells_apart : (n : ℕ) (xs ys : List ℕ) → length xs ≡ n → length ys ≡ n → AreBytes xs → AreBytes ys → big_from 0 n xs ≡ big_from 0 n ys → xs ≡ ys

@@ -13,6 +13,7 @@ use crate::message::{
 
 /// The header of a body.
 #[inline(always)]
+#[tactic(auto, using(crate::proofs::FieldsOfBodies::fitting))]
 fn header(body: &[u8]) -> Header
     requires { 11 ≤ length body.now }
     ensures { result ≡ header_of body.now }
@@ -197,6 +198,7 @@ pub fn read(body: &[u8]) -> Result<Message, LengthFault>
 /// The same of a body whose type is known. Where it is one of a few types that a caller tests first,
 /// each has code of its own, with no further test of the type.
 #[inline(always)]
+#[tactic(auto, using(crate::proofs::Laws::of_slices))]
 pub fn read_of_kind(kind: u8, body: &[u8]) -> Result<Message, LengthFault>
     requires { kind ≡ kind_of body.now }
     ensures fault { IsErr result ↔ (has_wrong_length body.now ≡ true) }

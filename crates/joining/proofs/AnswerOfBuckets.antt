@@ -1,5 +1,6 @@
 -- What all buckets have found makes the answer.
-use Rattle.std.proofs.Common.{◌≡◌, ℕ, ◌<◌, List, ◌++◌, Option, Some, None, option_map, Result, Ok, Err, map, IsPermutation, refl, sym, ap, ap₂, ◌∙◌, arith}
+use Rattle.std.proofs.lemmas.Grind.{common_steps}
+use Rattle.std.proofs.Common.{◌≡◌, ℕ, ◌<◌, List, ◌++◌, Option, Some, None, option_map, Result, Ok, Err, map, IsPermutation, refl, ap, ◌∙◌, arith}
 use Rattle.std.proofs.lemmas.List.{same_lists}
 use Rattle.std.proofs.lemmas.List.FromFn.{get_or-map-range_with_len, length-map-range_with_len}
 use Rattle.std.proofs.lemmas.List.Sorted.{IsPermutation-sym, IsPermutation-trans}
@@ -34,9 +35,7 @@ fault_is : (query : Meaning) (total : TotalView) (names : List DirectoryRow) (me
     → fault_from (option_map repeated_of (first_repeated (order_rows messages)))
     (option_map unknown_of (first_unknown (order_rows messages) (executions messages)))
     ≡ fault_from total.repeated total.unknown
-fault_is query total names messages are =
-    sym (ap (λ (t : TotalView). fault_from t.repeated t.unknown) are.total_is
-    ∙ ap₂ fault_from (repeated_found are.parts query messages are.some are.by_place) (unknown_found are.parts query messages are.some are.by_place))
+fault_is query total names messages are = grind (arith, common_steps, repeated_found, unknown_found)
 
 -- so it is the answer
 pub fault_answers : (query : Meaning) (total : TotalView) (names : List DirectoryRow) (messages : List Placed) (fault : DayFault)
@@ -49,16 +48,12 @@ fault_answers query total names messages fault are is =
 
     go : (row : Option OrderRow) (execution : Option Execution) → fault_from (option_map repeated_of row) (option_map unknown_of execution) ≡ Some fault
         → FaultOr row repeated_at told (FaultOr execution unknown_at told ((text : List ℕ) × IsTextOfMessages query messages text × (told ≡ Ok text)))
-    go (Some row) execution e = cc
-    go None (Some execution) e = cc
-    go None None e = absurd (cc)
+    go row execution e = grind arith
 
 -- where there is none, neither is there
 neither : (row : Option OrderRow) (execution : Option Execution) → fault_from (option_map repeated_of row) (option_map unknown_of execution) ≡ None
     → (row ≡ None) × (execution ≡ None)
-neither (Some row) execution e = absurd (cc)
-neither None (Some execution) e = absurd (cc)
-neither None None e = (refl, refl)
+neither row execution e = grind arith
 
 -- ---- the text
 
@@ -95,7 +90,4 @@ text_gathered query total rows messages names text what are same none named is =
 
 -- two functions that agree below n
 pub map_below : {X : Type 0} (n : ℕ) (f g : ℕ → X) → ((b : ℕ) → b < n → f b ≡ g b) → map f (numbers_below n) ≡ map g (numbers_below n)
-map_below n f g same =
-    same_lists _ _ (length-map-range_with_len f 0 n ∙ sym (length-map-range_with_len g 0 n)) (λ k d within.
-    let below : k < n = omega (arith, length-map-range_with_len f 0 n) in
-    get_or-map-range_with_len f 0 n k k d below (omega arith) ∙ same k below ∙ sym (get_or-map-range_with_len g 0 n k k d below (omega arith)))
+map_below n f g same = grind (arith, common_steps, same_lists, length-map-range_with_len, get_or-map-range_with_len)

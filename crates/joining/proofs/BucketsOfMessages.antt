@@ -126,14 +126,7 @@ lists_listable n query messages some up stamped few =
     let back = IsPermutation-sym _ _ are in
     record {
       apart = differ_in_order _ _ back (kept_distinct asked messages up);
-      few = omega (
-        arith,
-        few,
-        length_permutation _ _ are,
-        length-kept (break_numbers messages) asked (every messages),
-        length-append (priced (order_rows messages) (executions messages)) (own_priced_sales messages),
-        length-priced (order_rows messages) (executions messages),
-      );
+      few = grind (arith, length_permutation _ _ are, length-kept (break_numbers messages) asked (every messages), length-append, length-priced);
       stamped = All-permutation (λ (s : Sale). IsStamped s.time s.locate) _ _ back
           (All-filter (is_kept (break_numbers messages) asked) (λ (s : Sale). IsStamped s.time s.locate) (every messages) (every_fits messages stamped));
     }

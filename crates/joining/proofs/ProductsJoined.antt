@@ -1,18 +1,16 @@
 -- What is listed of many lists of sales, joined: one listing, or one table.
-use Rattle.std.proofs.Common.{◌≡◌, ℕ, ◌<◌, All, List, [], ◌∷◌, ◌++◌, length, filter_map, map, nat_eq, IsPermutation, refl, sym, ap, ◌∙◌, subst, arith, drop_at}
-use Rattle.std.proofs.Common.{take_at}
+use Rattle.std.proofs.Common.{◌≡◌, ℕ, ◌<◌, All, List, [], ◌∷◌, filter_map, map, nat_eq, IsPermutation, refl, sym, ap, ◌∙◌, subst, arith}
+use Rattle.std.proofs.Common.{Option, Some}
 use Rattle.std.specs.List.{IsDistinct}
-use Rattle.std.proofs.lemmas.List.Elements.{All-append, All-drop, All-nil, All-take, All-weaker}
 use Rattle.std.proofs.lemmas.List.Sorted.{All-permutation, IsPermutation-append, IsPermutation-refl, IsPermutation-sym, IsPermutation-trans}
 pub use Rattle.std.proofs.lemmas.Result.{IfOk-weaker as on_ok}
 use Rattle.lists.specs.declared.limits.TheConstants.{TIME_LIMIT}
 use Rattle.row_types.specs.declared.trade.Sale.{Sale}
 use Rattle.bars.specs.Bars.{AllSumsFit, AreBarsOfEach, IsTraded, IsUnionOf, all_bars, all_sales}
 use Rattle.bars.specs.declared.bar.Bar.{Bar}
-use Rattle.bars.specs.Texts.{IsWritable}
 use Rattle.bars.specs.Steps.{bars_of}
-use Rattle.bars.proofs.BarsOfSales.{bars_of_are, union_of_bars}
-use Rattle.bars.proofs.SumsAreBounded.{all_sums_fit, table_is_writable}
+use Rattle.bars.proofs.BarsOfSales.{bars_of_are, each_alike, union_of_bars}
+use Rattle.bars.proofs.SumsAreBounded.{all_sums_fit, starts_of_sales}
 use Rattle.time_and_sales.proofs.SortedByPlace.{differ_in_order}
 pub use Rattle.answers.proofs.SelectedSales.{times_fit}
 use Rattle.meaning.specs.Meaning.{Meaning}
@@ -26,55 +24,37 @@ use Rattle.buckets.proofs.ProductsOfSales.{by_place_is}
 use Rattle.joining.specs.Gathered.{AreGatheredOf, AreProductsOf, Product, listing_of, table_of}
 use Rattle.joining.proofs.BucketsOfMessages.{lists_in, lists_listable, products_found}
 
-all_left : {X : Type 0} (P : X → Type 0) (xs ys : List X) → All P (xs ++ ys) → All P xs
-all_left P xs ys all = subst (All P) (take_at xs ys _ refl) (All-take P (length xs) (xs ++ ys) all)
-
-all_right : {X : Type 0} (P : X → Type 0) (xs ys : List X) → All P (xs ++ ys) → All P ys
-all_right P xs ys all = subst (All P) (drop_at xs ys _ refl) (All-drop P (length xs) (xs ++ ys) all)
+-- what each product gives
+given : {Y : Type 0} (f : Product → Option Y) (what : What) (g : List Sale → Y) → ((sales : List Sale) → f (product_of what sales) ≡ Some (g sales))
+    → (lists : List (List Sale)) → filter_map f (map (product_of what) lists) ≡ map g lists
+given f what g is [] = refl
+given f what g is (sales ∷ lists) = rw (is sales) (ap (λ l. g sales ∷ l) (given f what g is lists))
 
 -- ---- tables
-
-tables_of : (width : ℕ) (lists : List (List Sale)) → filter_map table_of (map (product_of (Bars width)) lists) ≡ map (bars_of width) lists
-tables_of width [] = refl
-tables_of width (sales ∷ lists) = ap (λ l. bars_of width sales ∷ l) (tables_of width lists)
 
 each_bars : (width : ℕ) (lists : List (List Sale)) → AreBarsOfEach width lists (map (bars_of width) lists)
 each_bars width [] = tt
 each_bars width (sales ∷ lists) = (bars_of_are width sales, each_bars width lists)
 
--- each bar of tables of some sales starts before a limit of their times
-starts_fit : (width : ℕ) (lists : List (List Sale)) (tables : List (List Bar)) → AreBarsOfEach width lists tables → All IsTraded (all_bars tables)
-    → All (λ sale. sale.time < TIME_LIMIT) (all_sales lists) → All (λ bar. bar.start < TIME_LIMIT) (all_bars tables)
-starts_fit width [] [] are traded times = All-nil (λ (bar : Bar). bar.start < TIME_LIMIT)
-starts_fit width [] (table ∷ tables) are traded times = absurd are
-starts_fit width (sales ∷ lists) [] are traded times = absurd are
-starts_fit width (sales ∷ lists) (table ∷ tables) are traded times =
-    let fits = λ (s : Sale). s.time < TIME_LIMIT in
-    let here = table_is_writable width sales table are.0 (all_left IsTraded table (all_bars tables) traded) (all_left fits sales (all_sales lists) times) in
-    All-append (λ (bar : Bar). bar.start < TIME_LIMIT) table (all_bars tables)
-    (All-weaker IsWritable (λ (bar : Bar). bar.start < TIME_LIMIT) (λ bar fit. fit.0) table here)
-    (starts_fit width lists tables are.1 (all_right IsTraded table (all_bars tables) traded) (all_right fits sales (all_sales lists) times))
-
 module _ (width : ℕ) (lists : List (List Sale)) (products : List Product) (tables : List (List Bar)) (of : AreProductsOf (Bars width) lists products)
     (same : tables ≡ filter_map table_of products) where
   pub tables_are : AreBarsOfEach width lists tables
-  tables_are = subst (AreBarsOfEach width lists) (sym (same ∙ ap (filter_map table_of) of.are ∙ tables_of width lists)) (each_bars width lists)
+  tables_are =
+      subst (AreBarsOfEach width lists)
+      (sym (same ∙ ap (filter_map table_of) of.are ∙ given table_of (Bars width) (bars_of width) (λ sales. refl) lists)) (each_bars width lists)
 
   pub tables_sums : All IsTraded (all_bars tables) → AllSumsFit (all_bars tables)
   tables_sums traded = all_sums_fit width lists tables tables_are traded (omega (arith, of.listable.few))
 
-  pub tables_starts : All IsTraded (all_bars tables) → All (λ bar. bar.start < TIME_LIMIT) (all_bars tables)
-  tables_starts traded = starts_fit width lists tables tables_are traded (times_fit (all_sales lists) of.listable.stamped)
+  pub tables_starts : All (λ bar. bar.start < TIME_LIMIT) (all_bars tables)
+  tables_starts =
+      starts_of_sales width (all_sales lists) (all_bars tables) (each_alike width lists tables tables_are) (times_fit (all_sales lists) of.listable.stamped)
 
   -- the table of all sales is the union of the tables of each list
   pub tables_union : IsUnionOf (all_bars tables) (bars_of width (all_sales lists))
   tables_union = union_of_bars width lists tables (bars_of width (all_sales lists)) tables_are (bars_of_are width (all_sales lists))
 
 -- ---- listings
-
-listings_of : (lists : List (List Sale)) → filter_map listing_of (map (product_of Sales) lists) ≡ map by_place lists
-listings_of [] = refl
-listings_of (sales ∷ lists) = ap (λ l. by_place sales ∷ l) (listings_of lists)
 
 all_by_place : (lists : List (List Sale)) → IsPermutation (all_sales lists) (all_sales (map by_place lists))
 all_by_place [] = IsPermutation-refl []
@@ -84,7 +64,8 @@ module _ (lists : List (List Sale)) (products : List Product) (listings : List (
     (same : listings ≡ filter_map listing_of products) where
   pub listings_are : IsPermutation (all_sales lists) (all_sales listings)
   listings_are =
-      subst (λ l. IsPermutation (all_sales lists) (all_sales l)) (sym (same ∙ ap (filter_map listing_of) of.are ∙ listings_of lists)) (all_by_place lists)
+      subst (λ l. IsPermutation (all_sales lists) (all_sales l))
+      (sym (same ∙ ap (filter_map listing_of) of.are ∙ given listing_of Sales by_place (λ sales. refl) lists)) (all_by_place lists)
 
   pub listings_apart : IsDistinct nat_eq (map (λ sale. sale.place) (all_sales listings))
   listings_apart = differ_in_order _ _ listings_are of.listable.apart

@@ -29,6 +29,7 @@ pub fn fault_of(total: &BucketTotal) -> Option<DayFault>
 }
 
 /// The tables among what is listed.
+#[tactic(auto, using(std::proofs::lemmas::List::take_all))]
 pub fn tables<'a>(
     alloc: Global,
     products: &'a [Arc<Product, Global>],

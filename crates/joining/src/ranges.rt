@@ -100,6 +100,7 @@ fn text_of_bars<R: Threads + Sync>(
 }
 
 /// The listings among what is listed.
+#[tactic(auto, using(std::proofs::lemmas::List::take_all))]
 fn listings<'a>(
     alloc: Global,
     products: &'a [Arc<Product, Global>],

@@ -1,11 +1,12 @@
 -- Lists of numbers: membership after a sort and a `dedup`, by a binary search, and as all that a rising list is.
-use Rattle.std.proofs.Common.{◌≡◌, ℕ, ◌<◌, ◌≤◌, Bool, true, false, eqb, is_ok, List, [], length, get_or, Result, Ok, Err, Contains, refl, sym, ap, ◌∙◌, subst}
-use Rattle.std.proofs.Common.{arith, ⊎_elim, IsSorted, IsPermutation, nat_cmp}
+use Rattle.std.proofs.Common.{◌≡◌, ℕ, ◌<◌, ◌≤◌, Bool, true, eqb, is_ok, List, [], length, get_or, Result, Ok, Err, Contains, refl, sym, ap, ◌∙◌, subst}
+use Rattle.std.proofs.Common.{arith, Decides, IsSorted, IsPermutation, nat_cmp}
 use Rattle.std.proofs.Math.Nat.{eq-or-lt_of_le}
 use Rattle.std.specs.List.{dedup}
 use Rattle.std.specs.List.Retain.{IsFiltered, DiffersFromLast}
 use Rattle.std.specs.List.Sorted.{IsStrictlyIncreasing, IsBinarySearchResult}
-use Rattle.std.proofs.lemmas.Bool.{both_ways, cases_Bool, cases_lt, eq-eqb, eqb-true, false_from_ne_true}
+use Rattle.std.proofs.lemmas.Bool.{eq-eqb, eqb-true, false_from_ne_true}
+use Rattle.std.proofs.lemmas.Bool.Decides.{Decides-like, same_from_decides}
 use Rattle.std.proofs.lemmas.Cmp.{nat_cmp_total}
 use Rattle.std.proofs.lemmas.List.{get_or_default}
 use Rattle.std.proofs.lemmas.List.Folds.{Any-from_list_any, list_any-from_Any}
@@ -23,20 +24,14 @@ pub among_from : (numbers : List ℕ) (n : ℕ) → Contains numbers n → is_am
 among_from numbers n c = list_any-from_Any (is_number n) numbers (c.0, n, c.1, c.2, eq-eqb _ _ refl)
 
 pub from_among : (numbers : List ℕ) (n : ℕ) → is_among numbers n ≡ true → Contains numbers n
-from_among numbers n h =
-    let found = Any-from_list_any (is_number n) numbers h in
-    (found.0, found.2, subst (λ k. get_or numbers found.0 k ≡ k) (eqb-true _ _ found.4) found.3)
+from_among numbers n h = grind (arith, Any-from_list_any, eqb-true)
 
-not_among : (numbers : List ℕ) (n : ℕ) → (Contains numbers n → ⊥) → is_among numbers n ≡ false
-not_among numbers n none = false_from_ne_true (is_among numbers n) (λ e. none (from_among numbers n e))
+among_decides : (numbers : List ℕ) (n : ℕ) → Decides (is_among numbers n) (Contains numbers n)
+among_decides numbers n = (from_among numbers n, among_from numbers n)
 
 -- lists with the same members have the same numbers among them
 pub same_members : (xs ys : List ℕ) (n : ℕ) → (Contains xs n → Contains ys n) → (Contains ys n → Contains xs n) → is_among xs n ≡ is_among ys n
-same_members xs ys n to from =
-    ⊎_elim
-    (λ e. e ∙ sym (among_from ys n (to (from_among xs n e))))
-    (λ e. e ∙ sym (not_among ys n (λ c. both_ways _ e (among_from xs n (from c)))))
-    (cases_Bool (is_among xs n))
+same_members xs ys n to from = same_from_decides _ _ (Decides-like _ to from (among_decides xs n)) (among_decides ys n)
 
 -- ---- sorted, and without repeats
 
@@ -55,9 +50,7 @@ module _ (rows sorted made : List ℕ) (moved : IsPermutation rows sorted) (orde
 
 -- numbers that rise do not fall
 rises_along : (numbers : List ℕ) → IsStrictlyIncreasing numbers → (i j : ℕ) → i ≤ j → j < length numbers → get_or numbers i 0 ≤ get_or numbers j 0
-rises_along numbers rise i j h within =
-    ⊎_elim (λ (same : i ≡ j). omega (arith, ap (λ k. get_or numbers k 0) same))
-    (λ (less : i < j). omega (arith, AllPairs-from_increasing numbers rise i j 0 less within)) (eq-or-lt_of_le h)
+rises_along numbers rise i j h within = grind (arith, AllPairs-from_increasing, eq-or-lt_of_le)
 
 -- what a binary search of rising numbers finds is among them, and nothing else is
 pub found_among : (numbers : List ℕ) (n : ℕ) (r : Result ℕ ℕ) → IsStrictlyIncreasing numbers → IsBinarySearchResult (λ y. nat_cmp y n) numbers r
@@ -67,11 +60,8 @@ found_among numbers n (Ok i) rise is =
     sym (among_from numbers n (i, at.0, get_or_default numbers i n 0 at.0 ∙ at.1))
 found_among numbers n (Err i) rise is =
     let at = searched numbers n (Err i) is (rises_along numbers rise) in
-    sym (not_among numbers n (λ c. elsewhere c.0 c.1 (get_or_default numbers c.0 0 n c.1 ∙ c.2) at))
-  where
-    elsewhere : (k : ℕ) → k < length numbers → get_or numbers k 0 ≡ n
-        → (i ≤ length numbers) × ((k : ℕ) → k < i → get_or numbers k 0 < n) × ((k : ℕ) → i ≤ k → k < length numbers → n < get_or numbers k 0) → ⊥
-    elsewhere k within is at = ⊎_elim (λ below. omega (arith, at.1 k below, is)) (λ above. omega (arith, at.2 k above within, is)) (cases_lt k i)
+    sym (false_from_ne_true _ (λ e.
+    let c = from_among numbers n e in grind (arith, at.1 c.0, at.2 c.0, get_or_default numbers c.0 0 n c.1)))
 
 -- two lists that rise and have the same numbers among them are one
 pub same_from_numbers : (xs ys : List ℕ) → IsStrictlyIncreasing xs → IsStrictlyIncreasing ys → ((n : ℕ) → is_among xs n ≡ is_among ys n) → xs ≡ ys

@@ -3,3 +3,4 @@ pub mod Least
 pub mod Parts
 pub mod Order
 pub mod Among
+pub mod Exact

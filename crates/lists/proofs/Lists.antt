@@ -1,9 +1,8 @@
 -- Lists that std has no lemmas on: filters under filters, and permutations of what lists are joined from.
-use Rattle.std.proofs.Common.{◌≡◌, ℕ, zero, suc, ◌+◌, ◌<◌, ◌≤◌, Bool, true, false, ◌||◌, cond, List, [], ◌∷◌, ◌++◌, length, get_or, set, swap, Option, Some}
-use Rattle.std.proofs.Common.{None, filter, filter_map, flat_map, map, option_map, option_to_list, replicate, All, IsPermutation, refl, ap, ap₂, ◌∙◌, arith}
+use Rattle.std.proofs.Common.{◌≡◌, ℕ, zero, suc, ◌+◌, ◌<◌, ◌≤◌, Bool, true, cond, List, [], ◌∷◌, ◌++◌, length, get_or, set, swap, Option, Some}
+use Rattle.std.proofs.Common.{None, filter, filter_map, flat_map, map, option_map, option_to_list, replicate, All, IsPermutation, refl, ap, ◌∙◌, arith}
 use Rattle.std.proofs.Common.{append_assoc, append-nil}
 use Rattle.std.specs.List.{list_any, concat, cons_option, range_with_len}
-use Rattle.std.proofs.lemmas.Bool.{both_ways}
 use Rattle.std.proofs.lemmas.List.{drop_at, length-append, take_at}
 use Rattle.std.proofs.lemmas.List.Elements.{All-drop, All-take, filter-append, filter_map-append}
 use Rattle.std.proofs.lemmas.List.Folds.{concat-append}
@@ -15,61 +14,31 @@ use Rattle.std.proofs.lemmas.List.Sorted.{IsPermutation-append_comm}
 -- two filters change places where their tests agree on what the other keeps
 pub filters_commute : {X : Type 0} (p r q : X → Bool) → ((x : X) → q x ≡ true → p x ≡ r x) → (xs : List X) → filter p (filter q xs) ≡ filter q (filter r xs)
 filters_commute p r q agree [] = refl
-filters_commute {X} p r q agree (x ∷ xs) = go (q x) refl (r x) refl (filters_commute p r q agree xs)
-  where
-    go : (b : Bool) → q x ≡ b → (c : Bool) → r x ≡ c → filter p (filter q xs) ≡ filter q (filter r xs)
-        → filter p (cond b (x ∷ filter q xs) (filter q xs)) ≡ filter q (cond c (x ∷ filter r xs) (filter r xs))
-    go true e true f h = rw (agree x e ∙ f, e) (ap (λ l. x ∷ l) h)
-    go true e false f h = rw (agree x e ∙ f) h
-    go false e true f h = rw e h
-    go false e false f h = h
+filters_commute p r q agree (x ∷ xs) = let here = agree x in let more = filters_commute p r q agree xs in grind arith
 
 pub filter_of_filter : {X : Type 0} (p q : X → Bool) → ((x : X) → p x ≡ true → q x ≡ true) → (xs : List X) → filter p (filter q xs) ≡ filter p xs
 filter_of_filter p q implies [] = refl
-filter_of_filter {X} p q implies (x ∷ xs) = go (q x) refl (p x) refl (filter_of_filter p q implies xs)
-  where
-    go : (b : Bool) → q x ≡ b → (c : Bool) → p x ≡ c → filter p (filter q xs) ≡ filter p xs → filter p (cond b (x ∷ filter q xs) (filter q xs)) ≡ cond c
-        (x ∷ filter p xs) (filter p xs)
-    go true e true f h = rw f (ap (λ l. x ∷ l) h)
-    go true e false f h = rw f h
-    go false e true f h = absurd (both_ways _ e (implies x f))
-    go false e false f h = h
+filter_of_filter p q implies (x ∷ xs) = let here = implies x in let more = filter_of_filter p q implies xs in grind arith
 
 -- where no item outside the filter passes, the filter changes no answer
 pub any_of_filter : {X : Type 0} (p q : X → Bool) → ((x : X) → p x ≡ true → q x ≡ true) → (xs : List X) → list_any p (filter q xs) ≡ list_any p xs
 any_of_filter p q implies [] = refl
-any_of_filter {X} p q implies (x ∷ xs) = go (q x) refl (p x) refl (any_of_filter p q implies xs)
-  where
-    go : (b : Bool) → q x ≡ b → (c : Bool) → p x ≡ c → list_any p (filter q xs) ≡ list_any p xs → list_any p (cond b (x ∷ filter q xs) (filter q xs)) ≡
-        (c || list_any p xs)
-    go true e true f h = rw f refl
-    go true e false f h = rw f h
-    go false e true f h = absurd (both_ways _ e (implies x f))
-    go false e false f h = h
+any_of_filter p q implies (x ∷ xs) = let here = implies x in let more = any_of_filter p q implies xs in grind arith
 
 -- two maps that agree on what a filter keeps
 pub filter_map_on_filter : {X Y : Type 0} (f g : X → Option Y) (q : X → Bool) → ((x : X) → q x ≡ true → f x ≡ g x) → (xs : List X)
     → filter_map f (filter q xs) ≡ filter_map g (filter q xs)
 filter_map_on_filter f g q agree [] = refl
-filter_map_on_filter {X} {Y} f g q agree (x ∷ xs) = go (q x) refl (filter_map_on_filter f g q agree xs)
-  where
-    go : (b : Bool) → q x ≡ b → filter_map f (filter q xs) ≡ filter_map g (filter q xs) → filter_map f (cond b (x ∷ filter q xs) (filter q xs)) ≡ filter_map g
-        (cond b (x ∷ filter q xs) (filter q xs))
-    go true e h = ap₂ cons_option (agree x e) h
-    go false e h = h
+filter_map_on_filter f g q agree (x ∷ xs) = let here = agree x in let more = filter_map_on_filter f g q agree xs in grind arith
 
 pub filter_map_as_flat_map : {X Y : Type 0} (h : X → Option Y) (xs : List X) → filter_map h xs ≡ flat_map (λ x. option_to_list (h x)) xs
 filter_map_as_flat_map h [] = refl
-filter_map_as_flat_map h (x ∷ xs) =
-    elim (h x) as (λ o. cons_option o (filter_map h xs) ≡ option_to_list o ++ flat_map (λ y. option_to_list (h y)) xs)
-    [ None ↦ filter_map_as_flat_map h xs | Some y ↦ ap (λ l. y ∷ l) (filter_map_as_flat_map h xs) ]
+filter_map_as_flat_map h (x ∷ xs) = let more = filter_map_as_flat_map h xs in grind arith
 
 -- what is made of the items that are made
 pub filter_map-option_map : {X Y Z : Type 0} (f : Y → Z) (g : X → Option Y) (xs : List X) → filter_map (λ x. option_map f (g x)) xs ≡ map f (filter_map g xs)
 filter_map-option_map f g [] = refl
-filter_map-option_map f g (x ∷ xs) =
-    elim (g x) as (λ o. cons_option (option_map f o) (filter_map (λ y. option_map f (g y)) xs) ≡ map f (cons_option o (filter_map g xs)))
-    [ None ↦ filter_map-option_map f g xs | Some y ↦ ap (λ l. f y ∷ l) (filter_map-option_map f g xs) ]
+filter_map-option_map f g (x ∷ xs) = let more = filter_map-option_map f g xs in grind arith
 
 pub filter_map-map : {X Y Z : Type 0} (h : Y → Option Z) (f : X → Y) (xs : List X) → filter_map h (map f xs) ≡ filter_map (λ x. h (f x)) xs
 filter_map-map h f [] = refl
@@ -86,15 +55,11 @@ map_more f (y ∷ ys) x = ap (λ l. f y ∷ l) (map_more f ys x)
 
 pub length-filter_map : {X Y : Type 0} (h : X → Option Y) (xs : List X) → length (filter_map h xs) ≤ length xs
 length-filter_map h [] = omega arith
-length-filter_map h (x ∷ xs) =
-    let more = length-filter_map h xs in
-    elim (h x) as (λ o. length (cons_option o (filter_map h xs)) ≤ length (x ∷ xs)) [ None ↦ omega arith | Some y ↦ omega arith ]
+length-filter_map h (x ∷ xs) = let more = length-filter_map h xs in grind arith
 
 pub filter_as_flat_map : {X : Type 0} (p : X → Bool) (xs : List X) → filter p xs ≡ flat_map (λ x. cond (p x) (x ∷ []) []) xs
 filter_as_flat_map p [] = refl
-filter_as_flat_map p (x ∷ xs) =
-    elim (p x) as (λ b. cond b (x ∷ filter p xs) (filter p xs) ≡ cond b (x ∷ []) [] ++ flat_map (λ y. cond (p y) (y ∷ []) []) xs)
-    [ true ↦ ap (λ l. x ∷ l) (filter_as_flat_map p xs) | false ↦ filter_as_flat_map p xs ]
+filter_as_flat_map p (x ∷ xs) = let more = filter_as_flat_map p xs in grind arith
 
 pub filter-flat_map : {A B : Type 0} (p : B → Bool) (f : A → List B) (xs : List A) → filter p (flat_map f xs) ≡ flat_map (λ x. filter p (f x)) xs
 filter-flat_map p f [] = refl
@@ -104,6 +69,10 @@ pub filter_map-flat_map : {A B C : Type 0} (h : B → Option C) (f : A → List 
     → filter_map h (flat_map f xs) ≡ flat_map (λ x. filter_map h (f x)) xs
 filter_map-flat_map h f [] = refl
 filter_map-flat_map h f (x ∷ xs) = filter_map-append h (f x) (flat_map f xs) ∙ ap (λ l. filter_map h (f x) ++ l) (filter_map-flat_map h f xs)
+
+pub flat_map_none : {X Y : Type 0} (xs : List X) → flat_map {A = Y} (λ x. []) xs ≡ []
+flat_map_none [] = refl
+flat_map_none (x ∷ xs) = flat_map_none xs
 
 pub concat_push : (xs : List (List ℕ)) (x : List ℕ) → concat (xs ++ x ∷ []) ≡ concat xs ++ x
 concat_push xs x = concat-append xs (x ∷ []) ∙ ap (λ l. concat xs ++ l) (append-nil x)

@@ -1,8 +1,8 @@
 -- The classes of rows by a modulus: of one row more, of several lists joined, and of a partition by a multiple of its modulus.
-use Rattle.std.proofs.Common.{◌≡◌, ℕ, ◌+◌, ◌-◌, ◌*◌, ◌/◌, ◌%◌, ◌<◌, ◌==◌, Bool, true, false, cond, List, [], ◌∷◌, ◌++◌, length, take, get_or, filter, refl, sym, ap}
-use Rattle.std.proofs.Common.{◌∙◌, append-nil, arith}
+use Rattle.std.proofs.Common.{◌≡◌, ℕ, ◌+◌, ◌-◌, ◌*◌, ◌/◌, ◌%◌, ◌<◌, ◌==◌, true, false, cond, List, [], ◌∷◌, ◌++◌, length, take, get_or, sym, ap}
+use Rattle.std.proofs.Common.{◌≤◌, ⊎_elim, ◌∙◌, append-nil, arith}
 use Rattle.std.proofs.Math.Nat.{add-mul-mod_self_left}
-use Rattle.std.proofs.lemmas.Bool.{eqb-true}
+use Rattle.std.proofs.lemmas.Bool.{cases_lt, eqb-true}
 use Rattle.std.proofs.lemmas.Bool.Decides.{nat_tests}
 use Rattle.std.proofs.lemmas.List.{take_more}
 use Rattle.std.proofs.lemmas.List.Elements.{filter-append}
@@ -15,37 +15,19 @@ use Rattle.row_types.specs.declared.trade.Sale.{Sale}
 use Rattle.day_rows.specs.DayRows.{DayRows}
 use Rattle.morsel_rows.specs.Partitions.{class_of, partition_of}
 
--- ---- a walk over rows
-
-module _ {X : Type 0} (n : ℕ) (number : X → ℕ) (b : ℕ) (xs : List X) (i : ℕ) (d x : X) (within : i < length xs) (is : x ≡ get_or xs i d) where
-  next : part n number (take (i + 1) xs) b ≡ part n number (take i xs) b ++ cond (number x % n == b) (x ∷ []) []
-  next =
-      ap (λ l. part n number l b) (take_more xs i d within)
-      ∙ filter-append (λ y. number y % n == b) (take i xs) (get_or xs i d ∷ [])
-      ∙ ap (λ y. part n number (take i xs) b ++ cond (number y % n == b) (y ∷ []) []) (sym is)
-
-  -- the next row is one of the class
-  pub class_more : (old new : List X) → old ≡ part n number (take i xs) b → true ≡ (number x % n == b) → new ≡ old ++ x ∷ []
-      → new ≡ part n number (take (i + 1) xs) b
-  class_more old new so_far one more =
-      more ∙ ap (λ l. l ++ x ∷ []) so_far ∙ ap (λ t. part n number (take i xs) b ++ cond t (x ∷ []) []) one ∙ sym next
-
-  -- it is none
-  pub class_same : (old : List X) → old ≡ part n number (take i xs) b → false ≡ (number x % n == b) → old ≡ part n number (take (i + 1) xs) b
-  class_same old so_far none =
-      so_far ∙ sym (append-nil (part n number (take i xs) b)) ∙ ap (λ t. part n number (take i xs) b ++ cond t (x ∷ []) []) none ∙ sym next
-
 -- ---- remainders
 
 -- a quotient with a small rest is the right one
 pub remainder_is : (key quotient number rest : ℕ) → quotient * number + rest ≡ key → rest < number → rest ≡ key % number
 remainder_is key quotient number rest is small = sym (ap (λ k. k % number) (sym is) ∙ mod-mul-add quotient number rest small)
 
--- so is the next one, if the rest is less than twice the number
-pub remainder_is_next : (key quotient number rest : ℕ) → quotient * number + rest ≡ key → number < rest + 1 → rest - number < number
-    → rest - number ≡ key % number
-remainder_is_next key quotient number rest is most small =
-    remainder_is key (quotient + 1) number (rest - number) (grind (arith, is, most)) small
+-- and so is the rest without the number, if it has it
+pub remainder_of : (key quotient number rest result : ℕ) → quotient * number + rest ≡ key → (rest < number → result ≡ rest)
+    → (number ≤ rest → result ≡ rest - number) → result < number → result ≡ key % number
+remainder_of key quotient number rest result is less more small = ⊎_elim
+    (λ below. let same = less below in remainder_is key quotient number result (rw same is) small)
+    (λ above. let same = more above in remainder_is key (quotient + 1) number result (grind (arith, is, above, same)) small)
+    (cases_lt rest number)
 
 -- what numbers leave by a multiple says what they leave
 leaves : (n p key b : ℕ) → (key % (n * p) == b) ≡ true → (key % n == b % n) ≡ true

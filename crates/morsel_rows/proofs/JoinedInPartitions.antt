@@ -49,15 +49,20 @@ part_of_others {X} n number xs x b other =
 part_same : {X : Type 0} (n : ℕ) (number : X → ℕ) (xs : List X) (b : ℕ) → part n number (xs ++ []) b ≡ part n number xs b
 part_same n number xs b = ap (λ l. part n number l b) (append-nil xs)
 
--- where one partition changes, and the others stay, the changed rows are those of all messages
+-- if the partition of the key changes so, the changed rows are those of all messages
+abbrev pub Joins : ℕ → DayRows → (PartitionView → PartitionView) → Type 0
+Joins key more change =
+    (items : List PartitionView) (breaks : List ℕ) (directory : List DirectoryRow) (number : ℕ) (old next : PartitionView)
+    → number ≡ key % length items → old ≡ slice_index_or items number old → next ≡ change old
+    → BecomesJoined more (record { partitions = items; breaks = breaks; directory = directory })
+    (record { partitions = slice_set items number next; breaks = breaks; directory = directory })
+
+-- it is so if the others stay
 module _ (key : ℕ) (more : DayRows) (change : PartitionView → PartitionView)
     (its : (n : ℕ) (rows : DayRows) → partition_of n (joined rows more) (key % n) ≡ change (partition_of n rows (key % n)))
     (others : (n : ℕ) (rows : DayRows) (b : ℕ) → (b ≡ key % n → ⊥) → partition_of n rows b ≡ partition_of n (joined rows more) b)
     (breaks_same : more.breaks ≡ []) (directory_same : more.directory ≡ []) where
-  joins : (items : List PartitionView) (breaks : List ℕ) (directory : List DirectoryRow) (number : ℕ) (old next : PartitionView)
-      → number ≡ key % length items → old ≡ slice_index_or items number old → next ≡ change old
-      → BecomesJoined more (record { partitions = items; breaks = breaks; directory = directory })
-      (record { partitions = slice_set items number next; breaks = breaks; directory = directory })
+  joins : Joins key more change
   joins items breaks directory number old next number_is old_is next_is n rows some most same =
       let all : items ≡ map (partition_of n rows) (numbers_below n) = ap (λ v. v.partitions) same in
       let long : length items ≡ n = ap length all ∙ length-map-range_with_len (partition_of n rows) 0 n in
@@ -78,10 +83,7 @@ module _ (key : ℕ) (more : DayRows) (change : PartitionView → PartitionView)
       λ i. record { partitions = partitions i; breaks = breaks_are i; directory = directory_is i }
 
 -- an order reference more
-pub order_joins : (row : OrderRow) (items : List PartitionView) (breaks : List ℕ) (directory : List DirectoryRow) (number : ℕ) (old next : PartitionView)
-    → number ≡ row.order_no % length items → old ≡ slice_index_or items number old → next ≡ with_order row old
-    → BecomesJoined (only_order row) (record { partitions = items; breaks = breaks; directory = directory })
-    (record { partitions = slice_set items number next; breaks = breaks; directory = directory })
+pub order_joins : (row : OrderRow) → Joins row.order_no (only_order row) (with_order row)
 order_joins row =
     let key : OrderRow → ℕ = λ r. r.order_no in
     joins row.order_no (only_order row) (with_order row)
@@ -97,10 +99,7 @@ order_joins row =
     }) refl refl
 
 -- an execution more
-pub execution_joins : (row : Execution) (items : List PartitionView) (breaks : List ℕ) (directory : List DirectoryRow) (number : ℕ) (old next : PartitionView)
-    → number ≡ row.order_no % length items → old ≡ slice_index_or items number old → next ≡ with_execution row old
-    → BecomesJoined (only_execution row) (record { partitions = items; breaks = breaks; directory = directory })
-    (record { partitions = slice_set items number next; breaks = breaks; directory = directory })
+pub execution_joins : (row : Execution) → Joins row.order_no (only_execution row) (with_execution row)
 execution_joins row =
     let key : Execution → ℕ = λ r. r.order_no in
     joins row.order_no (only_execution row) (with_execution row)
@@ -116,10 +115,7 @@ execution_joins row =
     }) refl refl
 
 -- a sale more
-pub sale_joins : (row : Sale) (items : List PartitionView) (breaks : List ℕ) (directory : List DirectoryRow) (number : ℕ) (old next : PartitionView)
-    → number ≡ row.place % length items → old ≡ slice_index_or items number old → next ≡ with_sale row old
-    → BecomesJoined (only_sale row) (record { partitions = items; breaks = breaks; directory = directory })
-    (record { partitions = slice_set items number next; breaks = breaks; directory = directory })
+pub sale_joins : (row : Sale) → Joins row.place (only_sale row) (with_sale row)
 sale_joins row =
     let key : Sale → ℕ = λ r. r.place in
     joins row.place (only_sale row) (with_sale row)

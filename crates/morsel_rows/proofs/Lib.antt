@@ -3,6 +3,5 @@ pub mod MessagesOfPartition
 pub mod JoinedInPartitions
 pub mod ClassesOfRows
 mod SearchedRows
-mod PointNearby
 mod TakenRows
 mod Masks

@@ -1,17 +1,17 @@
 -- Partitions that have taken memory, and those that haven't, as callers see them.
 use Rattle.std.proofs.Common.{◌≡◌, ℕ, zero, suc, ◌<◌, ◌≤◌, ◌%◌, List, [], ◌∷◌, ◌++◌, length, map, Option, None, Some, Box, slice_get, slice_index_or, slice_set}
-use Rattle.std.proofs.Common.{refl, subst, sym, ap, ◌∙◌, arith}
-use Rattle.std.proofs.lemmas.List.{get_or-set_same, get_or-set_other}
+use Rattle.std.proofs.Common.{true, is_some, refl, subst, sym, ap, ◌∙◌, arith}
+use Rattle.std.proofs.lemmas.List.{get_or_default, get_or-set_same, get_or-set_other}
 use Rattle.std.proofs.lemmas.List.FromFn.{get_or-map-range_with_len, length-map-range_with_len}
 use Rattle.std.proofs.lemmas.Option.{slice_get-get_or}
 use Rattle.std.proofs.lemmas.Nat.{mod_below}
 use Rattle.lists.specs.Least.{numbers_below}
 use Rattle.row_types.specs.declared.directory.DirectoryRow.{DirectoryRow}
 use Rattle.day_rows.specs.DayRows.{DayRows, no_rows}
-use Rattle.morsel_rows.specs.MoreRows.{BecomesJoined, with_partition}
+use Rattle.morsel_rows.specs.MoreRows.{BecomesJoined}
 use Rattle.morsel_rows.specs.Partitions.{MorselRowsView, PartitionView, no_rows_in, partition_of}
-use Rattle.morsel_rows.specs.TakenPartitions.{partitions_seen, rows_of_taken, rows_taken_at}
-use Rattle.morsel_rows.proofs.JoinedInPartitions.{same_from_number, set_one}
+use Rattle.morsel_rows.specs.TakenPartitions.{HasTaken, partitions_seen, rows_of_taken, rows_taken_at}
+use Rattle.morsel_rows.proofs.JoinedInPartitions.{Joins, same_from_number, set_one}
 
 module _ {Z : Type 0} where
   -- a place more, without a partition
@@ -43,9 +43,18 @@ module _ {Z : Type 0} where
   -- what stands at a place is its partition
   pub taken_is : (taken : List (Option (Box PartitionView Z))) (number : ℕ) (here : Option (Box PartitionView Z)) → number < length taken
       → here ≡ slice_index_or taken number here → rows_taken_at taken number ≡ rows_of_taken here
-  taken_is [] number here within is = absurd (omega arith)
-  taken_is (one ∷ taken) zero here within is = ap rows_of_taken (sym is)
-  taken_is (one ∷ taken) (suc number) here within is = taken_is taken number here (omega arith) is
+  taken_is taken number here within is = ap rows_of_taken (get_or_default taken number None here within ∙ sym is)
+
+  -- what stands at a place, if its partition has taken memory
+  pub has_taken : (taken : List (Option (Box PartitionView Z))) (number : ℕ) (here : Option (Box PartitionView Z)) → number < length taken
+      → here ≡ slice_index_or taken number here → is_some here ≡ true → HasTaken taken number
+  has_taken taken number None within is h = absurd (cc)
+  has_taken taken number (Some one) within is h = (one, get_or_default taken number None (Some one) within ∙ sym is)
+
+  pub taken_within : (taken : List (Option (Box PartitionView Z))) (number : ℕ) → HasTaken taken number → number < length taken
+  taken_within [] number has = let some = has.1 in absurd (cc)
+  taken_within (one ∷ taken) zero has = omega arith
+  taken_within (one ∷ taken) (suc number) has = let below = taken_within taken number has in omega (arith, below)
 
   -- what stands at a place may be put there again
   pub set_same : (taken : List (Option (Box PartitionView Z))) (number : ℕ) (here : Option (Box PartitionView Z))
@@ -85,11 +94,7 @@ module _ {Z : Type 0} (n : ℕ) where
       ∙ ap (slice_set (partitions_seen n taken) number) at
 
 -- where a partition changes by one row more at its number, the changed rows are those of all messages
-module _ {Z : Type 0} (key : ℕ) (more : DayRows) (change : PartitionView → PartitionView)
-    (joins : (items : List PartitionView) (breaks : List ℕ) (directory : List DirectoryRow) (number : ℕ) (old next : PartitionView)
-    → number ≡ key % length items → old ≡ slice_index_or items number old → next ≡ change old
-    → BecomesJoined more (record { partitions = items; breaks = breaks; directory = directory })
-    (record { partitions = slice_set items number next; breaks = breaks; directory = directory })) where
+module _ {Z : Type 0} (key : ℕ) (more : DayRows) (change : PartitionView → PartitionView) (joins : Joins key more change) where
   pub taken_joins : (n : ℕ) (taken : List (Option (Box PartitionView Z))) (breaks : List ℕ) (directory : List DirectoryRow) (number : ℕ) (next : PartitionView)
       → 0 < n → number ≡ key % n → next ≡ change (rows_taken_at taken number)
       → BecomesJoined more (record { partitions = partitions_seen n taken; breaks = breaks; directory = directory })
@@ -100,7 +105,7 @@ module _ {Z : Type 0} (key : ℕ) (more : DayRows) (change : PartitionView → P
       (number_is ∙ ap (λ k. key % k) (sym (length_seen n taken))) (sym (at_seen n taken number (rows_taken_at taken number) below)) next_is
 
   -- in the place of the partition that was there
-  pub set_joins : (n : ℕ) (taken : List (Option (Box PartitionView Z))) (breaks : List ℕ) (directory : List DirectoryRow) (number : ℕ) (one : Box PartitionView Z)
+  set_joins : (n : ℕ) (taken : List (Option (Box PartitionView Z))) (breaks : List ℕ) (directory : List DirectoryRow) (number : ℕ) (one : Box PartitionView Z)
       → 0 < n → number ≡ key % n → number < length taken → one.value ≡ change (rows_taken_at taken number)
       → BecomesJoined more (record { partitions = partitions_seen n taken; breaks = breaks; directory = directory })
       (record { partitions = partitions_seen n (slice_set taken number (Some one)); breaks = breaks; directory = directory })
@@ -110,13 +115,32 @@ module _ {Z : Type 0} (key : ℕ) (more : DayRows) (change : PartitionView → P
       (record { partitions = l; breaks = breaks; directory = directory })) (sym (seen_set n taken number (Some one) below within))
       (taken_joins n taken breaks directory number one.value some number_is one_is)
 
-  -- in the place of none
-  pub begun_joins : (n : ℕ) (taken : List (Option (Box PartitionView Z))) (breaks : List ℕ) (directory : List DirectoryRow) (number : ℕ) (old new : MorselRowsView)
-      → 0 < n → number ≡ key % n → rows_taken_at taken number ≡ no_rows_in
-      → record { partitions = partitions_seen n taken; breaks = breaks; directory = directory } ≡ old
-      → new ≡ with_partition number (change no_rows_in) old → BecomesJoined more old new
-  begun_joins n taken breaks directory number old new some number_is none old_is new_is =
-      let from : MorselRowsView = record { partitions = partitions_seen n taken; breaks = breaks; directory = directory } in
-      subst (λ (v : MorselRowsView). BecomesJoined more old v) (sym new_is)
-      (subst (λ (v : MorselRowsView). BecomesJoined more v (with_partition number (change no_rows_in) v)) old_is
-      (taken_joins n taken breaks directory number (change no_rows_in) some number_is (ap change (sym none))))
+-- what a push into the partition at its place does
+module _ {Z : Type 0} (n : ℕ) (before taken : List (Option (Box PartitionView Z))) (same : (k : ℕ) → rows_taken_at taken k ≡ rows_taken_at before k)
+    (breaks : List ℕ) (directory : List DirectoryRow) (number : ℕ) (has : HasTaken taken number) (here : Option (Box PartitionView Z))
+    (at : here ≡ slice_index_or taken number here) where
+  abbrev seen : List (Option (Box PartitionView Z)) → MorselRowsView
+  seen l = record { partitions = partitions_seen n l; breaks = breaks; directory = directory }
+
+  same_seen : seen taken ≡ seen before
+  same_seen = λ i. record { partitions = seen_same n taken before same i; breaks = breaks; directory = directory }
+
+  stands : slice_index_or taken number None ≡ here
+  stands = get_or_default taken number None here (taken_within taken number has) ∙ sym at
+
+  pub not_none : here ≡ None → ⊥
+  not_none is = let some = sym has.1 ∙ stands ∙ is in absurd (cc)
+
+  -- if it is refused
+  pub push_same : (part next : Box PartitionView Z) → here ≡ Some part → next ≡ part → seen (slice_set taken number (Some next)) ≡ seen before
+  push_same part next is same_part =
+      ap (λ it. seen (slice_set taken number it)) (ap Some same_part ∙ sym is) ∙ ap seen (set_same taken number here at) ∙ same_seen
+
+  -- if a row is added
+  pub push_joins : (key : ℕ) (more : DayRows) (change : PartitionView → PartitionView) → Joins key more change
+      → 0 < n → number ≡ key % n → (part next : Box PartitionView Z) → here ≡ Some part → next.value ≡ change part.value
+      → BecomesJoined more (seen before) (seen (slice_set taken number (Some next)))
+  push_joins key more change joins some number_is part next is next_is =
+      subst (λ (v : MorselRowsView). BecomesJoined more v (seen (slice_set taken number (Some next)))) same_seen
+      (set_joins key more change joins n taken breaks directory number next some number_is (taken_within taken number has)
+      (next_is ∙ ap change (sym (ap rows_of_taken (stands ∙ is)))))

@@ -1,6 +1,6 @@
 -- One row more.
 -- Derived: the answer isn't defined by partitions.
-use Rattle.std.specs.Prelude.{◌≡◌, ℕ, ◌<◌, ◌≤◌, [], ◌∷◌, ◌++◌, slice_set}
+use Rattle.std.specs.Prelude.{◌≡◌, ℕ, ◌<◌, ◌≤◌, [], ◌∷◌, ◌++◌}
 use Rattle.lists.specs.declared.limits.TheConstants.{MOST_PARTITIONS}
 use Rattle.row_types.specs.declared.order.OrderRow.{OrderRow}
 use Rattle.row_types.specs.declared.trade.Execution.{Execution}
@@ -28,14 +28,6 @@ with_sale row rows = record {
   orders = rows.orders;
   executions = rows.executions;
   own_priced = rows.own_priced ++ row ∷ [];
-}
-
--- rows with this partition in the place of the one of this number
-abbrev pub with_partition : ℕ → PartitionView → MorselRowsView → MorselRowsView
-with_partition number partition rows = record {
-  partitions = slice_set rows.partitions number partition;
-  breaks = rows.breaks;
-  directory = rows.directory;
 }
 
 -- if the old rows are some rows in n partitions, the new ones are those and others after them, in n partitions

@@ -1,6 +1,6 @@
 -- Partitions of which some have taken no memory yet.
 -- Derived: callers see a list of partitions.
-use Rattle.std.specs.Prelude.{ℕ, List, Option, None, Some, Box, map, slice_index_or}
+use Rattle.std.specs.Prelude.{◌≡◌, ℕ, List, Option, None, Some, Box, map, slice_index_or}
 use Rattle.lists.specs.Least.{numbers_below}
 use Rattle.morsel_rows.specs.Partitions.{PartitionView, no_rows_in}
 
@@ -13,6 +13,10 @@ module _ {Z : Type 0} where
   -- the rows of the partition of this number
   abbrev pub rows_taken_at : List (Option (Box PartitionView Z)) → ℕ → PartitionView
   rows_taken_at taken number = rows_of_taken (slice_index_or taken number None)
+
+  -- the partition of this number has taken memory
+  abbrev pub HasTaken : List (Option (Box PartitionView Z)) → ℕ → Type 0
+  HasTaken taken number = (one : Box PartitionView Z) × (slice_index_or taken number None ≡ Some one)
 
   -- the rows of so many partitions, of which some have taken memory
   abbrev pub partitions_seen : ℕ → List (Option (Box PartitionView Z)) → List PartitionView

@@ -3,7 +3,10 @@ ghost use Rattle.std.specs.Prelude.{◌≡◌, ◌+◌, ◌^◌, ◌<◌, ◌≤
 ghost use Rattle.std.specs.Prelude.{slice_index_or, vec_capacity, vec_len};
 
 use crate::OutOfMemory;
+use crate::lean::LeanRows;
 use crate::narrow::NarrowRows;
+use crate::order_rows::OrderRows;
+use crate::same::same_lists;
 use row_types::OrderRow;
 use std::alloc::{AllocError, Allocator};
 use std::marker::Model;
@@ -15,9 +18,9 @@ const MOST: usize = 1 << 62;
 /// isn't, and all that follow, take 24.
 #[derive(Drop)]
 pub(crate) struct RowsBehind<A: Allocator> {
-    narrow: NarrowRows<A>,
+    pub(crate) narrow: NarrowRows<A>,
     /// The first row that isn't narrow, and all that follow it.
-    wide: Vec<OrderRow, A>,
+    pub(crate) wide: Vec<OrderRow, A>,
 }
 
 impl<A: Allocator> Model for RowsBehind<A> {
@@ -52,6 +55,7 @@ impl<A: Allocator> RowsBehind<A> {
     }
 
     /// Adds a row at the end. If there is no memory for it, the rows stay as they were.
+    #[inline(always)]
     pub(crate) fn push(&mut self, row: OrderRow) -> Result<(), OutOfMemory>
         ensures added { OnOk result (self.new ≡ self.old ++ row ∷ []) }
         ensures unchanged { OnErr result (self.new ≡ self.old) }
@@ -59,13 +63,20 @@ impl<A: Allocator> RowsBehind<A> {
         if self.narrow.len() + self.wide.len() >= MOST {
             return Err(AllocError);
         }
-        if !self.wide.is_empty() {
-            self.wide.push(row)?;
+        if self.wide.is_empty() && self.narrow.push_near(row)? {
             return Ok(());
         }
-        if self.narrow.push_near(row)? {
-            return Ok(());
-        }
+        self.push_wide(row)
+    }
+
+    /// Adds a row that isn't narrow.
+    #[cold]
+    #[inline(never)]
+    fn push_wide(&mut self, row: OrderRow) -> Result<(), OutOfMemory>
+        requires { length self.old < 2 ^ 62 }
+        ensures added { OnOk result (self.new ≡ self.old ++ row ∷ []) }
+        ensures unchanged { OnErr result (self.new ≡ self.old) }
+    {
         self.wide.push(row)?;
         Ok(())
     }
@@ -100,11 +111,25 @@ impl<A: Allocator> RowsBehind<A> {
         }
     }
 
+    /// Lean rows and these behind them, one after the other.
+    #[inline(always)]
+    pub(crate) fn iter_after<'a>(&'a self, lean: &'a LeanRows<A>) -> OrderRows<'a>
+        ensures { result ≡ lean.now ++ self.now }
+    {
+        OrderRows {
+            start: self.narrow.start,
+            narrow: self.narrow.rows.as_slice(),
+            wide: self.wide.as_slice(),
+            origin: lean.origin,
+            lean: lean.rows.as_slice(),
+        }
+    }
+
     /// Whether the rows are the same and lie alike, narrow or wide.
     pub(crate) fn lies_as(&self, other: &RowsBehind<A>) -> bool
         ensures { IsTrue result → self.now ≡ other.now }
     {
-        self.narrow.lies_as(&other.narrow) && self.wide == other.wide
+        self.narrow.lies_as(&other.narrow) && same_lists(&self.wide, &other.wide)
     }
 
     /// Adds the rows to a vector that has room for them.

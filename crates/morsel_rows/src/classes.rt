@@ -18,8 +18,7 @@ pub(crate) fn orders_of_class<A: Allocator + Copy>(
     ensures { IfOk result (λ class. class ≡ part modulus.number (λ row. row.order_no) orders.now remainder) }
 {
     let mut class = OrderList::new(alloc);
-    for index in 0..orders.len() {
-        let row = orders.at(index);
+    for row in orders.iter() {
         if modulus.leaves(row.order_no, remainder) {
             class.push(row)?;
         }

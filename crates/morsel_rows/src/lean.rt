@@ -7,8 +7,10 @@ ghost use Rattle.morsel_rows.specs.LeanRows.{IsOrigin, row_of_lean};
 
 use crate::OutOfMemory;
 use crate::offsets::{LAST_START, offset_from};
+use crate::order_rows::OrderRows;
 use crate::pushing::push;
 use crate::rising::RisingRows;
+use crate::same::{SameRow, same_lists};
 use row_types::OrderRow;
 use std::alloc::Allocator;
 use std::marker::Model;
@@ -77,11 +79,20 @@ impl Lean {
     }
 }
 
+impl SameRow for Lean {
+    #[inline(always)]
+    fn same_as(self, other: Lean) -> bool {
+        (self.reference == other.reference)
+            & (self.price == other.price)
+            & (self.offset == other.offset)
+    }
+}
+
 /// Order rows that are near the first one. A row takes 12 bytes.
 #[derive(Drop)]
 pub(crate) struct LeanRows<A: Allocator> {
-    origin: Origin,
-    rows: Vec<Lean, A>,
+    pub(crate) origin: Origin,
+    pub(crate) rows: Vec<Lean, A>,
 }
 
 impl<A: Allocator> Model for LeanRows<A> {
@@ -191,13 +202,27 @@ impl<A: Allocator> LeanRows<A> {
         RisingRows::of(self.origin, self.rows.as_slice())
     }
 
+    /// The rows, one after the other.
+    #[inline(always)]
+    pub(crate) fn iter(&self) -> OrderRows<'_>
+        ensures { result ≡ self.now }
+    {
+        OrderRows {
+            origin: self.origin,
+            lean: self.rows.as_slice(),
+            start: 0,
+            narrow: &[],
+            wide: &[],
+        }
+    }
+
     /// Whether the rows are the same, and count from the same origin.
     pub(crate) fn lies_as(&self, other: &LeanRows<A>) -> bool
         ensures { IsTrue result → self.now ≡ other.now }
     {
         self.origin.place == other.origin.place
             && self.origin.order_no == other.origin.order_no
-            && self.rows == other.rows
+            && same_lists(&self.rows, &other.rows)
     }
 
     /// Adds the rows to a vector that has room for them.

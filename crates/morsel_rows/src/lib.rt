@@ -11,13 +11,16 @@ mod modulus;
 mod narrow;
 mod numbers;
 mod offsets;
+mod order_rows;
 mod orders;
 mod partition;
 mod pushing;
 mod rising;
 mod rows;
+mod same;
 
 pub use lists::OutOfMemory;
+pub use order_rows::OrderRows;
 pub use orders::OrderList;
 pub use partition::Partition;
 pub use rising::RisingRows;

@@ -1,5 +1,5 @@
 //! Remainders by one number, of many keys.
-ghost use Rattle.std.specs.Prelude.{◌≡◌, ◌%◌, ◌*◌, ◌+◌, ◌<◌, ◌==◌};
+ghost use Rattle.std.specs.Prelude.{◌≡◌, ◌%◌, ◌*◌, ◌+◌, ◌-◌, ◌<◌, ◌≤◌, ◌==◌};
 ghost use Rattle.std.specs.Option.{IfSome};
 
 /// A number that many keys are divided by, and by what a quotient is estimated: a division of 64 bits takes ten
@@ -40,11 +40,13 @@ impl Modulus {
         let number = u64::from(self.number);
         // The quotient, or one less.
         let quotient = ((u128::from(key) * u128::from(self.inverse)) >> 64) as u64;
-        match rest_of(key, quotient, number) {
-            Some(rest) if rest < number => rest,
-            Some(rest) if rest - number < number => rest - number,
-            _ => key % number,
+        if let Some(rest) = rest_of(key, quotient, number) {
+            let remainder = less_once(rest, number);
+            if remainder < number {
+                return remainder;
+            }
         }
+        key % number
     }
 }
 
@@ -57,4 +59,14 @@ fn rest_of(key: u64, quotient: u64, number: u64) -> Option<u64>
         Some(product) => key.checked_sub(product),
         None => None,
     }
+}
+
+/// The rest without the number, if it has it. Whether it has no processor could foresee, so there is no branch: the
+/// difference wraps if it hasn't, and is the greater of the two then.
+#[inline(always)]
+fn less_once(rest: u64, number: u64) -> u64
+    ensures less { rest < number → result ≡ rest }
+    ensures more { number ≤ rest → result ≡ rest - number }
+{
+    rest.min(rest.wrapping_sub(number))
 }

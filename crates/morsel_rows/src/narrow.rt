@@ -7,6 +7,7 @@ ghost use Rattle.morsel_rows.specs.NarrowRows.{row_of_narrow};
 use crate::OutOfMemory;
 use crate::offsets::{LAST_START, offset_from};
 use crate::pushing::push;
+use crate::same::{SameRow, same_lists};
 use row_types::OrderRow;
 use std::alloc::Allocator;
 use std::marker::Model;
@@ -38,7 +39,7 @@ impl Narrow {
 
     /// The row with its place.
     #[inline(always)]
-    fn row(self, start: u64) -> OrderRow
+    pub(crate) fn row(self, start: u64) -> OrderRow
         requires { start + 2 ^ 32 ≤ 2 ^ 64 }
         ensures { result ≡ row_of_narrow start self }
     {
@@ -50,12 +51,21 @@ impl Narrow {
     }
 }
 
+impl SameRow for Narrow {
+    #[inline(always)]
+    fn same_as(self, other: Narrow) -> bool {
+        (self.order_no == other.order_no)
+            & (self.price == other.price)
+            & (self.offset == other.offset)
+    }
+}
+
 /// Order rows whose places are near that of the first one, with any references. A row takes 16 bytes.
 #[derive(Drop)]
 pub(crate) struct NarrowRows<A: Allocator> {
     /// The place that offsets count from.
-    start: u64,
-    rows: Vec<Narrow, A>,
+    pub(crate) start: u64,
+    pub(crate) rows: Vec<Narrow, A>,
 }
 
 impl<A: Allocator> Model for NarrowRows<A> {
@@ -137,7 +147,7 @@ impl<A: Allocator> NarrowRows<A> {
     pub(crate) fn lies_as(&self, other: &NarrowRows<A>) -> bool
         ensures { IsTrue result → self.now ≡ other.now }
     {
-        self.start == other.start && self.rows == other.rows
+        self.start == other.start && same_lists(&self.rows, &other.rows)
     }
 
     /// Adds the rows to a vector that has room for them.

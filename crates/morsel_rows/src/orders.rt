@@ -9,6 +9,7 @@ ghost use Rattle.morsel_rows.specs.SameRows.{is_same_order, orders_equiv};
 use crate::OutOfMemory;
 use crate::behind::RowsBehind;
 use crate::lean::LeanRows;
+use crate::order_rows::OrderRows;
 use crate::rising::RisingRows;
 use row_types::OrderRow;
 use std::alloc::{Allocator, Global};
@@ -94,6 +95,17 @@ impl<A: Allocator> OrderList<A> {
         match &self.behind {
             Some(behind) => self.lean.len() + behind.len(),
             None => self.lean.len(),
+        }
+    }
+
+    /// The rows, in the order in which they were pushed.
+    #[inline(always)]
+    pub fn iter(&self) -> OrderRows<'_>
+        ensures { result ≡ self.now }
+    {
+        match &self.behind {
+            Some(behind) => behind.iter_after(&self.lean),
+            None => self.lean.iter(),
         }
     }
 
@@ -186,6 +198,7 @@ impl<A: Allocator> PartialEq for OrderList<A> {
 
     ghost laws = { partial_equiv_from_equiv orders_equiv };
 
+    #[tactic(auto, using(crate::specs::SameRows::orders_equal_themselves))]
     fn eq(&self, other: &OrderList<A>) -> bool {
         // The usual case, and the fast one: slices are compared, and no row is widened.
         if self.lies_alike(other) {

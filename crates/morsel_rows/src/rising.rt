@@ -1,28 +1,29 @@
 //! Order rows whose references rise, searched where they lie.
-ghost use Rattle.std.specs.Prelude.{◌≡◌, ◌==◌, ◌+◌, ◌^◌, ◌<◌, ◌≤◌, All, IsTrue, false, length, map, nat_lt, true};
-ghost use Rattle.std.specs.List.{AllPairs, AllWithin, find};
-ghost use Rattle.std.specs.List.Sorted.{IsPartitionPoint};
+ghost use Rattle.std.specs.Prelude.{◌≡◌, ◌==◌, ◌<◌, ◌≤◌, All, IsTrue, length, map};
+ghost use Rattle.std.specs.List.{AllPairs, find};
 ghost use Rattle.std.specs.Option.{IfSome};
 ghost use Rattle.morsel_rows.specs.LeanRows.{IsOrigin, row_of_lean};
 
 use crate::lean::{Lean, Origin};
+use order_table::{Referenced, Spread, first_of};
 use row_types::OrderRow;
 use std::marker::Model;
 
-/// How many bits of `rows_each` are behind the point.
-const FRACTION: u32 = 32;
+impl Referenced for Lean {
+    ghost reference_of = { λ row. row.reference };
 
-/// How many rows to either side of the one where a reference is expected are looked at first.
-const NEAR: usize = 32;
+    #[inline(always)]
+    fn reference(&self) -> u64 {
+        u64::from(self.reference)
+    }
+}
 
 /// The rows of a list, one or more, each of a greater reference than the row before it. They are
 /// not copied.
 #[derive(Drop)]
 pub struct RisingRows<'a> {
     origin: Origin,
-    /// About how many rows there are for each number between the first reference and the last: a number with
-    /// `FRACTION` bits behind the point, which only decides where a search begins.
-    rows_each: u64,
+    spread: Spread,
     rows: &'a [Lean],
 }
 
@@ -51,13 +52,14 @@ impl<'a> RisingRows<'a> {
         if rows.is_empty() || !rises(rows) {
             return None;
         }
-        let span = rows[rows.len() - 1]
-            .reference
-            .saturating_sub(rows[0].reference);
-        let rows_each = (rows.len() as u64).wrapping_shl(FRACTION) / u64::from(span.max(1));
+        let spread = Spread::of(
+            rows.len(),
+            rows[0].reference(),
+            rows[rows.len() - 1].reference(),
+        );
         Some(RisingRows {
             origin,
-            rows_each,
+            spread,
             rows,
         })
     }
@@ -86,62 +88,10 @@ impl<'a> RisingRows<'a> {
             return None;
         }
         let reference = order_no - self.origin.order_no;
-        let at = point(self.rows, self.rows_each, reference);
-        match self.rows.get(at) {
-            Some(row) if u64::from(row.reference) == reference => Some(row.row(self.origin)),
-            _ => None,
+        match first_of(self.rows, self.spread, reference) {
+            Some(row) => Some(row.row(self.origin)),
+            None => None,
         }
-    }
-}
-
-/// How many rows have a smaller reference than this one. References mostly rise evenly, so the search begins
-/// around the row that would have this one if they did.
-#[inline(always)]
-fn point(rows: &[Lean], rows_each: u64, reference: u64) -> usize
-    requires some { 0 < length rows.now }
-    requires rise { AllPairs (λ x y. x.reference < y.reference) rows.now }
-    ensures bound { result ≤ length rows.now }
-    ensures point { IsPartitionPoint (λ row. nat_lt row.reference reference ≡ true)
-        (λ row. nat_lt row.reference reference ≡ false) rows.now result }
-{
-    let above = reference.saturating_sub(u64::from(rows[0].reference));
-    let guess = (above.wrapping_mul(rows_each) >> FRACTION).min((rows.len() - 1) as u64) as usize;
-    let (from, to) = (
-        before(rows, guess, reference),
-        behind(rows, guess, reference),
-    );
-    from + rows[from..to].partition_point(|row| u64::from(row.reference) < reference)
-}
-
-/// A place near the guess, or the first one, before which all rows have smaller references.
-#[inline(always)]
-fn before(rows: &[Lean], guess: usize, reference: u64) -> usize
-    requires guess { guess < length rows.now }
-    requires rise { AllPairs (λ x y. x.reference < y.reference) rows.now }
-    ensures bound { result ≤ guess }
-    ensures smaller { AllWithin (λ row. nat_lt row.reference reference ≡ true) rows.now 0 result }
-{
-    let from = guess.saturating_sub(NEAR);
-    if u64::from(rows[from].reference) < reference {
-        from
-    } else {
-        0
-    }
-}
-
-/// A place near the guess, or the end, from which on no row has a smaller reference.
-#[inline(always)]
-fn behind(rows: &[Lean], guess: usize, reference: u64) -> usize
-    requires guess { guess < length rows.now }
-    requires rise { AllPairs (λ x y. x.reference < y.reference) rows.now }
-    ensures bound { (guess ≤ result) × (result ≤ length rows.now) }
-    ensures others { AllWithin (λ row. nat_lt row.reference reference ≡ false) rows.now result (length rows.now) }
-{
-    let to = guess.saturating_add(NEAR).min(rows.len() - 1);
-    if u64::from(rows[to].reference) < reference {
-        rows.len()
-    } else {
-        to
     }
 }
 

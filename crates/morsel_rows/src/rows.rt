@@ -14,9 +14,9 @@ ghost use Rattle.day_rows.specs.DayRows.{
   only_sale,
   told,
 };
-ghost use Rattle.morsel_rows.specs.MoreRows.{BecomesJoined, with_execution, with_order, with_partition, with_sale};
+ghost use Rattle.morsel_rows.specs.MoreRows.{BecomesJoined};
 ghost use Rattle.morsel_rows.specs.Partitions.{in_partitions, no_rows_in};
-ghost use Rattle.morsel_rows.specs.TakenPartitions.{rows_taken_at};
+ghost use Rattle.morsel_rows.specs.TakenPartitions.{HasTaken, rows_taken_at};
 
 use crate::OutOfMemory;
 use crate::numbers::number_of;
@@ -175,62 +175,6 @@ impl<A: Allocator + Copy> MorselRows<A> {
         }
     }
 
-    /// Puts a partition where there are no rows so far.
-    #[cold]
-    #[inline(never)]
-    fn put(&mut self, number: usize, partition: Partition<A>) -> Result<(), OutOfMemory>
-        requires { number < length self.old.partitions }
-        ensures put { OnOk result (self.new ≡ with_partition number partition self.old) }
-        ensures unchanged { OnErr result (self.new ≡ self.old) }
-    {
-        let taken = Box::new(*self.partitions.allocator(), partition)?;
-        lengthen(&mut self.partitions, self.parts as usize)?;
-        self.partitions[number] = Some(taken);
-        Ok(())
-    }
-
-    /// Adds an order reference to a partition without rows.
-    #[cold]
-    #[inline(never)]
-    fn begin_order(&mut self, number: usize, row: OrderRow) -> Result<(), OutOfMemory>
-        requires { number < length self.old.partitions }
-        ensures added { OnOk result
-            (self.new ≡ with_partition number (with_order row no_rows_in) self.old) }
-        ensures unchanged { OnErr result (self.new ≡ self.old) }
-    {
-        let mut part = Partition::new(*self.partitions.allocator());
-        part.push_order(row)?;
-        self.put(number, part)
-    }
-
-    /// Adds an execution to a partition without rows.
-    #[cold]
-    #[inline(never)]
-    fn begin_execution(&mut self, number: usize, row: Execution) -> Result<(), OutOfMemory>
-        requires { number < length self.old.partitions }
-        ensures added { OnOk result
-            (self.new ≡ with_partition number (with_execution row no_rows_in) self.old) }
-        ensures unchanged { OnErr result (self.new ≡ self.old) }
-    {
-        let mut part = Partition::new(*self.partitions.allocator());
-        part.push_execution(row)?;
-        self.put(number, part)
-    }
-
-    /// Adds a sale to a partition without rows.
-    #[cold]
-    #[inline(never)]
-    fn begin_sale(&mut self, number: usize, row: Sale) -> Result<(), OutOfMemory>
-        requires { number < length self.old.partitions }
-        ensures added { OnOk result
-            (self.new ≡ with_partition number (with_sale row no_rows_in) self.old) }
-        ensures unchanged { OnErr result (self.new ≡ self.old) }
-    {
-        let mut part = Partition::new(*self.partitions.allocator());
-        part.push_sale(row)?;
-        self.put(number, part)
-    }
-
     /// Adds one row.
     #[inline(always)]
     fn push(&mut self, row: Row) -> Result<(), OutOfMemory>
@@ -253,12 +197,10 @@ impl<A: Allocator + Copy> MorselRows<A> {
         ensures unchanged { OnErr result (self.new ≡ self.old) }
     {
         let number = number_of(row.order_no, self.parts);
-        if number >= self.partitions.len() {
-            return self.begin_order(number, row);
-        }
+        begin(&mut self.partitions, self.parts, number)?;
         match &mut self.partitions[number] {
             Some(part) => part.push_order(row),
-            None => self.begin_order(number, row),
+            None => Ok(()),
         }
     }
 
@@ -269,12 +211,10 @@ impl<A: Allocator + Copy> MorselRows<A> {
         ensures unchanged { OnErr result (self.new ≡ self.old) }
     {
         let number = number_of(row.order_no, self.parts);
-        if number >= self.partitions.len() {
-            return self.begin_execution(number, row);
-        }
+        begin(&mut self.partitions, self.parts, number)?;
         match &mut self.partitions[number] {
             Some(part) => part.push_execution(row),
-            None => self.begin_execution(number, row),
+            None => Ok(()),
         }
     }
 
@@ -285,12 +225,10 @@ impl<A: Allocator + Copy> MorselRows<A> {
         ensures unchanged { OnErr result (self.new ≡ self.old) }
     {
         let number = number_of(row.place, self.parts);
-        if number >= self.partitions.len() {
-            return self.begin_sale(number, row);
-        }
+        begin(&mut self.partitions, self.parts, number)?;
         match &mut self.partitions[number] {
             Some(part) => part.push_sale(row),
-            None => self.begin_sale(number, row),
+            None => Ok(()),
         }
     }
 
@@ -311,6 +249,43 @@ impl<A: Allocator + Copy> MorselRows<A> {
         self.directory.push(row)?;
         Ok(())
     }
+}
+
+/// Sees to it that the partition of this number has taken memory: if it hasn't, it has no rows then.
+#[inline(always)]
+fn begin<A: Allocator + Copy>(
+    partitions: &mut Taken<A>,
+    parts: u32,
+    number: usize,
+) -> Result<(), OutOfMemory>
+    requires { number < parts }
+    ensures same { (other : ℕ) → rows_taken_at partitions.new.items other ≡ rows_taken_at partitions.old.items other }
+    ensures begun { OnOk result (HasTaken partitions.new.items number) }
+{
+    if number < partitions.len() && partitions[number].is_some() {
+        return Ok(());
+    }
+    put_empty(partitions, parts, number)
+}
+
+/// Puts a partition without rows at this number.
+#[cold]
+#[inline(never)]
+fn put_empty<A: Allocator + Copy>(
+    partitions: &mut Taken<A>,
+    parts: u32,
+    number: usize,
+) -> Result<(), OutOfMemory>
+    requires below { number < parts }
+    requires none { rows_taken_at partitions.old.items number ≡ no_rows_in }
+    ensures same { (other : ℕ) → rows_taken_at partitions.new.items other ≡ rows_taken_at partitions.old.items other }
+    ensures begun { OnOk result (HasTaken partitions.new.items number) }
+{
+    let alloc = *partitions.allocator();
+    let empty = Box::new(alloc, Partition::new(alloc))?;
+    lengthen(partitions, parts as usize)?;
+    partitions[number] = Some(empty);
+    Ok(())
 }
 
 /// Makes a place for each of so many partitions.

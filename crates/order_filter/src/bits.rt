@@ -1,6 +1,6 @@
-//! Sets of references of one bit each.
+//! Sets of references of two bits each.
 ghost use Rattle.std.specs.Prelude.{◌≡◌, ℕ, ◌<◌, IfOk, length, true};
-ghost use Rattle.order_filter.specs.Bits.{bit_of, may_have, word_of};
+ghost use Rattle.order_filter.specs.Bits.{mask_of, may_have, word_of};
 
 use crate::OutOfMemory;
 use std::alloc::Global;
@@ -38,29 +38,29 @@ impl ReferenceBits {
         ensures inserted { may_have self.new order_no ≡ true }
         ensures kept { (other : ℕ) → may_have self.old other ≡ true → may_have self.new other ≡ true }
     {
-        let (word, bit) = self.seat(order_no);
-        self.words[word] |= 1u64 << bit;
+        let (word, mask) = self.seat(order_no);
+        self.words[word] |= mask;
     }
 
-    /// Whether the reference was put in, or one that has the same bit.
+    /// Whether the reference was put in, or others that have its bits.
     #[inline(always)]
     pub(crate) fn may_have(&self, order_no: u64) -> bool
         ensures { result ≡ may_have self.now order_no }
     {
-        let (word, bit) = self.seat(order_no);
-        (self.words[word] >> bit) & 1 == 1
+        let (word, mask) = self.seat(order_no);
+        self.words[word] & mask == mask
     }
 
-    /// The word of a reference, and the bit in it.
+    /// The word of a reference, and its bits in it.
     #[inline(always)]
-    fn seat(&self, order_no: u64) -> (usize, u32)
+    fn seat(&self, order_no: u64) -> (usize, u64)
         ensures word { result.0 ≡ word_of (length self.now) order_no }
         ensures has_word { result.0 < length self.now }
-        ensures bit { result.1 ≡ bit_of (length self.now) order_no }
-        ensures has_bit { result.1 < 64 }
+        ensures mask { result.1 ≡ mask_of (length self.now) order_no }
     {
         let spread = order_no.wrapping_mul(SPREAD);
         let product = u128::from(spread) * self.words.len() as u128;
-        ((product >> 64) as usize, ((product >> 58) % 64) as u32)
+        let mask = (1u64 << ((product >> 58) % 64)) | (1u64 << ((product >> 52) % 64));
+        ((product >> 64) as usize, mask)
     }
 }

@@ -1,21 +1,17 @@
 -- Of rows in the order of their references: that a sort gives it, which row comes first, and what a search finds.
-use Rattle.std.proofs.Common.{◌≡◌, ℕ, suc, ◌<◌, ◌≤◌, Bool, true, false, cond, eqb, ltb, List, [], ◌∷◌, length, get_or, slice_get, Some, None, filter}
-use Rattle.std.proofs.Common.{Ordering, nat_cmp, IsPermutation, refl, sym, ap, ◌∙◌, arith, map, ◌≢◌, ◌⊎◌, inl, inr, ⊎_elim}
+use Rattle.std.proofs.Common.{◌≡◌, ℕ, suc, ◌<◌, ◌≤◌, Bool, true, false, cond, eqb, ltb, List, [], ◌∷◌, Some, filter}
+use Rattle.std.proofs.Common.{Ordering, nat_cmp, IsPermutation, refl, sym, ap, ◌∙◌, arith, map, ◌⊎◌, inl, inr, ⊎_elim}
 use Rattle.std.proofs.Math.Nat.{eq-or-lt_of_le}
 use Rattle.std.specs.Cmp.{IsTotalOrder}
 use Rattle.std.specs.List.{All, AllPairs, IsAllAdjacentAnswer, IsDistinct, find}
-use Rattle.std.specs.List.Sorted.{IsNonDecreasingBy, IsPartitionPoint, IsSortedByKey}
+use Rattle.std.specs.List.Sorted.{IsNonDecreasingBy, IsSortedByKey}
 use Rattle.std.specs.Ordering.{is_lt, ordering_then}
-use Rattle.std.proofs.lemmas.Bool.{cases_Bool, cases_lt, eq-eqb, eqb-true, ltb-true, ltb-false, le-ltb, ne_eqb}
+use Rattle.std.proofs.lemmas.Bool.{cases_Bool, eqb-true, le-ltb}
 use Rattle.std.proofs.lemmas.Bool.Decides.{nat_tests}
 use Rattle.std.proofs.lemmas.Cmp.{nat_cmp_total, on_total, then_total}
-use Rattle.std.proofs.lemmas.List.{get_or_default}
 use Rattle.std.proofs.lemmas.List.Elements.{All-filter, filter_passes}
-use Rattle.std.proofs.lemmas.List.Folds.{find_at}
 use Rattle.std.proofs.lemmas.List.Sorted.{sorted_far, ranks_by}
-use Rattle.std.proofs.lemmas.List.Sums.{position_or_len_is}
 use Rattle.std.proofs.lemmas.Map.Keys.{Less-from_sorted, sorted_from_all_adjacent}
-use Rattle.std.proofs.lemmas.Option.{slice_get-get_or}
 use Rattle.lists.specs.Least.{least_of}
 use Rattle.order_table.specs.Orders.{OrderRow, first_row}
 use Rattle.order_table.specs.RowsInOrder.{MayFollow, IsInOrder}
@@ -100,42 +96,3 @@ first_as_given rows sorted q distinct h up =
     first_is_least sorted q up
     ∙ sym (least_by-permutation place_of _ _ (TellsApart-filter place_of (λ row. eqb row.order_no q) rows (TellsApart-from_distinct place_of rows distinct))
     (IsPermutation-filter (λ row. eqb row.order_no q) rows sorted h))
-
--- ---- what a search finds
-
--- before the index are the rows of lesser references, from it on the others
-abbrev pub Point : List OrderRow → ℕ → ℕ → Type 0
-Point rows q i = IsPartitionPoint (λ row. ltb row.order_no q ≡ true) (λ row. ltb row.order_no q ≡ false) rows i
-
-abbrev gives : ℕ → OrderRow → Bool
-gives q row = eqb row.order_no q
-
-none_gives : (rows : List OrderRow) (q : ℕ) → ((k : ℕ) (d : OrderRow) → k < length rows → (get_or rows k d).order_no ≢ q) → find (gives q) rows ≡ None
-none_gives [] q differ = refl
-none_gives (row ∷ rows) q differ =
-    rw (ne_eqb row.order_no q (differ 0 row (omega arith))) (none_gives rows q (λ k d l. differ (suc k) d (omega (arith, l))))
-
-module _ (rows read : List OrderRow) (e : read ≡ rows) (q at : ℕ) (up : IsNonDecreasingBy (λ row. row.order_no) rows) (point : Point rows q at) where
-  less : (k : ℕ) (d : OrderRow) → k < at → (get_or rows k d).order_no ≢ q
-  less k d below same = omega (arith, same, ltb-true _ _ (point.0 k d (omega arith) below))
-
-  none_at : (at < length rows → (d : OrderRow) → (get_or rows at d).order_no ≢ q) → None ≡ find (gives q) rows
-  none_at differs = sym (none_gives rows q (λ k d within. ⊎_elim (less k d)
-      (λ above same. differs (omega (arith, above, within)) d
-      (omega (arith, same, up at k d above within, ltb-false _ _ (point.1 at d (omega arith) (omega (arith, above, within))))))
-      (cases_lt k at)))
-
-  pub found_itself : (row : OrderRow) → at < length read → row ≡ get_or read at row → row.order_no ≡ q → Some row ≡ find (λ other. eqb other.order_no q) rows
-  found_itself row within here same =
-      let inside : at < length rows = omega (arith, within, ap length e) in
-      let now : row ≡ get_or rows at row = here ∙ ap (λ l. get_or l at row) e in
-      let first = position_or_len_is (gives q) rows at row (omega (arith, inside)) (λ k below. ne_eqb _ _ (less k row below))
-      (λ _. eq-eqb _ _ (ap number_of (sym now) ∙ same)) in
-      sym (find_at (gives q) rows ∙ ap (slice_get rows) first ∙ slice_get-get_or rows at row inside ∙ ap Some (sym now))
-
-  pub found_another : (row : OrderRow) → at < length read → row ≡ get_or read at row → row.order_no ≢ q → None ≡ find (λ other. eqb other.order_no q) rows
-  found_another row within here other = none_at (λ inside d same.
-      other (ap number_of (here ∙ ap (λ l. get_or l at row) e ∙ get_or_default rows at row d inside) ∙ same))
-
-  pub found_none : length read ≤ at → None ≡ find (λ other. eqb other.order_no q) rows
-  found_none past = none_at (λ inside d same. absurd (omega (arith, inside, past, ap length e)))

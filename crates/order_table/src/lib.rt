@@ -9,6 +9,7 @@
 
 mod prices;
 pub mod row;
+mod searching;
 mod sorted;
 mod sorting;
 pub mod table;
@@ -17,4 +18,5 @@ pub use lists::OutOfMemory;
 pub use prices::PricesExecutions;
 pub use row::partition;
 pub use row_types::OrderRow;
+pub use searching::{Referenced, Spread, first_of};
 pub use table::{Built, OrderTable, Repeated};

@@ -1,20 +1,34 @@
 //! Rows by their references, and a search in them.
-ghost use Rattle.std.specs.Prelude.{◌≡◌, ◌==◌, List, false, nat_lt, true};
+ghost use Rattle.std.specs.Prelude.{◌≡◌, ◌==◌};
 ghost use Rattle.std.specs.List.{find};
-ghost use Rattle.std.specs.List.Sorted.{IsNonDecreasingBy, IsPartitionPoint};
-ghost use Rattle.row_types.specs.declared.order.OrderRow.{OrderRow as TheRow};
+ghost use Rattle.std.specs.List.Sorted.{IsNonDecreasingBy};
 
+use crate::searching::{Referenced, Spread, first_of};
 use row_types::OrderRow;
 use std::alloc::Allocator;
 use std::marker::Model;
 
+impl Referenced for OrderRow {
+    ghost reference_of = { λ row. row.order_no };
+
+    #[inline(always)]
+    fn reference(&self) -> u64 {
+        self.order_no
+    }
+}
+
 /// Rows whose references don't fall.
 #[derive(Drop)]
 pub(crate) struct SortedRows<A: Allocator> {
+    spread: Spread,
     rows: Vec<OrderRow, A>,
 }
 
 impl<A: Allocator> Model for SortedRows<A> {
+    ghost use Rattle.std.specs.Prelude.{List};
+    ghost use Rattle.std.specs.List.Sorted.{IsNonDecreasingBy};
+    ghost use Rattle.row_types.specs.declared.order.OrderRow.{OrderRow as TheRow};
+
     ghost Value = { List TheRow };
 
     ghost view = { λ sorted. sorted.rows.items };
@@ -27,7 +41,11 @@ impl<A: Allocator> SortedRows<A> {
         requires { IsNonDecreasingBy (λ row. row.order_no) rows.items }
         ensures { result ≡ rows.items }
     {
-        SortedRows { rows }
+        let spread = match (rows.first(), rows.last()) {
+            (Some(first), Some(last)) => Spread::of(rows.len(), first.order_no, last.order_no),
+            _ => Spread::of(0, 0, 0),
+        };
+        SortedRows { spread, rows }
     }
 
     /// The first row that gives the reference.
@@ -35,20 +53,6 @@ impl<A: Allocator> SortedRows<A> {
     pub(crate) fn first(&self, order_no: u64) -> Option<OrderRow>
         ensures { result ≡ find (λ row. row.order_no == order_no) self.now }
     {
-        let at = point(&self.rows, order_no);
-        match self.rows.get(at) {
-            Some(row) if row.order_no == order_no => Some(*row),
-            _ => None,
-        }
+        first_of(&self.rows, self.spread, order_no).copied()
     }
-}
-
-/// How many rows have a smaller reference.
-#[inline(always)]
-fn point(rows: &[OrderRow], order_no: u64) -> usize
-    requires { IsNonDecreasingBy (λ row. row.order_no) rows.now }
-    ensures { IsPartitionPoint (λ row. nat_lt row.order_no order_no ≡ true)
-        (λ row. nat_lt row.order_no order_no ≡ false) rows.now result }
-{
-    rows.partition_point(|row| row.order_no < order_no)
 }

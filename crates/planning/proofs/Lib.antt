@@ -1,2 +1,3 @@
 pub mod MorselsOfCuts
 pub mod LinkedBuckets
+pub mod Gathered

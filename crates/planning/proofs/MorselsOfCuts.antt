@@ -1,9 +1,9 @@
 -- The total of all morsels has the rows of the messages of all their frames, and the first wrong length.
-use Rattle.std.proofs.Common.{◌≡◌, ℕ, ◌<◌, true, false, cond, List, [], ◌∷◌, Option, Some, None, option_map, ◌++◌, filter, filter_map, flat_map, map, refl}
-use Rattle.std.proofs.Common.{sym, ap, ap₂, ◌∙◌}
-use Rattle.std.specs.List.{cons_option}
+use Rattle.std.proofs.Common.{◌≡◌, ℕ, ◌<◌, List, [], ◌∷◌, Option, option_map, filter, filter_map, flat_map, map, refl}
+use Rattle.std.proofs.Common.{arith, sym, ap, ◌∙◌}
 use Rattle.std.proofs.lemmas.List.Folds.{flat_map-map}
-use Rattle.itch_messages.specs.Body.{has_wrong_length, length_fault_of, message_of}
+use Rattle.std.proofs.lemmas.Simd.{map-map}
+use Rattle.itch_messages.specs.Body.{has_wrong_length, length_fault_of}
 use Rattle.lists.specs.Least.{least_by}
 use Rattle.lists.proofs.Least.{least_by-flat_map, least_by-map}
 use Rattle.lists.proofs.Lists.{filter-flat_map, filter_map-flat_map, filter_map-map}
@@ -11,9 +11,9 @@ use Rattle.day_file.specs.Cuts.{MorselView}
 use Rattle.day_file.specs.Frames.{PlacedBody}
 use Rattle.day_file.specs.Walk.{frames_of}
 use Rattle.day_rows.specs.DayRows.{DayRows, all_rows, rows_of}
-use Rattle.day_rows.specs.Messages.{Placed, counted, first_wrong, is_counted, messages_of, placed_at}
+use Rattle.day_rows.specs.Messages.{Placed, counted, first_wrong, messages_of}
 use Rattle.day_rows.proofs.JoinedRows.{rows_of-parts}
-use Rattle.morsel_rows.specs.Partitions.{MorselRowsView, in_partitions, joined_partitions, partition_at, partition_of}
+use Rattle.morsel_rows.specs.Partitions.{MorselRowsView, PartitionView, in_partitions, joined_partitions, partition_at, partition_of}
 use Rattle.morsel_rows.proofs.JoinedPartitions.{joined_parts, partition_at_is}
 use Rattle.scanning.specs.Scans.{ScanInputView, scanned, total_of, wrong_at, wrong_in}
 use Rattle.scanning.specs.declared.wrong.WrongLength.{WrongLength}
@@ -31,10 +31,7 @@ wrong_is_first frames =
   where
     told : (fs : List PlacedBody) → filter_map wrong_at fs ≡ map told_of (filter (λ f. has_wrong_length f.body) fs)
     told [] = refl
-    told (f ∷ fs) =
-        elim (has_wrong_length f.body) as (λ b. cons_option (cond b (Some (told_of f)) None) (filter_map wrong_at fs)
-        ≡ map told_of (cond b (f ∷ filter (λ g. has_wrong_length g.body) fs) (filter (λ g. has_wrong_length g.body) fs)))
-        [ true ↦ ap (λ l. told_of f ∷ l) (told fs) | false ↦ told fs ]
+    told (f ∷ fs) = let more = told fs in grind arith
 
 module _ (as_of : Option ℕ) (n : ℕ) where
   -- what is scanned of a morsel
@@ -50,47 +47,47 @@ module _ (as_of : Option ℕ) (n : ℕ) where
   counted_in morsels = counted as_of (messages_of (flat_map frames_of morsels))
 
   counted_parts : (morsels : List MorselView) → flat_map counted_of morsels ≡ counted_in morsels
-  counted_parts morsels =
-      sym (filter-flat_map (λ (m : Placed). is_counted as_of m.message) (λ morsel. messages_of (frames_of morsel)) morsels)
-      ∙ ap (counted as_of) (sym (filter_map-flat_map (λ (f : PlacedBody). placed_at f.place (message_of f.body)) frames_of morsels))
+  counted_parts morsels = grind (arith, filter-flat_map, filter_map-flat_map)
 
-  all_rows_are : (morsels : List MorselView) → all_rows (map (λ morsel. rows_of (counted_of morsel)) morsels) ≡ rows_of (counted_in morsels)
+  -- the rows of each morsel
+  abbrev pub rows_of_each : List MorselView → List DayRows
+  rows_of_each morsels = map (λ morsel. rows_of (counted_of morsel)) morsels
+
+  all_rows_are : (morsels : List MorselView) → all_rows (rows_of_each morsels) ≡ rows_of (counted_in morsels)
   all_rows_are morsels =
-      ap all_rows (maps morsels)
+      ap all_rows (sym (map-map rows_of counted_of morsels))
       ∙ sym (rows_of-parts (map counted_of morsels))
       ∙ ap rows_of (flat_map-map (λ (l : List Placed). l) counted_of morsels ∙ counted_parts morsels)
-    where
-      maps : (ms : List MorselView) → map (λ morsel. rows_of (counted_of morsel)) ms ≡ map rows_of (map counted_of ms)
-      maps [] = refl
-      maps (m ∷ ms) = ap (λ l. rows_of (counted_of m) ∷ l) (maps ms)
+
+  rows_are : (morsels : List MorselView) → (total_of (map input_of morsels)).morsels ≡ map (in_partitions n) (rows_of_each morsels)
+  rows_are morsels = grind (arith, map-map)
+
+  -- the partitions of all morsels at a number are joined of what stands there in each
+  pub partitions_are : (b : ℕ) (one : DayRows → PartitionView) → ((rows : DayRows) → partition_at b (in_partitions n rows) ≡ one rows)
+      → (morsels : List MorselView) → joined_partitions (map (partition_at b) (total_of (map input_of morsels)).morsels)
+      ≡ joined_partitions (map one (rows_of_each morsels))
+  partitions_are b one is morsels = grind (arith, rows_are, map-map)
 
   -- a partition of all morsels is that of the messages
   pub partition_is : (b : ℕ) → b < n → (morsels : List MorselView)
       → joined_partitions (map (partition_at b) (total_of (map input_of morsels)).morsels) ≡ partition_of n (rows_of (counted_in morsels)) b
   partition_is b below morsels =
-      ap joined_partitions (parts morsels)
-      ∙ joined_parts n b (map (λ morsel. rows_of (counted_of morsel)) morsels)
+      partitions_are b (λ rows. partition_of n rows b) (λ rows. partition_at_is n rows b below) morsels
+      ∙ joined_parts n b (rows_of_each morsels)
       ∙ ap (λ rows. partition_of n rows b) (all_rows_are morsels)
-    where
-      parts : (ms : List MorselView) → map (partition_at b) (map (λ (i : ScanInputView). (scanned i).rows) (map input_of ms))
-          ≡ map (λ rows. partition_of n rows b) (map (λ morsel. rows_of (counted_of morsel)) ms)
-      parts [] = refl
-      parts (m ∷ ms) = ap₂ ◌∷◌ (partition_at_is n (rows_of (counted_of m)) b below) (parts ms)
-
-  of_all : {Y : Type 0} (all : DayRows → List Y) (one : MorselRowsView → List Y) → ((rows : DayRows) → one (in_partitions n rows) ≡ all rows)
-      → (ms : List MorselView) → flat_map one (map (λ (i : ScanInputView). (scanned i).rows) (map input_of ms))
-      ≡ flat_map all (map (λ morsel. rows_of (counted_of morsel)) ms)
-  of_all all one same [] = refl
-  of_all all one same (m ∷ ms) = ap₂ ◌++◌ (same (rows_of (counted_of m))) (of_all all one same ms)
 
   -- so are all breaks, and all directory rows
   pub breaks_are : (morsels : List MorselView) → all_breaks (total_of (map input_of morsels)).morsels ≡ (rows_of (counted_in morsels)).breaks
   breaks_are morsels =
-      of_all (λ rows. rows.breaks) (λ rows. rows.breaks) (λ rows. refl) morsels ∙ ap (λ (rows : DayRows). rows.breaks) (all_rows_are morsels)
+      ap all_breaks (rows_are morsels)
+      ∙ flat_map-map (λ (rows : MorselRowsView). rows.breaks) (in_partitions n) (rows_of_each morsels)
+      ∙ ap (λ (rows : DayRows). rows.breaks) (all_rows_are morsels)
 
   pub directory_is : (morsels : List MorselView) → all_directory (total_of (map input_of morsels)).morsels ≡ (rows_of (counted_in morsels)).directory
   directory_is morsels =
-      of_all (λ rows. rows.directory) (λ rows. rows.directory) (λ rows. refl) morsels ∙ ap (λ (rows : DayRows). rows.directory) (all_rows_are morsels)
+      ap all_directory (rows_are morsels)
+      ∙ flat_map-map (λ (rows : MorselRowsView). rows.directory) (in_partitions n) (rows_of_each morsels)
+      ∙ ap (λ (rows : DayRows). rows.directory) (all_rows_are morsels)
 
   -- and the wrong length is the first of all frames
   pub wrong_is : (morsels : List MorselView) → (total_of (map input_of morsels)).wrong ≡ option_map told_of (first_wrong (flat_map frames_of morsels))

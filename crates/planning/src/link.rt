@@ -88,6 +88,7 @@ impl<'a> PlanLink<'a> {
     }
 
     /// The buckets of the rows of all morsels, and the names and the plan.
+    #[tactic(auto, using(crate::proofs::LinkedBuckets::few_buckets))]
     fn go_on(
         &self,
         alloc: Global,
@@ -115,6 +116,7 @@ impl<'a> Link<ScanWork, BucketWork> for PlanLink<'a> {
 
     ghost Links = { IsLinkedTo };
 
+    #[tactic(auto, using(crate::proofs::LinkedBuckets::rows_by_place))]
     fn link(
         &self,
         alloc: Global,

@@ -21,6 +21,7 @@ use std::sync::Arc;
 use time_and_sales::DirectoryRow;
 
 /// The breaks of all morsels.
+#[tactic(auto, using(crate::proofs::Gathered::gathering))]
 fn breaks_of(alloc: Global, morsels: &[Arc<MorselRows, Global>]) -> Result<Breaks, OutOfMemory>
     ensures { IfOk result (λ breaks. breaks ≡ rising (all_breaks (map arc_value morsels.now))) }
 {
@@ -32,6 +33,7 @@ fn breaks_of(alloc: Global, morsels: &[Arc<MorselRows, Global>]) -> Result<Break
 }
 
 /// The directory rows of all morsels.
+#[tactic(auto, using(crate::proofs::Gathered::gathering))]
 pub(crate) fn directory_of(
     alloc: Global,
     morsels: &[Arc<MorselRows, Global>],
@@ -89,6 +91,7 @@ pub(crate) fn buckets_of(
 }
 
 /// The buckets of a plan that have classes of partitions by this modulus, in order.
+#[tactic(auto, using(crate::proofs::Gathered::numbering))]
 fn pieces_in_order(
     alloc: Global,
     plan: &Arc<Plan, Global>,
@@ -111,6 +114,7 @@ fn pieces_in_order(
 }
 
 /// The buckets of a plan that have whole partitions, in order.
+#[tactic(auto, using(crate::proofs::Gathered::numbering))]
 fn partitions_in_order(
     alloc: Global,
     plan: &Arc<Plan, Global>,

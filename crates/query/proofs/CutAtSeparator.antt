@@ -24,7 +24,8 @@ parts_at separator text end e =
 pub parts_none : (separator : ℕ) (text : List ℕ) → position (λ byte. byte == separator) text ≡ None → parts separator text ≡ text ∷ []
 parts_none separator text e =
     let p : ℕ → Bool = λ byte. byte == separator in
-    let past : ltb (position_or_len p text) (length text) ≡ false = false_from_ne_true _ (λ within. absurd (cc (cond-true _ (Some (position_or_len p text)) None within))) in
+    let past : ltb (position_or_len p text) (length text) ≡ false = false_from_ne_true _
+    (λ within. absurd (cc (cond-true _ (Some (position_or_len p text)) None within))) in
     slice_split_none p text (λ k d before. fails_before_first p text k d (omega (arith, ltb-false _ _ past)))
 
 -- how much is left

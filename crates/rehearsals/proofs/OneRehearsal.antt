@@ -1,5 +1,5 @@
 -- Rehearsals over one cut, for one query, by the same schedules, tell the same.
-use Rattle.std.proofs.Common.{◌≡◌, ℕ, List, Option, Some, None, MatchOption, length, refl, sym, subst}
+use Rattle.std.proofs.Common.{◌≡◌, ℕ, List, Option, Some, None, MatchOption, length, refl, subst}
 use Rattle.std.specs.List.{concat}
 use Rattle.day_file.specs.Frames.{PlacedBody}
 use Rattle.day_file.proofs.Laws.{frames_are_one}
@@ -12,10 +12,6 @@ use Rattle.schedules.specs.declared.event.Event.{Event}
 use Rattle.rehearsals.specs.Rehearsals.{IsFinished, IsRehearsed, TellTheSame}
 use Rattle.rehearsals.specs.declared.rehearsing.Rehearsal.{Rehearsal}
 use Rattle.rehearsals.specs.declared.rehearsing.Rehearsal.TheVariants.{Finished, Missing}
-
-one_missing : (pipeline task : ℕ) (one other : Rehearsal) → one ≡ Missing pipeline task → other ≡ Missing pipeline task → TellTheSame one other
-one_missing pipeline task one other e f =
-    subst (λ r. TellTheSame r other) (sym e) (subst (TellTheSame (Missing pipeline task)) (sym f) (refl, refl))
 
 one_finished : (file : List ℕ) (query : Meaning) (one other : Rehearsal) → IsFinished file query one → IsFinished file query other → TellTheSame one other
 one_finished file query (Finished one) (Finished other) is is' = answers_are_one file query (told_by one) (told_by other) is is'
@@ -37,7 +33,7 @@ rehearsals_are_one runs query parts gatherers events1 events2 one other is is' =
 
     go : (first : Option ℕ) (wrong : Option PlacedBody) (second : Option ℕ) → Told first wrong second one → Told first wrong second other
         → TellTheSame one other
-    go (Some task) wrong second e f = one_missing 1 task one other e f
+    go (Some task) wrong second e f = rw (e, f) (refl, refl)
     go None (Some w) second e f = one_finished (concat runs) query one other e f
-    go None None (Some task) e f = one_missing 2 task one other e f
+    go None None (Some task) e f = rw (e, f) (refl, refl)
     go None None None e f = one_finished (concat runs) query one other e f

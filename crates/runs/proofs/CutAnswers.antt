@@ -1,8 +1,9 @@
 -- What both pipelines find over a cut makes the answer to the query over its file.
-use Rattle.std.proofs.Common.{◌≡◌, ℕ, ◌<◌, ◌*◌, List, [], ◌∷◌, Option, Some, None, option_map, Result, Err, map, flat_map, refl, sym, ap, ◌∙◌, subst}
+use Rattle.std.proofs.Common.{◌≡◌, ℕ, ◌<◌, ◌*◌, ◌%◌, List, [], ◌∷◌, Option, Some, None, option_map, Result, Err, map, flat_map, refl, sym, ap, ◌∙◌, subst}
 use Rattle.std.specs.List.{AllByRecursion, concat}
 use Rattle.std.proofs.lemmas.List.Elements.{All-append, All-nil, recursion_from_All}
-use Rattle.std.proofs.lemmas.Nat.{mul-lt}
+use Rattle.std.proofs.lemmas.Nat.{mod_below, mul-lt}
+use Rattle.lists.specs.Least.{numbers_below}
 use Rattle.row_types.specs.declared.directory.DirectoryRow.{DirectoryRow}
 use Rattle.day_file.specs.Cuts.{AreBytes, MorselView}
 use Rattle.day_file.specs.Frames.{PlacedBody, StandsFor}
@@ -10,30 +11,44 @@ use Rattle.day_file.specs.Kept.{numbered}
 use Rattle.day_file.specs.Walk.{frames_of}
 use Rattle.day_file.proofs.CutFrames.{frames_of_cut}
 use Rattle.day_file.proofs.Laws.{places_rise}
+use Rattle.probe.specs.Selection.{admits}
 use Rattle.meaning.specs.Meaning.{Meaning}
 use Rattle.answers.specs.Answers.{IsAnswer, IsAnswerToMessages}
-use Rattle.day_rows.specs.Messages.{Placed, first_wrong, messages_of}
+use Rattle.day_rows.specs.DayRows.{rows_of}
+use Rattle.day_rows.specs.Messages.{Placed, break_numbers, directory_rows, first_wrong, messages_of}
 use Rattle.outcomes.specs.declared.day_fault.DayFault.{DayFault}
 use Rattle.answers.proofs.AnswerOfSteps.{messages_answer, wrong_length_answers}
 use Rattle.day_rows.proofs.CountedMessages.{counted_by_place}
 use Rattle.day_rows.proofs.FewTrades.{few_trades}
 use Rattle.day_rows.proofs.RowsByPlace.{messages_by_place}
 use Rattle.day_rows.proofs.StampedMessages.{stamped_rows}
+use Rattle.morsel_rows.specs.Partitions.{PartitionView, class_of, joined_partitions, partition_at, partition_of}
+use Rattle.morsel_rows.proofs.ClassesOfRows.{class_of_partition}
 use Rattle.scanning.specs.Scans.{ScanTotalView, total_of}
 use Rattle.scanning.specs.declared.wrong.WrongLength.{WrongLength}
-use Rattle.buckets.specs.BucketRows.{BucketView}
-use Rattle.buckets.specs.Buckets.{total_found}
-use Rattle.buckets.specs.FoundRows.{TotalView}
-use Rattle.joining.specs.Gathered.{AreGatheredOf}
-use Rattle.planning.specs.Planned.{LinkView, MayDivide, all_directory, planned_buckets}
-use Rattle.planning.proofs.MorselsOfCuts.{counted_in, directory_is, input_of, told_of, wrong_is}
-use Rattle.runs.proofs.TotalsOfCuts.{linked_total, tasks_of}
+use Rattle.buckets.specs.BucketRows.{BucketView, cut_to}
+use Rattle.buckets.specs.Buckets.{found, total_found}
+use Rattle.buckets.specs.FoundRows.{FoundView, TotalView, all_found, found_of}
+use Rattle.buckets.specs.Plans.{rising, selection_of}
+use Rattle.joining.specs.Gathered.{AreGatheredOf, found_in}
+use Rattle.joining.proofs.AnswerOfBuckets.{map_below}
+use Rattle.planning.specs.Planned.{LinkView, MayDivide, all_directory, planned_bucket, planned_buckets}
+use Rattle.planning.proofs.MorselsOfCuts.{breaks_are, counted_in, directory_is, input_of, partition_is, told_of, wrong_is}
 use Rattle.runs.specs.FirstPipeline.{AreRuns, wrong_fault}
 
 -- the bytes of runs joined
 bytes_joined : (runs : List (List ℕ)) → AllByRecursion AreBytes runs → AreBytes (concat runs)
 bytes_joined [] all = All-nil _
 bytes_joined (run ∷ runs) all = All-append (λ byte. byte < 256) run (concat runs) all.0 (bytes_joined runs all.1)
+
+-- how many buckets there are of n partitions
+abbrev tasks_of : ℕ → Option ℕ → ℕ
+tasks_of n None = n
+tasks_of n (Some pieces) = n * pieces
+
+maps : (make : ℕ → BucketView) (bs : List ℕ) → map found (map make bs) ≡ map (λ b. found (make b)) bs
+maps make [] = refl
+maps make (b ∷ bs) = ap (λ l. found (make b) ∷ l) (maps make bs)
 
 module _ (runs : List (List ℕ)) (query : Meaning) (parts : ℕ) where
   abbrev morsels : List MorselView
@@ -52,6 +67,32 @@ module _ (runs : List (List ℕ)) (query : Meaning) (parts : ℕ) where
   -- the inputs of the second, if partitions are divided like this
   abbrev pub buckets : Option ℕ → List BucketView
   buckets pieces = planned_buckets query scan.morsels parts pieces
+
+  -- what is found in some rows
+  abbrev found_of_rows : PartitionView → FoundView
+  found_of_rows = found_of query.what (rising (break_numbers messages)) (admits (selection_of query (directory_rows messages)))
+
+  -- what is found in a bucket hangs on its rows alone
+  of_rows : (partition number : ℕ) (modulus : Option ℕ) {rows : PartitionView}
+      → cut_to modulus number (joined_partitions (map (partition_at partition) scan.morsels)) ≡ rows
+      → found (planned_bucket query scan.morsels partition modulus number) ≡ found_of_rows rows
+  of_rows partition number modulus are =
+      let breaks = ap rising (breaks_are query.as_of parts morsels) in
+      let selection = ap (selection_of query) (directory_is query.as_of parts morsels) in
+      λ i. found_of query.what (breaks i) (admits (selection i)) (are i)
+
+  -- all buckets have found what those of the messages have, whether partitions are divided or not
+  linked_total : 0 < parts → (pieces : Option ℕ) → total_found (buckets pieces) ≡ found_in (tasks_of parts pieces) query messages
+  linked_total some None =
+      ap all_found (maps (λ b. planned_bucket query scan.morsels b None b) (numbers_below parts)
+      ∙ map_below parts (λ b. found (planned_bucket query scan.morsels b None b)) (λ b. found_of_rows (partition_of parts (rows_of messages) b))
+      (λ b below. of_rows b b None (partition_is query.as_of parts b below morsels)))
+  linked_total some (Some pieces) =
+      let m = parts * pieces in
+      ap all_found (maps (λ b. planned_bucket query scan.morsels (b % parts) (Some m) b) (numbers_below m)
+      ∙ map_below m (λ b. found (planned_bucket query scan.morsels (b % parts) (Some m) b)) (λ b. found_of_rows (partition_of m (rows_of messages) b))
+      (λ b below. of_rows (b % parts) b (Some m) (ap (λ rows. class_of m rows b) (partition_is query.as_of parts (b % parts) (mod_below b parts some) morsels)
+      ∙ class_of_partition parts pieces (rows_of messages) b)))
 
   pub right_frames : scan.wrong ≡ None → first_wrong frames ≡ None
   right_frames e = go (first_wrong frames) (sym (wrong_is query.as_of parts morsels) ∙ e)
@@ -75,13 +116,13 @@ module _ (runs : List (List ℕ)) (query : Meaning) (parts : ℕ) where
     -- what all buckets found is what those of the messages have, and the names are those of their directory
     pub gathered_by : (total : TotalView) (kept : List DirectoryRow) (link : LinkView) (pieces : Option ℕ) → 0 < parts → MayDivide link pieces
         → total ≡ total_found (buckets pieces) → kept ≡ all_directory scan.morsels → AreGatheredOf query total kept messages
-    gathered_by total kept link pieces some may found names = record {
+    gathered_by total kept link pieces some may found_is names = record {
       parts = tasks_of parts pieces;
       some = some_tasks pieces may;
       by_place = counted_by_place query.as_of (messages_of frames) (messages_by_place frames (places_rise 0 frames stands.places));
       few = few_trades query.as_of (concat runs) frames stands are.within;
       stamped = stamped_rows query.as_of (concat runs) frames (bytes_joined runs (recursion_from_All AreBytes runs are.bytes)) stands;
-      total_is = found ∙ linked_total query parts morsels some pieces;
+      total_is = found_is ∙ linked_total some pieces;
       names_are = names ∙ directory_is query.as_of parts morsels;
     }
       where

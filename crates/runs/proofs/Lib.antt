@@ -1,4 +1,3 @@
-pub mod TotalsOfCuts
 pub mod CutAnswers
 pub mod Answered
 pub mod BlocksScanned

@@ -1,6 +1,6 @@
 -- The batches of a source are scanned one after the other, and the totals of their scans are joined.
-use Rattle.std.proofs.Common.{◌≡◌, ℕ, ◌+◌, ◌≤◌, Bool, true, false, List, [], ◌++◌, Option, Result, Ok, Err, All, length, IfErr, IfOk}
-use Rattle.std.proofs.Common.{refl, sym, ap, ap₂, ◌∙◌, subst, arith, length-append}
+use Rattle.std.proofs.Common.{inr, ◌≡◌, ℕ, ◌≤◌, Bool, true, false, List, ◌++◌, Option, Result, Ok, Err, All, length, IfErr, IfOk}
+use Rattle.std.proofs.Common.{refl, sym, ap₂, ◌∙◌, subst, arith, length-append}
 use Rattle.std.specs.List.{concat}
 use Rattle.std.proofs.lemmas.List.Elements.{All-append}
 use Rattle.lists.specs.declared.limits.TheConstants.{LONGEST_FILE}
@@ -8,10 +8,10 @@ use Rattle.day_file.specs.Cuts.{AreBytes, IsCutBy, IsRun}
 use Rattle.scanning.specs.Scans.{ScanTotalView, inputs_from, inputs_of, total_of, with_scans}
 use Rattle.scanning.proofs.TotalOfScans.{total_joined}
 use Rattle.streaming.specs.Batches.{IsNextBatch, IsReadTo, ReaderView, read_length}
-use Rattle.streaming.specs.Streams.{GaveAll, GaveSome}
+use Rattle.streaming.specs.Readings.{GaveAll, GaveSome, of_stream}
 use Rattle.streaming.specs.declared.batch.Batch.{Batch}
 use Rattle.streaming.proofs.JoinedBatches.{read_length_is}
-use Rattle.runs.specs.Streamed.{IsScanOfAll, IsScanOfBatch}
+use Rattle.runs.specs.FirstPipeline.{IsOfAll, IsScanOf, IsScanOfBatch}
 
 module _ {S : Type 0} (Gave : S → S → List ℕ → Type 0) (HasEnded : S → Type 0) where
   -- the batch comes after these runs, and the source was read to its end
@@ -101,19 +101,18 @@ module _ {S : Type 0} {Gave : S → S → List ℕ → Type 0} {HasEnded : S →
     -- the last batch is scanned
     pub ended : {now : S} {reader : ReaderView} {total more : ScanTotalView} {batch : Batch} → limit ≤ LONGEST_FILE
         → IsScannedTo Gave HasEnded limit target as_of parts before now reader total batch → batch.is_last ≡ true
-        → IsScanOfBatch as_of parts batch more → IsScanOfAll Gave HasEnded limit target as_of parts before now (with_scans total more)
+        → IsScanOfBatch as_of parts batch more
+        → IsOfAll (of_stream Gave HasEnded limit target before now) (IsScanOf as_of parts (with_scans total more))
     ended {batch = batch} most to is_last scan =
-        let all = to.ahead.last is_last in record {
-          runs = to.runs ++ batch.cut;
-          gave = all.0;
-          cut = all.1;
-          few = omega (arith, length-append to.runs batch.cut, to.ahead.number, batch.few);
-          is = record {
+        let all = to.ahead.last is_last in (
+          to.runs ++ batch.cut,
+          (all.0, inr (_, all.1, omega (arith, length-append to.runs batch.cut, to.ahead.number, batch.few))),
+          record {
             cut = record {
               each = All-append IsRun to.runs batch.cut to.each scan.each;
               bytes = All-append AreBytes to.runs batch.cut to.bytes scan.bytes;
               within = omega (arith, all.0.within, most);
             };
             is = with_batch to.runs to.ahead.number to.ahead.start to.is scan;
-          };
-        }
+          },
+        )

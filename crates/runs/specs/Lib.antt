@@ -2,4 +2,3 @@ pub mod Runs
 pub mod FirstPipeline
 pub mod LinkedBlocks
 pub mod Sources
-pub mod Streamed

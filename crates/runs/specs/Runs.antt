@@ -61,22 +61,12 @@ module _ {K : Type 0} (reading : Reading) (Took : K → K → List ℕ → Type 
   Ran words limit sink_before sink_after (Err fault.OutOfMemory) =
       (reading.untouched ⊎ IsQuery words) × reading.some × (sink_after ≡ sink_before)
 
--- the fault is a failed write
-abbrev pub is_write_fault : RunFault → Bool
-is_write_fault (fault.WriteFailed written) = true
-is_write_fault _ = false
-
 -- the run's sink failed
 abbrev pub is_write_failed : {T : Type 0} → Result T RunFault → Bool
-is_write_failed (Ok done) = false
-is_write_failed (Err f) = is_write_fault f
-
--- the fault is a failed reading
-abbrev pub is_read_fault : RunFault → Bool
-is_read_fault fault.ReadFailed = true
-is_read_fault _ = false
+is_write_failed (Err (fault.WriteFailed written)) = true
+is_write_failed _ = false
 
 -- the run's source failed
 abbrev pub is_read_failed : {T : Type 0} → Result T RunFault → Bool
-is_read_failed (Ok done) = false
-is_read_failed (Err f) = is_read_fault f
+is_read_failed (Err fault.ReadFailed) = true
+is_read_failed _ = false

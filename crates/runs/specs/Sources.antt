@@ -33,18 +33,13 @@ IsSourceRefusal reading limit fault.TooManyMorsels = reading.too_many
 IsSourceRefusal reading limit fault.OutOfMemory = reading.some
 IsSourceRefusal reading limit _ = ⊥
 
--- the answer reports the place where the source is truncated
-abbrev pub TellsTruncated : SourceFault → Result (List ℕ) DayFault → Type 0
-TellsTruncated (source.Truncated place) told = told ≡ Err (Truncated place)
-TellsTruncated _ told = ⊥
-
--- the refusal of a run with this limit is for this fault
-abbrev pub IsRefusedFor : ℕ → SourceFault → RunFault → Type 0
-IsRefusedFor limit source.ReadFailed refusal = refusal ≡ fault.ReadFailed
-IsRefusedFor limit source.TooLong refusal = refusal ≡ fault.TooLong limit
-IsRefusedFor limit source.TooManyMorsels refusal = refusal ≡ fault.TooManyMorsels
-IsRefusedFor limit source.OutOfMemory refusal = refusal ≡ fault.OutOfMemory
-IsRefusedFor limit (source.Truncated place) refusal = ⊥
+-- what a run with this limit reports of a source's fault: the place where it is truncated, or a refusal
+abbrev pub reported : ℕ → SourceFault → Result (Result (List ℕ) DayFault) RunFault
+reported limit source.ReadFailed = Err fault.ReadFailed
+reported limit source.TooLong = Err (fault.TooLong limit)
+reported limit (source.Truncated place) = Ok (Err (Truncated place))
+reported limit source.TooManyMorsels = Err fault.TooManyMorsels
+reported limit source.OutOfMemory = Err fault.OutOfMemory
 
 module _ {K : Type 0} (Took : K → K → List ℕ → Type 0) (HasFlushed : K → Type 0) (before after : K) where
   -- the answer is a text, which the sink took and passed on

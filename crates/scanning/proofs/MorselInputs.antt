@@ -1,7 +1,7 @@
 -- The inputs of the scans of morsels that follow each other, morsel after morsel.
 use Rattle.std.proofs.Common.{◌≡◌, ℕ, zero, suc, ◌+◌, ◌≤◌, List, [], ◌∷◌, ◌++◌, Option, Some, length, map, slice_get, take, refl, sym, ap, ◌∙◌, arith}
 use Rattle.std.specs.List.{concat}
-use Rattle.std.proofs.lemmas.List.{length-append, length-take-le, take_more}
+use Rattle.std.proofs.lemmas.List.{length-append, length-take-le, take_all, take_more}
 use Rattle.std.proofs.lemmas.Option.{get_or_from_slice_get, slice_get_within}
 use Rattle.lists.proofs.Lists.{map_more}
 use Rattle.day_file.specs.Cuts.{MorselView, start_of}
@@ -16,11 +16,8 @@ length-numbered number start (run ∷ runs) = ap suc (length-numbered (number + 
 -- a run ends within all of them
 pub run_within : (runs : List (List ℕ)) (i : ℕ) (run : List ℕ) → slice_get runs i ≡ Some run → start_of runs i + length run ≤ length (concat runs)
 run_within [] i run e = absurd (cc)
-run_within (one ∷ runs) zero run e =
-    let same : one ≡ run = cc in
-    omega (arith, ap length same, length-append one (concat runs))
-run_within (one ∷ runs) (suc i) run e =
-    omega (arith, run_within runs i run e, length-append one (concat (take i runs)), length-append one (concat runs))
+run_within (one ∷ runs) zero run e = grind (arith, length-append)
+run_within (one ∷ runs) (suc i) run e = grind (arith, length-append, run_within runs i run e)
 
 -- the inputs of the morsels so far, and of one more
 pub inputs_more : (first start : ℕ) (as_of : Option ℕ) (parts : ℕ) (runs : List (List ℕ)) (i : ℕ) (run : List ℕ) → slice_get runs i ≡ Some run
@@ -35,3 +32,5 @@ inputs_more first start as_of parts runs i run at =
     (λ k. inputs_from first start as_of parts (take i runs) ++ input (record { number = n k; start = start + start_of runs i; bytes = run }) ∷ [])
     ∙ sym (map_more input (numbered first start (take i runs)) _) ∙ ap (map input) (sym (numbered-last first start (take i runs) run))
     ∙ ap (inputs_from first start as_of parts) (sym more)
+
+pub ruleset making = (run_within, map_more, inputs_more, take_all)

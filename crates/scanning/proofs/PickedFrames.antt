@@ -25,35 +25,23 @@ use Rattle.scanning.specs.declared.wrong.WrongLength.{WrongLength}
 
 pub takes_more : (as_of : Option ℕ) (xs ys : List PlacedBody) (old scan new : ScanView) → TakesIn as_of xs old scan → TakesIn as_of ys scan new
     → TakesIn as_of (xs ++ ys) old new
-takes_more as_of xs ys old scan new p q n frames some most is =
-    q n (frames ++ xs) some most (p n frames some most is) ∙ ap (scan_of n as_of) (append_assoc frames xs ys)
+takes_more as_of xs ys old scan new p q n frames some most is = grind (arith, append_assoc)
 
 -- ---- frames that are read
 
 abbrev pub reads : PlacedBody → Bool
 reads frame = is_some (length_of (kind_of frame.body))
 
--- a frame that isn't read is no message, and its length isn't wrong
-message_of_unread : (frame : PlacedBody) → reads frame ≡ false → placed_at frame.place (message_of frame.body) ≡ None
-message_of_unread frame e = grind arith
-
-wrong_of_unread : (frame : PlacedBody) → reads frame ≡ false → wrong_at frame ≡ None
-wrong_of_unread frame e = grind arith
-
-one_of_filter : {X Y : Type 0} (h : X → Option Y) (b : Bool) (x : X) (some xs : List X) → (b ≡ false → h x ≡ None) → filter_map h some ≡ filter_map h xs
-    → filter_map h (cond b (x ∷ some) some) ≡ filter_map h (x ∷ xs)
-one_of_filter h b x some xs none is = grind arith
-
 filter_map_of_filter : {X Y : Type 0} (h : X → Option Y) (q : X → Bool) → ((x : X) → q x ≡ false → h x ≡ None) → (xs : List X)
     → filter_map h (filter q xs) ≡ filter_map h xs
 filter_map_of_filter h q none [] = refl
-filter_map_of_filter h q none (x ∷ xs) = one_of_filter h (q x) x (filter q xs) xs (none x) (filter_map_of_filter h q none xs)
+filter_map_of_filter h q none (x ∷ xs) = let here = none x in let more = filter_map_of_filter h q none xs in grind arith
 
--- so a scan of those that are read is one of all
+-- a frame that isn't read is no message, and its length isn't wrong: so a scan of those that are read is one of all
 scan_of_read : (n : ℕ) (as_of : Option ℕ) (frames : List PlacedBody) → scan_of n as_of (filter reads frames) ≡ scan_of n as_of frames
 scan_of_read n as_of frames =
-    let messages = filter_map_of_filter (λ f. placed_at f.place (message_of f.body)) reads message_of_unread frames in
-    let wrong = filter_map_of_filter wrong_at reads wrong_of_unread frames in
+    let messages = filter_map_of_filter (λ f. placed_at f.place (message_of f.body)) reads (λ f unread. grind arith) frames in
+    let wrong = filter_map_of_filter wrong_at reads (λ f unread. grind arith) frames in
     λ i. record { rows = in_partitions n (rows_of (counted as_of (messages i))); wrong = least_by (λ (w : WrongLength). w.place) (wrong i) }
 
 takes_same : (as_of : Option ℕ) (xs ys : List PlacedBody) (old new : ScanView) → filter reads xs ≡ filter reads ys → TakesIn as_of xs old new
@@ -96,10 +84,8 @@ one_if false = refl
 -- one frame more is picked where it is read
 picked_more : (room next : ℕ) (picked : List Frame) (frame : Frame) (b : Bool) → room < length picked → next ≡ room + cond b 1 0
     → bodies (take next (set picked room frame)) ≡ bodies (take room picked) ++ cond b (placed_body frame ∷ []) []
-picked_more room next picked frame true below e =
-    rw (e, take_more_set picked room frame below) (map-append placed_body (take room picked) (frame ∷ []))
-picked_more room next picked frame false below e =
-    let same : next ≡ room = omega (arith, e) in rw (same, take-set picked room frame, append-nil) refl
+picked_more room next picked frame true below e = grind (arith, take_more_set, map-append)
+picked_more room next picked frame false below e = grind (arith, take-set, append-nil)
 
 few_more : (room next : ℕ) (b : Bool) → room < AT_ONCE → next ≡ room + cond b 1 0 → next ≤ AT_ONCE
 few_more room next b below e = grind arith
@@ -129,8 +115,7 @@ module _ {as_of : Option ℕ} {all left : List PlacedBody} {walked count : ℕ} 
 
   -- all so far is taken in once what is picked is
   pub taken_all : TakesIn as_of (bodies (take count picked)) scan new → (bytes : ℕ) → (walked < bytes → left ≡ []) → AreTakenIn as_of all bytes walked old new
-  taken_all takes bytes ends =
-      record { front = so_far.done; rest = left; split = so_far.split; walked_is = so_far.walked_is; takes = done_taken takes; ends = ends }
+  taken_all takes bytes ends = grind (arith, done_taken)
 
   -- where memory is refused, some of it is
   pub some_taken : AreSomeTakenIn as_of (bodies (take count picked)) scan new → AreSomeTakenIn as_of all old new
@@ -168,7 +153,13 @@ module _ {as_of : Option ℕ} {all left : List PlacedBody} {walked count : ℕ} 
       record {
         done = done ++ x ∷ [];
         split = so_far.split ∙ ap (λ l. done ++ l) step ∙ sym (append_assoc done (x ∷ []) rest);
-        walked_is = omega (arith, so_far.walked_is, ap length (spelling-append done (x ∷ [])), length-append (spelling done) (spelling (x ∷ [])), length-spelling x []);
+        walked_is = omega (
+          arith,
+          so_far.walked_is,
+          ap length (spelling-append done (x ∷ [])),
+          length-append (spelling done) (spelling (x ∷ [])),
+          length-spelling x [],
+        );
         front = now.0;
         takes = now.1;
         read_is = ap (λ l. filter reads (now.0 ++ l)) (picked_more room next picked frame (reads x) (omega (arith, below, so_far.long)) next_is)
@@ -210,3 +201,5 @@ takes_first as_of frames i old scan new so_far same = record {
 pub on_err : {X E P : Type 0} (r : Result X E) → P → OnErr r P
 on_err (Ok x) p = tt
 on_err (Err e) p = p
+
+pub ruleset picking = (starts_picking, picks_more, one_if)

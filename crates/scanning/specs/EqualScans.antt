@@ -1,8 +1,8 @@
 -- Inputs that compare as equal are one, and so give one scan; lists of them give one total.
 -- Derived: the laws of `ScanWork` cite it, and it defines nothing.
-use Rattle.std.proofs.Common.{◌≡◌, ℕ, Bool, true, ◌&&◌, List, Option, Some, None, nat_eq, refl, sym, ap, ◌∙◌}
+use Rattle.std.proofs.Common.{arith, ◌≡◌, ℕ, Bool, true, ◌&&◌, List, Option, nat_eq, sym, ap, ◌∙◌}
 use Rattle.std.specs.Cmp.{IsEquivalence, nat_eq_equiv}
-use Rattle.std.specs.Cmp.Lexicographic.{nat_list_eq_equiv, options_equiv, same_text}
+use Rattle.std.specs.Cmp.Lexicographic.{nat_list_eq_equiv, options_equiv, pointwise, same_text}
 use Rattle.std.specs.Option.{option_eq}
 use Rattle.std.proofs.lemmas.Bool.{and_parts, eqb-true}
 use Rattle.std.proofs.lemmas.Cmp.{and_equiv, on_equiv}
@@ -20,27 +20,17 @@ and_right a b h = (and_parts a b h).1
 
 pub same_morsel : (a b : MorselView) → is_same_morsel a b ≡ true → a ≡ b
 same_morsel a b same =
-    let both = and_parts _ _ same in
-    let before = and_parts _ _ both.0 in
-    let number = eqb-true a.number b.number before.0 in
-    let start = eqb-true a.start b.start before.1 in
-    let bytes = same_text a.bytes b.bytes (sym both.1) in
-    λ i. record { number = number i; start = start i; bytes = bytes i }
+    let bytes : pointwise nat_eq a.bytes b.bytes ≡ true → a.bytes ≡ b.bytes = λ h. same_text a.bytes b.bytes (sym h) in
+    grind arith
 
 pub same_moment : (a b : Option ℕ) → option_eq nat_eq a b ≡ true → a ≡ b
-same_moment None None same = refl
-same_moment None (Some b) same = absurd (cc)
-same_moment (Some a) None same = absurd (cc)
-same_moment (Some a) (Some b) same = ap Some (eqb-true a b same)
+same_moment a b same = grind (arith, eqb-true)
 
 pub same_input : (a b : ScanInputView) → is_same_input a b ≡ true → a ≡ b
 same_input a b same =
-    let both = and_parts _ _ same in
-    let before = and_parts _ _ both.0 in
-    let morsel = same_morsel a.morsel b.morsel before.0 in
-    let as_of = same_moment a.as_of b.as_of before.1 in
-    let parts = eqb-true a.parts b.parts both.1 in
-    λ i. record { morsel = morsel i; as_of = as_of i; parts = parts i }
+    let morsel = same_morsel a.morsel b.morsel in
+    let as_of = same_moment a.as_of b.as_of in
+    grind arith
 
 pub equal_scans : (a b : ScanInputView) (output : ScanView) → is_same_input a b ≡ true → output ≡ scanned a
     → output ≡ scanned b

@@ -38,6 +38,7 @@ pub fn scan_inputs(
 /// The inputs of the scans of morsels of a cut that follow each other, where these were cut by themselves:
 /// the first is the morsel `first` of the whole file, and `start` bytes come before it. Otherwise they are
 /// as those of `scan_inputs`, and as that it is refused.
+#[tactic(auto, using(crate::proofs::MorselInputs::making))]
 pub fn batch_inputs(
     alloc: Global,
     cut: &Cut,

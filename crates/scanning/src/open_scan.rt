@@ -64,6 +64,7 @@ impl OpenScan {
     ///
     /// Nearly half of a day's messages aren't read at all, in no order that a processor could foresee. So
     /// the frames that are read are picked first, without a branch, and then taken in.
+    #[tactic(auto, using(crate::proofs::PickedFrames::picking))]
     pub fn take_in(
         &mut self,
         as_of: Option<u32>,

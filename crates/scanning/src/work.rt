@@ -45,6 +45,7 @@ impl Work for ScanWork {
         ScanTotal::empty(alloc)
     }
 
+    #[tactic(auto, using(crate::proofs::TotalOfScans::total_more))]
     fn add(total: &mut ScanTotal, output: &Scanned) -> Result<(), OutOfMemory> {
         total.add(output)
     }

@@ -1,5 +1,5 @@
 -- Of works and a link that are functions two schedules have one answer. For who rehearses such a pair.
-use Rattle.std.proofs.Common.{◌≡◌, ℕ, List, Option, None, inl, inr, sym, ap, ap₂, ◌∙◌}
+use Rattle.std.proofs.Common.{◌≡◌, ℕ, List, inl, inr, sym, ap, ◌∙◌}
 use Rattle.links.specs.declared.linked.Linked.{Linked}
 use Rattle.links.specs.declared.linked.Linked.TheVariants.{Next, Halt}
 use Rattle.schedules.specs.Rehearsals.{IsRehearsed, after_link, unless_missing}
@@ -11,22 +11,14 @@ module _ {F I T K S : Type 0} (tasks : ℕ) (IsFirst : F → Type 0) (Links : F 
     (gatherers : ℕ) (events1 events2 : List Event) (first : F) (linked : F → Linked (List I) K S) (total_of : List I → T)
     (one_first : (f : F) → IsFirst f → f ≡ first) (one_link : (f : F) (l : Linked (List I) K S) → Links f l → l ≡ linked f)
     (one_total : (inputs : List I) (total : T) → IsTotalOf inputs total → total ≡ total_of inputs) where
-  abbrev answer : Option ℕ → Linked (List I) K S → Rehearsed T K S
-  answer left l = unless_missing 1 left (after_link total_of gatherers events2 l)
-
-  abbrev second : List I → K → Option ℕ → Rehearsed T K S
-  second inputs kept left = unless_missing 2 left (Finished (total_of inputs) kept)
-
-  reached : (f : F) (l : Linked (List I) K S) → IsFirst f → Links f l → first_left gatherers tasks events1 ≡ None
-      → answer None l ≡ answer (first_left gatherers tasks events1) (linked first)
-  reached f l is links none = ap₂ answer (sym none) (one_link f l links ∙ ap linked (one_first f is))
+  linked_is : (f : F) (l : Linked (List I) K S) → IsFirst f → Links f l → linked first ≡ l
+  linked_is f l is links = sym (one_link f l links ∙ ap linked (one_first f is))
 
   pub one_rehearsed : (rehearsed : Rehearsed T K S) → IsRehearsed tasks IsFirst Links IsTotalOf gatherers events1 events2 rehearsed
       → rehearsed ≡ unless_missing 1 (first_left gatherers tasks events1) (after_link total_of gatherers events2 (linked first))
-  one_rehearsed (Missing pipeline task) (inl (number, left)) =
-      ap (λ p. Missing p task) number ∙ ap (λ o. answer o (linked first)) (sym left)
+  one_rehearsed (Missing pipeline task) (inl (number, left)) = rw (left, number)
   one_rehearsed (Missing pipeline task) (inr (number, none, (f, inputs, kept, is, links, left))) =
-      ap (λ p. Missing p task) number ∙ ap (second inputs kept) (sym left) ∙ reached f (Next inputs kept) is links none
+      rw (none, linked_is f (Next inputs kept) is links, left, number)
   one_rehearsed (Finished total kept) (none, (f, inputs, is, links, left, of)) =
-      ap (λ t. Finished t kept) (one_total inputs total of) ∙ ap (second inputs kept) (sym left) ∙ reached f (Next inputs kept) is links none
-  one_rehearsed (Stopped stop) (none, (f, is, links)) = reached f (Halt stop) is links none
+      rw (none, linked_is f (Next inputs kept) is links, left, one_total inputs total of)
+  one_rehearsed (Stopped stop) (none, (f, is, links)) = rw (none, linked_is f (Halt stop) is links)

@@ -1,9 +1,9 @@
 -- The tasks that have arrived are those that some gatherer covers.
-use Rattle.std.proofs.Common.{◌≡◌, ◌≢◌, ℕ, zero, suc, ◌+◌, ◌<◌, ◌≤◌, ◌==◌, ◌&&◌, ◌||◌, nat_lt, Bool, true, false, not, List, [], ◌∷◌, ◌++◌, remove, Some, None}
-use Rattle.std.proofs.Common.{length, get_or, set, replicate, find, refl, sym, ◌∙◌, ap, arith, rules, inl, inr, nat_cmp}
-use Rattle.std.proofs.lemmas.Bool.{cases_lt, cases_Bool}
+use Rattle.std.proofs.Common.{◌≡◌, ◌≢◌, ℕ, zero, suc, ◌+◌, ◌<◌, ◌≤◌, ◌==◌, ◌&&◌, ◌||◌, nat_lt, Bool, true, false, not, cond, List, [], ◌∷◌, ◌++◌}
+use Rattle.std.proofs.Common.{Some, None, remove, length, get_or, set, replicate, find, refl, sym, ◌∙◌, ap, arith, rules, inl, inr, nat_cmp}
+use Rattle.std.proofs.lemmas.Bool.{cases_lt, cases_Bool, lt-ltb}
 use Rattle.std.proofs.lemmas.Bool.Decides.{nat_tests}
-use Rattle.std.proofs.lemmas.List.{length-map, length-replicate, length-set, replicate_more, map_push, map-set, get_or-map, get_or-set_other, set_past}
+use Rattle.std.proofs.lemmas.List.{length-map, length-replicate, length-set, map_push, map-set, get_or-map, get_or-set_other, set_past}
 use Rattle.std.proofs.lemmas.List.Folds.{list_any-append}
 use Rattle.std.specs.Cmp.{nat_cmp_total}
 use Rattle.std.specs.List.{range_with_len}
@@ -11,9 +11,6 @@ use Rattle.std.specs.FinSet.{FinSet, contains, contains-empty, insert, union, em
 use Rattle.gathering.specs.Views.{GatheringView}
 use Rattle.schedules.specs.Schedules.{Event, Sets, after, after_all, are_two, brings, covered_sets, first_left, has_arrived, set_of, some_covers}
 use Rattle.schedules.specs.declared.event.Event.TheVariants.{Arrive, Lose, Merge}
-
-lt_true : (a b : ℕ) → a < b → nat_lt a b ≡ true
-lt_true a b h = grind (arith, rules, nat_tests)
 
 module _ {A : Type 0} where
   set_of_at : (gs : List (GatheringView A)) (i : ℕ) (g : GatheringView A) → i < length gs → g ≡ get_or gs i g
@@ -25,7 +22,7 @@ module _ {A : Type 0} where
       → g ≡ get_or gs i g → h.covered ≡ insert g.covered t
       → covered_sets (set gs i h) ≡ after n (Arrive i t) (covered_sets gs)
   arrive_step gs i t n g h within task at more =
-      let known = set_of_at gs i g within at in let test = lt_true t n task in
+      let known = set_of_at gs i g within at in let test = lt-ltb t n task in
       let written = map-set (λ v. v.covered) gs i h in cc
 
   -- a merge of two
@@ -41,9 +38,6 @@ module _ {A : Type 0} where
       let outer = map-set (λ v. v.covered) (set gs b e) a h in
       let inner = map-set (λ v. v.covered) gs b e in cc
 
-or_swap : (a b c : Bool) → (a || (b || c)) ≡ (b || (a || c))
-or_swap a b c = grind arith
-
 -- what is covered after one event, whatever was covered before
 module _ (tasks t : ℕ) where
   -- a set covers the task if q says so, or if it did before
@@ -51,25 +45,21 @@ module _ (tasks t : ℕ) where
       → some_covers (set sets i new) t ≡ (q || some_covers sets t)
   gains [] i new q within more = absurd (omega arith)
   gains (s ∷ sets) zero new q within more = rw more (grind arith)
-  gains (s ∷ sets) (suc i) new q within more = rw (gains sets i new q (omega arith) more) (or_swap (contains s t) q (some_covers sets t))
+  gains (s ∷ sets) (suc i) new q within more = rw (gains sets i new q (omega arith) more) (grind arith)
 
   -- a set gives all away that it covers
   gives : (sets : Sets) (i : ℕ) → i < length sets → (contains (set_of sets i) t || some_covers (set sets i empty) t) ≡ some_covers sets t
   gives [] i within = absurd (omega arith)
   gives (s ∷ sets) zero within = rw (contains-empty nat_cmp t) refl
-  gives (s ∷ sets) (suc i) within =
-      or_swap (contains (set_of sets i) t) (contains s t) (some_covers (set sets i empty) t)
-      ∙ ap (λ w. contains s t || w) (gives sets i (omega arith))
+  gives (s ∷ sets) (suc i) within = let others = gives sets i (omega arith) in grind arith
 
   union_covers : (sets : Sets) (a b : ℕ) → are_two (length sets) a b ≡ true
       → some_covers (set (set sets b empty) a (union (set_of sets a) (set_of sets b))) t ≡ some_covers sets t
   union_covers sets a b two =
-      let here : a < length sets = grind (arith, rules, nat_tests) in
-      let there : b < length sets = grind (arith, rules, nat_tests) in
-      let differ : a ≢ b = λ same. grind (arith, rules, nat_tests) in
-      let kept : set_of (set sets b empty) a ≡ set_of sets a = get_or-set_other sets b a empty empty differ in
+      let parts : (a < length sets) × (b < length sets) = (grind (arith, nat_tests), grind (arith, nat_tests)) in
+      let kept : set_of (set sets b empty) a ≡ set_of sets a = get_or-set_other sets b a empty empty (λ same. grind (arith, nat_tests)) in
       let both = contains-union nat_cmp_total (set_of sets a) (set_of sets b) t in
-      gains (set sets b empty) a _ (contains (set_of sets b) t) (rw length-set here) (rw (kept, both) (grind arith)) ∙ gives sets b there
+      gains (set sets b empty) a _ (contains (set_of sets b) t) (rw length-set parts.0) (rw (kept, both) (grind arith)) ∙ gives sets b parts.1
 
   step_covers : (e : Event) (sets : Sets) → some_covers (after tasks e sets) t ≡ ((nat_lt t tasks && brings (length sets) t e) || some_covers sets t)
   step_covers (Arrive gatherer task) sets =
@@ -113,11 +103,6 @@ arrived_covers gatherers tasks events t =
 
 -- ---- gatherings that are made, merged and asked
 
--- one empty gathering more
-pub empty_more : {A : Type 0} (gs hs : List (GatheringView A)) (g : GatheringView A) (n : ℕ) → hs ≡ gs ++ g ∷ []
-    → covered_sets gs ≡ replicate n empty → g.covered ≡ empty → covered_sets hs ≡ replicate (n + 1) empty
-empty_more gs hs g n more before none = rw (more, map_push, before, none) (replicate_more n empty)
-
 -- the last of the others is merged into the first
 pub last_merged : {A : Type 0} (gs hs : List (GatheringView A)) (g : GatheringView A) (s u : FinSet nat_cmp) (t : ℕ) → gs ≡ hs ++ g ∷ []
     → u ≡ union s g.covered → (contains u t || some_covers (covered_sets hs) t) ≡ (contains s t || some_covers (covered_sets gs) t)
@@ -130,50 +115,49 @@ length-after_all : (tasks : ℕ) (events : List Event) (sets : Sets) → length 
 length-after_all tasks [] sets = refl
 length-after_all tasks (e ∷ events) sets = length-after_all tasks events (after tasks e sets) ∙ length-after tasks 0 e sets
 
--- the events leave as many gatherings as there were
-pub as_many : {A : Type 0} (gs : List (GatheringView A)) (n tasks : ℕ) (events : List Event) (sets : Sets)
-    → covered_sets gs ≡ after_all tasks events sets → sets ≡ replicate n empty → length gs ≡ n
-as_many gs n tasks events sets done first =
-    sym (length-map gs (λ v. v.covered))
-    ∙ (ap length done ∙ (length-after_all tasks events sets ∙ (ap length first ∙ length-replicate n (empty {R = nat_cmp}))))
+-- what the events made of empty gatherings
+module _ {A : Type 0} (gs : List (GatheringView A)) (gatherers tasks : ℕ) (events : List Event)
+    (done : covered_sets gs ≡ after_all tasks events (replicate gatherers empty)) where
+  pub as_many : length gs ≡ gatherers
+  as_many = let long = length-after_all tasks events (replicate gatherers empty) in
+      omega (arith, length-map gs (λ v. v.covered), ap length done, length-replicate gatherers (empty {R = nat_cmp}))
 
--- the first of the gatherings stands before the others
-pub first_and_others : {A : Type 0} (gs : List (GatheringView A)) (g : GatheringView A) → 0 < length gs → g ≡ get_or gs 0 g
-    → g.covered ∷ covered_sets (remove gs 0) ≡ covered_sets gs
-first_and_others [] g some first = absurd (omega arith)
-first_and_others (x ∷ gs) g some first = ap (λ v. v.covered ∷ covered_sets gs) first
+  -- the first and the others cover together what has arrived
+  pub gathered : (g : GatheringView A) (t : ℕ) → 0 < gatherers → g ≡ get_or gs 0 g
+      → some_covers (g.covered ∷ covered_sets (remove gs 0)) t ≡ (nat_lt t tasks && has_arrived gatherers events t)
+  gathered g t some first = ap (λ sets. some_covers sets t) (split gs (rw as_many some) first ∙ done) ∙ arrived_covers gatherers tasks events t
+    where
+      split : (all : List (GatheringView A)) → 0 < length all → g ≡ get_or all 0 g → g.covered ∷ covered_sets (remove all 0) ≡ covered_sets all
+      split [] none e = absurd (omega arith)
+      split (x ∷ others) some e = ap (λ v. v.covered ∷ covered_sets others) e
 
-module _ (p : ℕ → Bool) where
-  find_none : (n a : ℕ) → ((u : ℕ) → a ≤ u → u < a + n → p u ≡ false) → find p (range_with_len a n) ≡ None
-  find_none zero a fails = refl
-  find_none (suc n) a fails =
-      let first = fails a (omega arith) (omega arith) in
-      let rest = find_none n (a + 1) (λ u low high. fails u (omega arith) (omega arith)) in cc
+-- the first number that passes is t, or none does and t is the end
+first_is : (p : ℕ → Bool) (n a t : ℕ) → a ≤ t → t ≤ a + n → ((u : ℕ) → a ≤ u → u < t → p u ≡ false) → (t < a + n → p t ≡ true)
+    → find p (range_with_len a n) ≡ cond (nat_lt t (a + n)) (Some t) None
+first_is p zero a t low high fails passes = grind (arith, nat_tests)
+first_is p (suc n) a t low high fails passes = elim (cases_lt a t) [
+  | inl before ↦ (let here = fails a (omega arith) before in
+      let later = first_is p n (a + 1) t (omega arith) (omega arith) (λ u above below. fails u (omega arith) below) (λ more. passes (omega arith)) in
+      grind (arith, nat_tests))
+  | inr past ↦ (let same : t ≡ a = omega arith in let here = passes (omega arith) in grind (arith, nat_tests))
+]
 
-  find_first : (n a t : ℕ) → a ≤ t → t < a + n → p t ≡ true → ((u : ℕ) → a ≤ u → u < t → p u ≡ false) → find p (range_with_len a n) ≡ Some t
-  find_first zero a t low high passes fails = absurd (omega arith)
-  find_first (suc n) a t low high passes fails = elim (cases_lt a t) [
-    | inl before ↦ (let first = fails a (omega arith) before in
-        let rest = find_first n (a + 1) t (omega arith) (omega arith) passes (λ u above below. fails u (omega arith) below) in cc)
-    | inr here ↦ (let same : t ≡ a = omega arith in let first : p a ≡ true = ap p (sym same) ∙ passes in cc)
-  ]
+-- where all have arrived none is left
+pub none_left : (gatherers tasks : ℕ) (events : List Event) → ((u : ℕ) → u < tasks → has_arrived gatherers events u ≡ true)
+    → first_left gatherers tasks events ≡ None
+none_left gatherers tasks events all =
+    let is = first_is (λ u. not (has_arrived gatherers events u)) tasks 0 tasks (omega arith) (omega arith) (λ u low below. ap not (all u below))
+    (λ no. absurd (omega arith)) in grind (arith, nat_tests)
 
 module _ (gatherers tasks : ℕ) (events : List Event) (covered : FinSet nat_cmp)
     (arrived : (t : ℕ) → contains covered t ≡ (nat_lt t tasks && has_arrived gatherers events t))
   where
     has : (t : ℕ) → t < tasks → has_arrived gatherers events t ≡ contains covered t
-    has t within = let test = lt_true t tasks within in let is = arrived t in cc
+    has t within = let is = arrived t in grind (arith, nat_tests)
 
     -- the least task that is not covered is the least that has not arrived
     pub first_left_is : (t : ℕ) → t < tasks → contains covered t ≡ false → ((u : ℕ) → u < t → contains covered u ≡ true)
         → first_left gatherers tasks events ≡ Some t
     first_left_is t within missing least =
-        find_first (λ u. not (has_arrived gatherers events u)) tasks 0 t (omega arith) (omega arith)
-        (ap not (has t within ∙ missing))
-        (λ u low below. ap not (has u (omega arith) ∙ least u below))
-
-    -- where all are covered all have arrived
-    pub none_left : ((t : ℕ) → t < tasks → contains covered t ≡ true) → first_left gatherers tasks events ≡ None
-    none_left all =
-        find_none (λ u. not (has_arrived gatherers events u)) tasks 0
-        (λ u low high. let within : u < tasks = omega arith in ap not (has u within ∙ all u within))
+        let is = first_is (λ u. not (has_arrived gatherers events u)) tasks 0 t (omega arith) (omega arith)
+        (λ u low below. ap not (has u (omega arith) ∙ least u below)) (λ more. ap not (has t within ∙ missing)) in grind (arith, nat_tests)

@@ -3,7 +3,7 @@
 use Rattle.std.specs.Prelude.{◌≡◌, ◌⊎◌, ℕ, List, Option, Some, None, length}
 use Rattle.schedules.specs.Schedules.{Event, first_left}
 use Rattle.links.specs.declared.linked.Linked.{Linked}
-use Rattle.links.specs.declared.linked.Linked.TheVariants.{Next, Halt}
+pub use Rattle.links.specs.declared.linked.Linked.TheVariants.{Next, Halt}
 use Rattle.schedules.specs.declared.rehearsed.Rehearsed.{Rehearsed}
 use Rattle.schedules.specs.declared.rehearsed.Rehearsed.TheVariants.{Finished, Stopped, Missing}
 

@@ -1,5 +1,5 @@
 -- What a reader of batches has read, as it goes on.
-use Rattle.std.proofs.Common.{◌≡◌, ℕ, ◌+◌, ◌<◌, ◌≤◌, List, [], ◌++◌, length, All, refl, sym, ap, ◌∙◌, subst, append_assoc, arith, inl}
+use Rattle.std.proofs.Common.{◌≡◌, ℕ, ◌+◌, ◌≤◌, List, [], ◌++◌, length, All, ap, ◌∙◌, subst, append_assoc, arith, inl}
 use Rattle.std.specs.List.{concat}
 use Rattle.std.proofs.lemmas.List.{length-append}
 use Rattle.std.proofs.lemmas.List.Folds.{concat-append}
@@ -10,8 +10,7 @@ use Rattle.day_file.specs.Frames.{IsTruncatedAt}
 use Rattle.day_file.proofs.Fed.{fed_length_is, truncated_after_full}
 use Rattle.day_file.proofs.CutsBy.{cut_after}
 use Rattle.streaming.specs.Batches.{HasRead, IsLastFault, IsReadTo, IsReading, ReaderView, read_length}
-use Rattle.streaming.specs.Readings.{IsSourceFault, of_stream}
-use Rattle.streaming.specs.Streams.{GaveAll, GaveMore, GaveSome}
+use Rattle.streaming.specs.Readings.{GaveAll, GaveMore, GaveSome, IsSourceFault, of_stream}
 use Rattle.streaming.specs.declared.fault.SourceFault.{SourceFault}
 use Rattle.streaming.specs.declared.fault.SourceFault.TheVariants as fault
 
@@ -47,36 +46,34 @@ module _ {S : Type 0} {Gave : S → S → List ℕ → Type 0} (gave_more : (a b
 
 -- and the cutter of a reader is fed it
 pub read_on : {S : Type 0} {Gave : S → S → List ℕ → Type 0} → ((a b c : S) (xs ys : List ℕ) → Gave a b xs → Gave b c ys → Gave a c (xs ++ ys))
-    → {before was now : S} {runs : List (List ℕ)} {old new : ReaderView} {piece : List ℕ} (to : IsReadTo Gave before was runs old) → Gave was now piece
-    → new.target ≡ old.target → new.first ≡ old.first → new.start ≡ old.start → HasFed new.cutter (to.has.fed ++ piece) → IsReadTo Gave before now runs new
-read_on gave_more {runs = runs} {piece = piece} to gave target first start has = record {
+    → {before was now : S} {runs : List (List ℕ)} {reader : ReaderView} {cutter : CutterView} {piece : List ℕ} (to : IsReadTo Gave before was runs reader)
+    → Gave was now piece → HasFed cutter (to.has.fed ++ piece) → IsReadTo Gave before now runs (record reader { cutter = cutter })
+read_on gave_more {runs = runs} {piece = piece} to gave has = record {
   bytes = to.bytes ++ piece;
   gave = gave_more _ _ _ _ _ to.gave gave;
   has = record {
-    full = subst (λ n. All (IsFullRun n) runs) (sym target) to.has.full;
+    full = to.has.full;
     fed = to.has.fed ++ piece;
     has = has;
-    joined = ap (λ l. l ++ piece) to.has.joined ∙ append_assoc (concat runs) to.has.fed piece;
-    first = first ∙ to.has.first;
-    start = start ∙ to.has.start;
+    joined = rw (← append_assoc) (ap (λ l. l ++ piece) to.has.joined);
+    first = to.has.first;
+    start = to.has.start;
   };
 }
 
 -- a batch is taken out
-pub batch_taken : {old new : ReaderView} {runs : List (List ℕ)} (cut : List (List ℕ)) {bytes : List ℕ} → new.target ≡ old.target → new.first ≡ old.first + length cut
-    → new.start ≡ old.start + length (concat cut) → All (IsFullRun old.target) cut
-    → ((fed : List ℕ) → HasFed old.cutter fed → (rest : List ℕ) × (fed ≡ concat cut ++ rest) × HasFed new.cutter rest)
-    → HasRead old runs bytes → HasRead new (runs ++ cut) bytes
-batch_taken {old} {new} {runs} cut target first start full left h =
-    let r = left h.fed h.has in
+pub batch_taken : {reader : ReaderView} {cutter : CutterView} {runs : List (List ℕ)} (cut : List (List ℕ)) {bytes : List ℕ} → All (IsFullRun reader.target) cut
+    → ((fed : List ℕ) → HasFed reader.cutter fed → (rest : List ℕ) × (fed ≡ concat cut ++ rest) × HasFed cutter rest) → HasRead reader runs bytes
+    → HasRead (record reader { start = reader.start + length (concat cut); first = reader.first + length cut; cutter = cutter }) (runs ++ cut) bytes
+batch_taken {reader} {runs = runs} cut full left h =
+    let (rest, is, has) = left h.fed h.has in
     record {
-      full = subst (λ n. All (IsFullRun n) (runs ++ cut)) (sym target) (All-append (IsFullRun old.target) runs cut h.full full);
-      fed = r.0;
-      has = r.2;
-      joined = h.joined ∙ ap (λ l. concat runs ++ l) r.1 ∙ sym (append_assoc (concat runs) (concat cut) r.0)
-          ∙ ap (λ l. l ++ r.0) (sym (concat-append runs cut));
-      first = omega (arith, h.first, first, length-append runs cut);
-      start = omega (arith, h.start, start, ap length (concat-append runs cut), length-append (concat runs) (concat cut));
+      full = All-append (IsFullRun reader.target) runs cut h.full full;
+      fed = rest;
+      has = has;
+      joined = rw (concat-append, append_assoc, ← is) h.joined;
+      first = omega (arith, h.first, length-append runs cut);
+      start = omega (arith, h.start, ap length (concat-append runs cut), length-append (concat runs) (concat cut));
     }
 
 -- the source is at its end
@@ -87,9 +84,7 @@ module _ {S : Type 0} {Gave : S → S → List ℕ → Type 0} (HasEnded : S →
   gave_all = record { gave = h.gave; ended = ended; within = omega (arith, within, read_length_is h.has) }
 
   behind : (cut : List (List ℕ)) → IsCutBy reader.cutter.target cut h.has.fed → IsCutBy reader.target (runs ++ cut) h.bytes
-  behind cut made =
-      subst (IsCutBy reader.target (runs ++ cut)) (sym h.has.joined)
-      (cut_after reader.target runs cut h.has.fed h.has.full (subst (λ n. IsCutBy n cut h.has.fed) same made))
+  behind cut made = rw h.has.joined (cut_after reader.target runs cut h.has.fed h.has.full (subst (λ n. IsCutBy n cut h.has.fed) same made))
 
   -- the rest is the last batch
   pub last_cut : (cut : List (List ℕ)) → ((fed : List ℕ) → HasFed reader.cutter fed → IsCutBy reader.cutter.target cut fed)
@@ -101,17 +96,13 @@ module _ {S : Type 0} {Gave : S → S → List ℕ → Type 0} (HasEnded : S →
   -- a refusal at the end
   pub last_fault : (f : SourceFault) → ((fed : List ℕ) → HasFed reader.cutter fed → IsLastFault reader.first reader.start reader.cutter.target fed f)
       → IsSourceFault (of_stream Gave HasEnded limit reader.target before now) f
-  last_fault f told = by f (told h.has.fed h.has.has)
-    where
-      by : (f : SourceFault) → IsLastFault reader.first reader.start reader.cutter.target h.has.fed f
-          → IsSourceFault (of_stream Gave HasEnded limit reader.target before now) f
-      by fault.ReadFailed is = absurd is
-      by fault.TooLong is = absurd is
-      by (fault.Truncated place) (k, cut, at) =
-          let here : IsTruncatedAt h.bytes place = subst (IsTruncatedAt h.bytes) (omega (arith, at, h.has.start))
-          (subst (λ l. IsTruncatedAt l (length (concat runs) + k)) (sym h.has.joined)
-          (truncated_after_full reader.target runs h.has.fed k h.has.full cut)) in
-          (h.bytes, (gave_all, inl (place, here)), here)
-      by fault.TooManyMorsels (cut, made, many) =
-          (h.bytes, gave_all, (runs ++ cut, behind cut made, omega (arith, many, h.has.first, length-append runs cut)))
-      by fault.OutOfMemory is = record { bytes = h.bytes; gave = h.gave; within = omega (arith, gave_all.within) }
+  last_fault (fault.Truncated place) told =
+      let (k, cut, at) = told h.has.fed h.has.has in
+      let here : IsTruncatedAt h.bytes place = rw (at, h.has.joined, h.has.start) (truncated_after_full reader.target runs h.has.fed k h.has.full cut) in
+      (h.bytes, (gave_all, inl (place, here)), here)
+  last_fault fault.TooManyMorsels told =
+      let (cut, made, many) = told h.has.fed h.has.has in
+      (h.bytes, gave_all, (runs ++ cut, behind cut made, omega (arith, many, h.has.first, length-append runs cut)))
+  last_fault fault.OutOfMemory told = record { bytes = h.bytes; gave = h.gave; within = omega (arith, gave_all.within) }
+  last_fault fault.ReadFailed told = absurd (told h.has.fed h.has.has)
+  last_fault fault.TooLong told = absurd (told h.has.fed h.has.has)

@@ -6,7 +6,7 @@ use Rattle.lists.specs.declared.limits.TheConstants.{LONGEST_FILE, MOST_MORSELS}
 use Rattle.day_file.specs.Cuts.{IsCutBy}
 use Rattle.day_file.specs.Feeding.{CutterView, HasFed, IsFullRun, fed_length}
 use Rattle.day_file.specs.Frames.{IsTruncatedAt}
-use Rattle.streaming.specs.Streams.{GaveAll}
+use Rattle.streaming.specs.Readings.{GaveAll}
 use Rattle.streaming.specs.declared.batch.Batch.{Batch}
 use Rattle.streaming.specs.declared.fault.SourceFault.{SourceFault}
 use Rattle.streaming.specs.declared.fault.SourceFault.TheVariants as fault

@@ -1,3 +1,2 @@
 pub mod Batches
 pub mod Readings
-pub mod Streams

@@ -65,7 +65,7 @@ impl BatchReader {
             start: 0,
             first: 0,
             cutter: Cutter::new(alloc, target),
-            piece: zeros(alloc)?,
+            piece: vec![in alloc; 0u8; PIECE]?,
         })
     }
 
@@ -149,13 +149,6 @@ impl BatchReader {
             is_last: false,
         })
     }
-}
-
-// A piece of a source, before it is read.
-fn zeros(alloc: Global) -> Result<Vec<u8>, OutOfMemory>
-    ensures { IfOk result (λ zeros. vec_len zeros ≡ PIECE) }
-{
-    vec![in alloc; 0u8; PIECE]
 }
 
 // Feeds the cutter what one call of the source gives, at most what has room in `piece`, and says how many bytes those

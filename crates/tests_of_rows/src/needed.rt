@@ -36,9 +36,10 @@ impl Shape {
     }
 }
 
-/// A filter with room for so many orders, an execution of every tenth of a thousand references, and an order of each.
+/// A filter with room for so many orders and a tenth as many executions, an execution of every tenth of a thousand
+/// references, and an order of each.
 fn filter_of(alloc: Global, room: usize, shape: Shape) -> Result<OrderFilter, OutOfMemory> {
-    let mut filter = OrderFilter::new(alloc, room)?;
+    let mut filter = OrderFilter::new(alloc, room, room / 10)?;
     for tens in 0..100u64 {
         filter.add_execution(shape.reference(tens * 10));
     }

@@ -1,10 +1,12 @@
 -- What a loop takes from an iterator, and bounds that rise.
-use Rattle.std.proofs.Common.{◌≡◌, ℕ, zero, suc, ◌+◌, ◌<◌, List, [], ◌∷◌, ◌++◌, get_or, map, max, length, Result, Ok, Err, IfOk, refl, ap, arith, append_assoc}
+use Rattle.std.proofs.Common.{◌≡◌, ℕ, zero, suc, ◌+◌, ◌<◌, List, [], ◌∷◌, ◌++◌, get_or, map, max, length, Result, IfOk, refl, ap, arith, append_assoc}
 use Rattle.std.specs.List.Sorted.{IsNonDecreasing}
 use Rattle.std.specs.Vec.Iter.{into_iter_items, into_iter_len}
 use Rattle.std.specs.declared.vec.IntoIter.{IntoIter}
-use Rattle.std.proofs.lemmas.List.{get_or_default, map_push, nil_from_length}
+use Rattle.std.proofs.lemmas.Grind.{common_steps}
+use Rattle.std.proofs.lemmas.List.{append-nil, at_drop_more, get_or_default, length-map, map_push, nil_from_length}
 use Rattle.std.proofs.lemmas.List.Sorted.{IsNonDecreasingBy-from_all_adjacent}
+use Rattle.std.proofs.lemmas.Result.{IfOk-weaker}
 use Rattle.std.proofs.Math.Numerals.{add-one}
 
 -- one item goes from what is left to the end of what was taken
@@ -16,8 +18,9 @@ pub none_left : {T Z : Type 0} (j : IntoIter T Z) → into_iter_len j ≡ 0 → 
 none_left j e = nil_from_length (into_iter_items j) (omega (arith, j.rest.ok, e))
 
 pub both_ok : {T E : Type 0} (r : Result T E) (P Q : T → Type 0) → IfOk r P → IfOk r Q → IfOk r (λ x. P x × Q x)
-both_ok (Ok x) P Q p q = (p, q)
-both_ok (Err e) P Q p q = tt
+both_ok r P Q p q = grind arith
+
+pub ruleset taking = (common_steps, append-nil, length-map, moved, none_left, IfOk-weaker)
 
 -- ---- bounds that rise
 
@@ -41,5 +44,6 @@ bounds_rise ns =
     let bounds = 0 ∷ greatest_so_far 0 ns in
     let n = length-greatest_so_far 0 ns in
     IsNonDecreasingBy-from_all_adjacent (λ (x : ℕ). x) bounds (λ k d h.
-    rw (get_or_default bounds k d 0 (omega (arith, h)), get_or_default bounds (k + 1) d 0 h, add-one k)
-    (omega (arith, next_bound 0 ns k (omega (arith, h, n)))))
+    grind (arith, next_bound 0 ns k, add-one k, get_or_default bounds k d 0, get_or_default bounds (k + 1) d 0))
+
+pub ruleset bounding = (common_steps, append_assoc, at_drop_more)

@@ -1,9 +1,10 @@
 -- Listings merged: what the parts give, and in which order.
-use Rattle.std.proofs.Common.{◌≡◌, ◌+◌, Bool, false, ltb, List, [], ◌∷◌, ◌++◌, get_or, map, length, All, Vec, Less, arith, flat_map, append-nil}
+use Rattle.std.proofs.Common.{◌≡◌, ◌+◌, Bool, ltb, List, [], ◌∷◌, ◌++◌, map, length, All, Vec, arith, flat_map, append-nil}
 use Rattle.std.specs.List.Sorted.{IsSortedBy}
 use Rattle.std.specs.Vec.Iter.{into_iter_items, into_iter_len, into_iter_steps}
 use Rattle.std.specs.declared.vec.IntoIter.{IntoIter}
 use Rattle.std.proofs.lemmas.Bool.Decides.{nat_tests}
+use Rattle.std.proofs.lemmas.Grind.{common_steps}
 use Rattle.std.proofs.lemmas.List.Elements.{All-map, All-weaker}
 use Rattle.std.proofs.lemmas.List.Folds.{flat_map-map}
 use Rattle.std.proofs.lemmas.Iterator.Adapters.{YieldsList-from_vec}
@@ -11,6 +12,7 @@ use Rattle.std.proofs.lemmas.Map.Keys.{Less-from_sorted}
 use Rattle.itertools.specs.KMerge.{SourcesGive}
 use Rattle.row_types.specs.declared.trade.Sale.{Sale}
 use Rattle.row_types.specs.SalesByPlace.{place_cmp, IsByPlace}
+use Rattle.time_and_sales.proofs.MadeTexts.{none_left}
 
 abbrev pub before : Sale → Sale → Bool
 before a b = ltb a.place b.place
@@ -24,18 +26,16 @@ pub parts_give : {Z : Type 0} (gives : Vec Sale Z → IntoIter Sale Z → Type 0
 parts_give gives h [] = tt
 parts_give gives h (p ∷ parts) = ((λ j g. (YieldsList-from_vec p.items (h p j g).0 (h p j g).1).runs), parts_give gives h parts)
 
-not_before : (a b : Sale) → place_cmp a b ≡ Less → before b a ≡ false
-not_before a b h = grind (arith, nat_tests)
-
 -- lists by place are in the merge's order
 pub parts_in_order : {Z : Type 0} (parts : List (Vec Sale Z)) → All (λ (p : Vec Sale Z). IsByPlace p.items) parts → All (IsSortedBy before) (items_of parts)
 parts_in_order {Z} parts h =
     All-map (IsSortedBy before) (λ (p : Vec Sale Z). p.items) parts
     (All-weaker (λ (p : Vec Sale Z). IsByPlace p.items) (λ (p : Vec Sale Z). IsSortedBy before p.items)
-    (λ p up k d low high. not_before (get_or p.items k d) (get_or p.items (k + 1) d)
-    (Less-from_sorted place_cmp p.items k (k + 1) d up (omega arith) high)) parts h)
+    (λ p up k d low high. let less = Less-from_sorted place_cmp p.items k (k + 1) d up (omega arith) high in grind (arith, nat_tests)) parts h)
 
 -- the parts are all lists when none is left
 pub joined_parts : {Z : Type 0} (parts : List (Vec Sale Z)) (rest all : List (List Sale)) → items_of parts ++ rest ≡ all → rest ≡ []
     → flat_map (λ l. l) all ≡ flat_map (λ (p : Vec Sale Z). p.items) parts
 joined_parts {Z} parts rest all told none = rw (← told, none, append-nil) (flat_map-map (λ (l : List Sale). l) (λ (p : Vec Sale Z). p.items) parts)
+
+pub ruleset merging = (common_steps, joined_parts, none_left)

@@ -4,8 +4,7 @@ use Rattle.std.proofs.Common.{Vec, Result, Ok, IfOk, refl, sym, ap, ap₂, ◌�
 use Rattle.std.specs.List.Sorted.{IsNonDecreasing, IsNonDecreasingBy, IsPartitionPoint}
 use Rattle.std.proofs.lemmas.Bool.{cases_Bool, le-ltb, ltb-false}
 use Rattle.std.proofs.lemmas.Bool.Decides.{nat_tests}
-use Rattle.std.proofs.lemmas.List.{append-nil, length-take-le, get_or-take, get_or-drop, take-append-drop, take_more}
-use Rattle.std.proofs.lemmas.List.Concat.{flat_map-append}
+use Rattle.std.proofs.lemmas.List.{append-nil, flat_map_more, length-take-le, get_or-take, get_or-drop, take-append-drop, take_more}
 use Rattle.std.proofs.lemmas.List.Elements.{filter-append, All-head, All-tail}
 use Rattle.std.proofs.lemmas.List.Kept.{IsNonDecreasingBy-filter}
 use Rattle.lists.proofs.Lists.{filter_of_filter}
@@ -14,7 +13,7 @@ use Rattle.time_and_sales.specs.Parted.{is_in_first}
 -- ---- a loop over lists
 
 pub flat_map_push : {X Y : Type 0} (f : X → List Y) (xs : List X) (x : X) → flat_map f (xs ++ x ∷ []) ≡ flat_map f xs ++ f x
-flat_map_push f xs x = flat_map-append f xs (x ∷ []) ∙ ap (λ l. flat_map f xs ++ l) (append-nil (f x))
+flat_map_push f xs x = sym (flat_map_more f [] xs x)
 
 -- one list more
 pub flat_map_next : {X Y : Type 0} (f : X → List Y) (xs : List X) (i : ℕ) (d : X) → i < length xs
@@ -42,20 +41,27 @@ module _ {X : Type 0} (p : X → Bool) (xs : List X) (i : ℕ) (within : i ≤ l
 
   pub passing_front : take i xs ≡ filter p xs
   passing_front =
-      sym (ap (filter p) (sym (take-append-drop i xs)) ∙ filter-append p (take i xs) (drop i xs)
-      ∙ ap₂ ◌++◌ (all_pass p (take i xs) front) (none_pass p (drop i xs) back) ∙ append-nil (take i xs))
+      let whole = filter-append p (take i xs) (drop i xs) in
+      grind (arith, take-append-drop i xs, all_pass p (take i xs) front, none_pass p (drop i xs) back, append-nil)
 
   pub failing_back : drop i xs ≡ filter (λ y. not (p y)) xs
   failing_back =
       let fails : X → Bool = λ y. not (p y) in
-      sym (ap (filter fails) (sym (take-append-drop i xs)) ∙ filter-append fails (take i xs) (drop i xs)
-      ∙ ap₂ ◌++◌ (none_pass fails (take i xs) (λ k d l. ap not (front k d l))) (all_pass fails (drop i xs) (λ k d l. ap not (back k d l))))
+      let none = none_pass fails (take i xs) (λ k d l. ap not (front k d l)) in
+      let all = all_pass fails (drop i xs) (λ k d l. ap not (back k d l)) in
+      grind (arith, take-append-drop i xs, filter-append fails (take i xs) (drop i xs))
 
 filter_both : {X : Type 0} (p q : X → Bool) (xs : List X) → filter p (filter q xs) ≡ filter (λ x. q x && p x) xs
 filter_both p q [] = refl
 filter_both p q (x ∷ xs) = let more = filter_both p q xs in grind (arith, rules)
 
 -- ---- the first range
+
+-- two items of one number are in it both, or neither is
+pub in_first_alike : {X Y : Type 0} (f : X → ℕ) (g : Y → ℕ) (bounds : List ℕ) (x : X) (y : Y) → f x ≡ g y → is_in_first f bounds x ≡ is_in_first g bounds y
+in_first_alike f g [] x y e = refl
+in_first_alike f g (low ∷ []) x y e = ap (is_in_first (λ (n : ℕ). n) (low ∷ [])) e
+in_first_alike f g (low ∷ high ∷ bounds) x y e = ap (is_in_first (λ (n : ℕ). n) (low ∷ high ∷ bounds)) e
 
 pub no_bound : {X : Type 0} (number : X → ℕ) (bounds : List ℕ) (xs : List X) → length bounds < 1 → filter (is_in_first number bounds) xs ≡ []
 no_bound number [] xs h = none_pass (is_in_first number []) xs (λ k d l. refl)
@@ -108,11 +114,10 @@ module _ {X : Type 0} (number : X → ℕ) where
     from_bound low [] (t ∷ []) rise count each = append-nil t.items ∙ each 0 (told t) (omega arith)
     from_bound low [] (t ∷ s ∷ texts) rise count each = absurd (omega (arith, count))
     from_bound low (high ∷ bounds) (t ∷ texts) rise count each =
-        ap₂ ◌++◌ (each 0 (told t) (omega arith))
-        (from_bound high bounds texts (λ i j d le lt. rise (suc i) (suc j) d (omega arith) (omega arith)) (omega (arith, count))
-        (λ n d h. each (suc n) d (omega arith)))
-        ∙ sym (both (filter (is_in_first number (low ∷ high ∷ bounds)) xs) (filter (from high) xs))
-        ∙ ap text (split low high xs (rise 0 1 0 (omega arith) (omega arith)) up)
+        let here = each 0 (told t) (omega arith) in
+        let more = from_bound high bounds texts (λ i j d le lt. rise (suc i) (suc j) d (omega arith) (omega arith)) (omega (arith, count))
+        (λ n d h. each (suc n) d (omega arith)) in
+        grind (arith, both (filter (is_in_first number (low ∷ high ∷ bounds)) xs), split low high xs (rise 0 1 0 (omega arith) (omega arith)) up)
 
     -- the texts of all ranges, one after another, are the text of all
     pub ranges_join : {Z E : Type 0} (bounds : List ℕ) (texts : List (Vec ℕ Z)) → 0 < length bounds → get_or bounds 0 0 ≡ 0 → IsNonDecreasing bounds

@@ -1,15 +1,17 @@
 -- The sales of many listings that are in a range of places.
 use Rattle.std.proofs.Common.{◌≡◌, ℕ, Bool, All, Bor, List, ◌++◌, map, filter, IsPermutation, arith, flat_map}
 use Rattle.std.specs.List.Sorted.{IsNonDecreasingBy}
-use Rattle.std.proofs.lemmas.List.{get_or-map, length-map}
+use Rattle.std.proofs.lemmas.Grind.{common_steps}
+use Rattle.std.proofs.lemmas.List.{get_or-map, length-map, map_more}
 use Rattle.std.proofs.lemmas.List.Concat.{flat_map-append}
-use Rattle.std.proofs.lemmas.List.Elements.{All-filter}
+use Rattle.std.proofs.lemmas.List.Elements.{All-filter, filter-append}
 use Rattle.std.proofs.lemmas.List.Kept.{IsStrictlySortedBy-filter}
 use Rattle.std.proofs.lemmas.List.Sorted.{All-permutation, IsPermutation-sym, IsPermutation-trans}
 use Rattle.lists.proofs.Lists.{IsPermutation-filter}
 use Rattle.row_types.specs.SalesByPlace.{place_cmp, IsByPlace}
 use Rattle.time_and_sales.specs.Texts.{Sale, lines_text, sale_line}
-use Rattle.time_and_sales.proofs.SortedByPlace.{one_order, place_of}
+use Rattle.time_and_sales.proofs.RangesJoined.{flat_map_next, flat_map_push}
+use Rattle.time_and_sales.proofs.SortedByPlace.{one_order, place_of, places_rise}
 
 -- the sales of all listings
 abbrev pub listed : List (Bor (List Sale)) → List Sale
@@ -23,15 +25,14 @@ pub seen_rise : (sales : List (Bor Sale)) → IsNonDecreasingBy (λ (sale : Bor 
 seen_rise sales up i j d low within =
     let e : Bor Sale = record { ref_ptr = (0, 0); now = d } in
     let n = length-map sales (λ (sale : Bor Sale). sale.now) in
-    rw (get_or-map (λ (sale : Bor Sale). sale.now) sales i e d (omega (arith, n)), get_or-map (λ (sale : Bor Sale). sale.now) sales j e d (omega (arith, n)))
-    (up i j e low (omega (arith, n)))
+    grind (arith, up i j e low, get_or-map (λ (sale : Bor Sale). sale.now) sales i e d, get_or-map (λ (sale : Bor Sale). sale.now) sales j e d)
 
 -- a range of all sales is the range of their listing
 pub range_is : (p : Sale → Bool) (sales all range : List Sale) → IsByPlace all → IsPermutation sales all → IsNonDecreasingBy place_of range
     → IsPermutation (filter p sales) range → range ≡ filter p all
 range_is p sales all range up perm rise part =
-    one_order (filter p all) range (IsStrictlySortedBy-filter place_cmp p all up)
-    (IsPermutation-trans _ (filter p sales) _ (IsPermutation-sym _ _ (IsPermutation-filter p sales all perm)) part) rise
+    let back = IsPermutation-sym _ _ (IsPermutation-filter p sales all perm) in
+    one_order (filter p all) range (IsStrictlySortedBy-filter place_cmp p all up) (IsPermutation-trans _ (filter p sales) _ back part) rise
 
 -- what holds of all sales holds of those that the references of a range lead to
 pub range_has : (P : Sale → Type 0) (p : Sale → Bool) (sales : List Sale) (range : List (Bor Sale)) → All P sales → IsPermutation (filter p sales) (seen range)
@@ -42,3 +43,6 @@ range_has P p sales range all part k d h =
 
 pub lines-append : (name : ℕ → List ℕ) (xs ys : List Sale) → lines_text name (xs ++ ys) ≡ lines_text name xs ++ lines_text name ys
 lines-append name xs ys = flat_map-append (λ (sale : Sale). sale_line sale (name sale.locate)) xs ys
+
+-- what the loops over listings and over sales take
+pub ruleset loops = (common_steps, map_more, filter-append, flat_map_next, flat_map_push, places_rise)

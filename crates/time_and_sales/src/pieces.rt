@@ -11,6 +11,7 @@ use std::thread::Threads;
 /// The texts that the calls of `text` with 0, 1 and so on give, in this order: each call has a
 /// thread of its own if one can be made. It is refused if a call is, or if there is no memory for
 /// the list.
+#[tactic(auto, using(crate::proofs::MadeTexts::taking))]
 pub fn texts_of<R: Threads + Sync, F: Fn(usize) -> Result<Vec<u8>, OutOfMemory> + Sync>(
     rt: &R,
     alloc: Global,
@@ -25,6 +26,7 @@ pub fn texts_of<R: Threads + Sync, F: Fn(usize) -> Result<Vec<u8>, OutOfMemory> 
 }
 
 /// All texts, if none was refused.
+#[tactic(auto, using(crate::proofs::MadeTexts::taking))]
 fn all_of(
     alloc: Global,
     made: Vec<Result<Vec<u8>, OutOfMemory>>,
@@ -40,6 +42,7 @@ fn all_of(
 
 /// The least numbers of ranges: 0, then the greatest of the numbers so far, for each of them in
 /// turn.
+#[tactic(auto, using(crate::proofs::MadeTexts::bounding))]
 pub fn bounds_of(alloc: Global, numbers: &[u64]) -> Result<Vec<u64>, OutOfMemory>
     ensures some { IfOk result (λ bounds. 0 < length bounds.items) }
     ensures first { IfOk result (λ bounds. slice_index bounds.items 0 ≡ 0) }

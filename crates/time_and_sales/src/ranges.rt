@@ -123,6 +123,7 @@ fn range_lines(
 }
 
 /// The sales of all listings that are in the first range, by place. They stay in their listings.
+#[tactic(auto, using(crate::proofs::SalesInRanges::loops))]
 fn range_of<'a>(
     alloc: Global,
     listings: &[&'a Listing],
@@ -165,6 +166,7 @@ fn append<'a>(sales: &mut Vec<&'a Sale>, more: &'a [Sale]) -> Result<(), OutOfMe
 }
 
 /// The lines of sales, each under the name of its locate.
+#[tactic(auto, using(crate::proofs::SalesInRanges::loops))]
 fn lines(alloc: Global, sales: &[&Sale], names: &Names) -> Result<Vec<u8>, OutOfMemory>
     requires { All (λ sale. sale.now.time < TIME_LIMIT) sales.now }
     ensures { IfOk result (λ text. text.items

@@ -2,7 +2,7 @@
 ghost use Rattle.std.specs.Prelude.{◌≡◌, ℕ, ◌+◌, ◌-◌, ◌<◌, ◌≤◌, [], All, length, map, IfOk};
 ghost use Rattle.std.specs.List.{range_with_len};
 ghost use Rattle.lists.specs.declared.limits.TheConstants.{MOST_TASKS, MOST_SEATS};
-ghost use Rattle.dispatcher.specs.Rule.{unused_view, everyone, view_from};
+ghost use Rattle.dispatcher.specs.Rule.{everyone, view_from};
 ghost use Rattle.dispatcher.specs.Seats.{identity, tasks_of, seats_of, number, IsSeatOf, IsUnused};
 
 use super::Dispatcher;
@@ -50,7 +50,7 @@ impl<A: Allocator + Clone> Dispatcher<A> {
         mut rest: atomic_table::Seat<(), View>,
     ) -> Result<Vec<Seat, A>, OutOfMemory>
         requires own { rest.table_id ≡ identity self.now }
-        requires everyone { rest.me ≡ (unused_view (range_with_len 0 (seats_of self.now)), []) }
+        requires everyone { rest.me ≡ (view_from 0 (seats_of self.now), []) }
         ensures count { IfOk result (λ list. length list.items ≡ seats_of self.now) }
         ensures numbers { IfOk result (λ list.
             map number list.items ≡ range_with_len 0 (seats_of self.now)) }
@@ -58,25 +58,10 @@ impl<A: Allocator + Clone> Dispatcher<A> {
         ensures unused { IfOk result (λ list. All IsUnused list.items) }
     {
         let mut list = Vec::new(alloc);
-        for index in 0..self.seats {
-            let seat = self.next_seat(&mut rest, index);
-            list.push(seat)?;
+        for _ in 0..self.seats {
+            let inner = self.table.shared.split_seat::<SeatSplit>(&mut rest);
+            list.push(Seat { inner })?;
         }
         Ok(list)
-    }
-
-    /// A seat with the least number that is left.
-    fn next_seat(&self, rest: &mut atomic_table::Seat<(), View>, index: u32) -> Seat
-        requires own { rest.old.table_id ≡ identity self.now }
-        requires index { index < seats_of self.now }
-        requires rest { rest.old.me ≡ (view_from index (seats_of self.now), []) }
-        ensures rest_own { rest.new.table_id ≡ identity self.now }
-        ensures rest { rest.new.me ≡ (view_from (index + 1) (seats_of self.now), []) }
-        ensures own { IsSeatOf self.now result }
-        ensures number { number result ≡ index }
-        ensures unused { IsUnused result }
-    {
-        let inner = self.table.shared.split_seat::<SeatSplit>(rest);
-        Seat { inner }
     }
 }

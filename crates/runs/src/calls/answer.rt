@@ -56,9 +56,8 @@ pub(crate) fn answer_scans<R: Threads + Wait + Sync>(
 ) -> Result<Answer, OutOfMemory>
     requires parts { (0 < parts) × (parts ≤ MOST_PARTITIONS) }
     requires total { (runs : List (List ℕ)) × IsScanOf query.now.as_of parts total runs }
-    ensures { IfOk result (λ answer. (runs : List (List ℕ)) →
-        IsScanOf query.now.as_of parts total runs →
-        IsAnswer (concat runs) query.now (told_by answer)) }
+    ensures { (runs : List (List ℕ)) → IsScanOf query.now.as_of parts total runs →
+        IfOk result (λ answer. IsAnswer (concat runs) query.now (told_by answer)) }
 {
     let link = PlanLink::dividing(query, parts);
     let outcome = run_second(rt, alloc, total, &link, crew, &FreeGate)?;
@@ -74,8 +73,8 @@ pub(crate) fn answer_of_outcome<R: Threads + Sync>(
     crew: Crew,
 ) -> Result<Answer, OutOfMemory>
     requires outcome { (runs : List (List ℕ)) × IsOutcomeOf query.now outcome runs }
-    ensures { IfOk result (λ answer. (runs : List (List ℕ)) → IsOutcomeOf query.now outcome runs →
-        IsAnswer (concat runs) query.now (told_by answer)) }
+    ensures { (runs : List (List ℕ)) → IsOutcomeOf query.now outcome runs →
+        IfOk result (λ answer. IsAnswer (concat runs) query.now (told_by answer)) }
 {
     match outcome {
         Outcome::Finished { total, kept } => answer_of_total(rt, alloc, query, total, kept, crew),
@@ -85,7 +84,7 @@ pub(crate) fn answer_of_outcome<R: Threads + Sync>(
 
 /// The answer that the total of all buckets gives. As many threads as the crew has workers make its text.
 /// Meanwhile another one frees what the scans found, or the caller does first if none can be made.
-pub(crate) fn answer_of_total<R: Threads + Sync>(
+fn answer_of_total<R: Threads + Sync>(
     rt: &R,
     alloc: Global,
     query: &Query,
@@ -94,8 +93,8 @@ pub(crate) fn answer_of_total<R: Threads + Sync>(
     crew: Crew,
 ) -> Result<Answer, OutOfMemory>
     requires gathered { (messages : List Placed) × AreGatheredOf query.now total kept messages }
-    ensures { IfOk result (λ answer. (messages : List Placed) → AreGatheredOf query.now total kept messages →
-        IsAnswerToMessages messages query.now (told_by answer)) }
+    ensures { (messages : List Placed) → AreGatheredOf query.now total kept messages →
+        IfOk result (λ answer. IsAnswerToMessages messages query.now (told_by answer)) }
 {
     let DayPlan { names, plan } = kept;
     // (without a thread, what it was to free is let go with the error)

@@ -1,10 +1,10 @@
 //! What every run begins and ends with: the query of its text, and the answer that goes to its sink.
-ghost use Rattle.std.specs.Prelude.{◌≡◌, ◌↔◌, false, true, IfErr, IfOk};
+ghost use Rattle.std.specs.Prelude.{◌≡◌, ◌↔◌, false, true, Err, IfErr, IfOk, Ok};
 ghost use Rattle.answers.specs.Answers.{told_by};
 ghost use Rattle.query.specs.Grammar.{Means};
 ghost use Rattle.query.specs.Words.{words_of};
 ghost use Rattle.runs.specs.Runs.{is_read_failed, is_write_failed};
-ghost use Rattle.runs.specs.Sources.{IsHandedOver, IsQueryRefusal, IsRefusedFor, TellsTruncated};
+ghost use Rattle.runs.specs.Sources.{IsHandedOver, IsQueryRefusal, reported};
 
 use answers::{Answer, DayFault};
 use outcomes::RunFault;
@@ -42,8 +42,8 @@ pub(crate) fn hand_over<K: Sink>(answer: Answer, sink: &mut K) -> Result<(), Run
 
 /// What is reported if a source gives no rows: the place where it is truncated, or a refusal.
 pub(crate) fn answer_of_fault(fault: SourceFault, limit: u64) -> Result<Answer, RunFault>
-    ensures answers { IfOk result (λ answer. TellsTruncated fault (told_by answer)) }
-    ensures refused { IfErr result (IsRefusedFor limit fault) }
+    ensures answers { IfOk result (λ answer. reported limit fault ≡ Ok (told_by answer)) }
+    ensures refused { IfErr result (λ refusal. reported limit fault ≡ Err refusal) }
     ensures failed { (is_read_failed result ≡ true) ↔ (fault ≡ SourceFault.ReadFailed) }
 {
     match fault {

@@ -2,11 +2,11 @@ ghost use Rattle.std.specs.Prelude.{◌≡◌, false, IfErr, IfOk};
 ghost use Rattle.std.specs.Arc.{arc_value};
 ghost use Rattle.answers.specs.Answers.{told_by};
 ghost use Rattle.block_scan.specs.Blocks.{IsBlocksFault, of_blocks};
-ghost use Rattle.runs.specs.LinkedBlocks.{IsOutcomeOfBlocks};
+ghost use Rattle.runs.specs.FirstPipeline.{IsOfAll, IsOutcomeOf};
 ghost use Rattle.runs.specs.Runs.{Ran, is_write_failed};
 ghost use Rattle.runs.specs.Sources.{IsAnswered, IsSourceRefusal};
 
-use crate::calls::answer::{answer_of_total, told_of};
+use crate::calls::answer::answer_of_outcome;
 use crate::calls::block_link::{BlockLink, BlocksStop};
 use crate::calls::ends::{answer_of_fault, hand_over, query_of};
 use answers::Answer;
@@ -16,6 +16,7 @@ use outcomes::{RunFault, Settings};
 use pipelines::{FreeGate, Gate, Outcome, run_pair};
 use planning::DayPlan;
 use query::Query;
+use scanning::WrongLength;
 use sinks::Sink;
 use std::alloc::{AllocError, Global};
 use std::sync::{Arc, Wait};
@@ -71,26 +72,17 @@ pub fn answer_blocks<G: Gate, R: Threads + Wait + Sync, S: BlockSource + Send + 
     ensures refused { IfErr result (IsSourceRefusal
         (of_blocks S.GaveAt S.EndsAt S.FailsAt settings.limit (arc_value source.now)) settings.limit) }
 {
-    let Settings { crew, limit, .. } = settings;
     let outcome = match outcome_of_blocks(rt, alloc, source, division, query, settings, gate) {
         Ok(outcome) => outcome,
-        Err(fault) => return answer_of_fault(fault, limit),
+        Err(fault) => return answer_of_fault(fault, settings.limit),
     };
-    match outcome {
-        Outcome::Finished { total, kept } => {
-            match answer_of_total(rt, alloc, query, total, kept, crew) {
-                Ok(answer) => Ok(answer),
-                Err(AllocError) => Err(RunFault::OutOfMemory),
-            }
-        }
-        Outcome::Stopped { stop } => match stop {
-            BlocksStop::WrongLength { wrong } => Ok(told_of(wrong)),
-            BlocksStop::Refused { fault } => answer_of_fault(fault, limit),
-        },
+    match answer_of_outcome(rt, alloc, query, outcome, settings.crew) {
+        Ok(answer) => Ok(answer),
+        Err(AllocError) => Err(RunFault::OutOfMemory),
     }
 }
 
-/// What both pipelines give over the blocks of a source.
+/// What both pipelines give over the blocks of a source, or why it gives no rows.
 fn outcome_of_blocks<G: Gate, R: Threads + Wait + Sync, S: BlockSource + Send + Sync>(
     rt: &R,
     alloc: Global,
@@ -99,9 +91,9 @@ fn outcome_of_blocks<G: Gate, R: Threads + Wait + Sync, S: BlockSource + Send + 
     query: &Query,
     settings: Settings,
     gate: &G,
-) -> Result<Outcome<BucketTotal, DayPlan, BlocksStop>, SourceFault>
-    ensures outcome { IfOk result
-        (IsOutcomeOfBlocks S.GaveAt S.EndsAt S.FailsAt (arc_value source.now) settings.limit query.now) }
+) -> Result<Outcome<BucketTotal, DayPlan, WrongLength>, SourceFault>
+    ensures outcome { IfOk result (λ outcome. IsOfAll
+        (of_blocks S.GaveAt S.EndsAt S.FailsAt settings.limit (arc_value source.now)) (IsOutcomeOf query.now outcome)) }
     ensures fault { IfErr result (IsBlocksFault S.GaveAt S.EndsAt S.FailsAt (arc_value source.now) settings.limit) }
 {
     let Settings {
@@ -115,5 +107,11 @@ fn outcome_of_blocks<G: Gate, R: Threads + Wait + Sync, S: BlockSource + Send + 
         return Err(SourceFault::OutOfMemory);
     };
     let link = BlockLink::new(query, parts);
-    Ok(run_pair(rt, alloc, inputs, &link, crew, gate)?)
+    match run_pair(rt, alloc, inputs, &link, crew, gate)? {
+        Outcome::Finished { total, kept } => Ok(Outcome::Finished { total, kept }),
+        Outcome::Stopped { stop } => match stop {
+            BlocksStop::WrongLength { wrong } => Ok(Outcome::Stopped { stop: wrong }),
+            BlocksStop::Refused { fault } => Err(fault),
+        },
+    }
 }

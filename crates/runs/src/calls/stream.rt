@@ -1,7 +1,7 @@
 //! A source that is read batch by batch, while threads scan the batch before.
 ghost use Rattle.std.specs.Prelude.{◌≡◌, ◌↔◌, false, true, IfErr, IfOk, IsErrOf};
 ghost use Rattle.streaming.specs.Readings.{IsSourceFault, of_stream};
-ghost use Rattle.runs.specs.Streamed.{IsBatchRead, IsScanOfAll, IsScanOfBatch};
+ghost use Rattle.runs.specs.FirstPipeline.{IsBatchRead, IsOfAll, IsScanOf, IsScanOfBatch};
 
 use crate::OutOfMemory;
 use outcomes::Settings;
@@ -27,8 +27,9 @@ pub(crate) fn scan_source<R: Threads + Wait + Sync, S: Source>(
     settings: Settings,
 ) -> Result<ScanTotal, SourceFault>
     requires source { S.has_failed source.old ≡ false }
-    ensures scanned { IfOk result (IsScanOfAll S.Gave S.HasEnded settings.limit settings.morsel
-        as_of settings.parts source.old source.new) }
+    ensures scanned { IfOk result (λ total. IsOfAll
+        (of_stream S.Gave S.HasEnded settings.limit settings.morsel source.old source.new)
+        (IsScanOf as_of settings.parts total)) }
     ensures fault { IfErr result
         (IsSourceFault (of_stream S.Gave S.HasEnded settings.limit settings.morsel source.old source.new)) }
     ensures failed { IsErrOf result SourceFault.ReadFailed ↔ (S.has_failed source.new ≡ true) }

@@ -1,13 +1,15 @@
-use Rattle.std.proofs.Common.{◌++◌, ap₂, get_or, ◌∙◌}
+use Rattle.std.proofs.Common.{◌++◌, ap, ap₂, flat_map, get_or, sym, take, ◌∙◌}
+use Rattle.std.proofs.lemmas.List.{flat_map_more, take_more}
 use Rattle.time_and_sales.specs.Names.{last_row, name_text}
 use Rattle.bars.proofs.LastBar.{no_bar}
+use Rattle.bars.specs.declared.bar.Bar.{Bar}
 use Rattle.bars.specs.Texts.{bar_line, bars_header}
-use Rattle.answers.proofs.TextsByLine.{line_more}
 use Rattle.answers.proofs.texts.text_of_bars.Goals as goal
 
 pub loop-bar-preserved : goal.loop-bar-preserved
 loop-bar-preserved g c =
-    c.in_ok-write_bar.ensures.ok
-    ∙ ap₂ (λ l name. l ++ bar_line (get_or c.args.table.now c.loop-bar.bar-index no_bar) name) c.loop-bar.invariant c.name.ensures
-    ∙ line_more bars_header (λ bar. bar_line bar (name_text bar.locate (last_row c.args.names.now bar.locate))) c.args.table.now
-    c.loop-bar.bar-index no_bar c.loop-bar-test.true
+    let line = λ (bar : Bar). bar_line bar (name_text bar.locate (last_row c.args.names.now bar.locate)) in
+    let i = c.loop-bar.bar-index in
+    c.in_ok-write_bar.ensures.ok ∙ ap₂ (λ l name. l ++ bar_line (get_or c.args.table.now i no_bar) name) c.loop-bar.invariant c.name.ensures
+    ∙ flat_map_more line bars_header (take i c.args.table.now) (get_or c.args.table.now i no_bar)
+    ∙ ap (λ l. bars_header ++ flat_map line l) (sym (take_more c.args.table.now i no_bar c.loop-bar-test.true))

@@ -1,4 +1,4 @@
-use Rattle.std.proofs.Common.{◌≡◌, ◌<◌, false, All, List, map, take, ℕ, [], ◌∷◌, ◌++◌, sym, ap, ap₂, ◌∙◌, arith, is_gt}
+use Rattle.std.proofs.Common.{◌≡◌, ◌<◌, false, All, List, map, take, ℕ, [], ◌∷◌, ◌++◌, sym, ap, ◌∙◌, arith, is_gt}
 use Rattle.std.proofs.lemmas.Bool.{eqb-false, eqb-true}
 use Rattle.std.proofs.lemmas.List.{length-map, nil_from_length, take_all}
 use Rattle.std.proofs.lemmas.List.Elements.{All-contains, All-take, Contains-push}
@@ -7,9 +7,9 @@ use Rattle.time_and_sales.specs.Names.{last_row, name_text}
 use Rattle.time_and_sales.proofs.RangesJoined.{flat_map_push}
 use Rattle.bars.specs.Bars.{Bar, IsTraded, IsUnionOf, key_cmp}
 use Rattle.bars.specs.Steps.{bar_at}
-use Rattle.bars.specs.Texts.{IsWritable, bar_line, lines_text}
-use Rattle.bars.proofs.LastBar.{equal_from, joined_to_last, next_bar, one_rises, put_behind_last}
-use Rattle.bars.proofs.JoinedTables.{IsUnionOf-none, joined_traded, one_union, table_has, union_itself}
+use Rattle.bars.specs.Texts.{IsWritable, bar_line}
+use Rattle.bars.proofs.LastBar.{equal_from, joined_to_last, next_bar, put_behind_last}
+use Rattle.bars.proofs.JoinedTables.{union_of_none, joined_traded, one_union, table_has, union_of_one}
 use Rattle.bars.proofs.SumsAreBounded.{average_fits, each_joins}
 use Rattle.bars.proofs.joined_lines.joined_lines.Goals.{then-has_key_of, else-has_key_of+in_ok-write_bar}
 use Rattle.bars.proofs.joined_lines.joined_lines.Goals as goal
@@ -33,8 +33,7 @@ join-current-requires c =
 
 pub write_bar-requires : goal.write_bar-requires
 write_bar-requires c =
-    let h = c.loop-i.invariant in
-    let can = can_write (map bar_at c.args.sorted.now) h.done c.loop-i.i c.loop-i.current c.requires.told h.union in
+    let can = can_write _ c.loop-i.invariant.done c.loop-i.i c.loop-i.current c.requires.told c.loop-i.invariant.union in
     record { start = can.0; volume = can.1; average = can.2 }
 
 pub loop-i-preserved : goal.loop-i-preserved
@@ -43,7 +42,8 @@ loop-i-preserved c =
     let h = c.loop-i.invariant in
     let bar = c.bar-bar.result in
     let table = h.done ++ c.loop-i.current ∷ [] in
-    let next = next_bar bar_at c.args.sorted.now c.loop-i.i c.index-sorted-i.result bar table c.requires.rise (each_joins (map bar_at c.args.sorted.now) c.requires.sums) (omega arith)
+    let next = next_bar bar_at c.args.sorted.now c.loop-i.i c.index-sorted-i.result bar table c.requires.rise
+    (each_joins (map bar_at c.args.sorted.now) c.requires.sums) (omega arith)
     (c.bar-bar.ensures ∙ ap bar_at c.index-sorted-i.is) h.union in
     elim c.if-has_key_of.branch [
       | then-has_key_of w ↦
@@ -59,8 +59,7 @@ loop-i-preserved c =
           let up = All-contains (λ z. is_gt (key_cmp z bar) ≡ false) table c.loop-i.current next.0.up_to (Contains-push h.done c.loop-i.current) in
           record {
             done = table;
-            text = ap (λ t. t.items) w.text-is ∙ w.in_ok-write_bar.ensures.ok ∙ ap₂ (λ l s. l ++ bar_line c.loop-i.current s) h.text h.name
-                ∙ sym (flat_map_push (λ b. bar_line b (name b.locate)) h.done c.loop-i.current);
+            text = grind (arith, flat_map_push (λ b. bar_line b (name b.locate)) h.done c.loop-i.current);
             union = rw w.current-is
                 (next.1 _ (put_behind_last h.done c.loop-i.current bar h.union.rise up (sym c.has_key_of.ensures ∙ w.if-has_key_of.false)));
             name = w.name-is ∙ w.next_name-name.ensures ∙ ap (λ b. name b.locate) (sym w.current-is);
@@ -74,16 +73,14 @@ loop-i-init c =
     record {
       done = [];
       text = c.in_ok-text.ensures.items;
-      union = (next_bar bar_at c.args.sorted.now 0 c.index-sorted-0.result bar [] c.requires.rise (each_joins (map bar_at c.args.sorted.now) c.requires.sums) (omega (arith, some))
-          (c.bar-current.ensures ∙ ap bar_at c.index-sorted-0.is) IsUnionOf-none).1 (bar ∷ []) (union_itself (bar ∷ []) (one_rises bar));
+      union = (next_bar bar_at c.args.sorted.now 0 c.index-sorted-0.result bar [] c.requires.rise
+          (each_joins (map bar_at c.args.sorted.now) c.requires.sums) (omega (arith, some))
+          (c.bar-current.ensures ∙ ap bar_at c.index-sorted-0.is) union_of_none).1 (bar ∷ []) (union_of_one bar);
       name = c.name-name.ensures;
     }
 
 pub returns-then-is_empty : goal.returns-then-is_empty
-returns-then-is_empty c = λ table union.
-    let none = nil_from_length c.args.sorted.now (eqb-true _ _ (sym c.is_empty.ensures ∙ c.if-is_empty.true)) in
-    c.new.ensures.items
-    ∙ ap (lines_text (λ locate. name_text locate (last_row c.args.names.now locate))) (one_union [] [] table IsUnionOf-none (rw none at union))
+returns-then-is_empty c = grind (arith, nil_from_length, eqb-true, one_union, union_of_none)
 
 pub returns : goal.returns
 returns c =
@@ -91,14 +88,10 @@ returns c =
     let seen = map bar_at c.args.sorted.now in
     let h = c.loop-i.invariant in
     let all = take_all c.loop-i.i seen (omega (arith, length-map c.args.sorted.now bar_at)) in
-    λ table union.
-    c.in_ok-write_bar-2.ensures.ok
-    ∙ ap₂ (λ l s. l ++ bar_line c.loop-i.current s) h.text h.name
-    ∙ sym (flat_map_push (λ b. bar_line b (name b.locate)) h.done c.loop-i.current)
-    ∙ ap (lines_text name) (one_union seen (h.done ++ c.loop-i.current ∷ []) table (rw all at h.union) union)
+    let last = flat_map_push (λ b. bar_line b (name b.locate)) h.done c.loop-i.current in
+    λ table union. let one = one_union seen (h.done ++ c.loop-i.current ∷ []) table (rw all at h.union) union in grind arith
 
 pub write_bar-requires-2 : goal.write_bar-requires-2
 write_bar-requires-2 c =
-    let h = c.loop-i.invariant in
-    let can = can_write (map bar_at c.args.sorted.now) h.done c.loop-i.i c.loop-i.current c.requires.told h.union in
+    let can = can_write _ c.loop-i.invariant.done c.loop-i.i c.loop-i.current c.requires.told c.loop-i.invariant.union in
     record { start = can.0; volume = can.1; average = can.2 }

@@ -5,12 +5,9 @@ use Rattle.row_types.specs.declared.trade.Sale.{Sale}
 use Rattle.time_and_sales.specs.Parted.{is_in_first}
 use Rattle.bars.specs.Bars.{IsTraded}
 use Rattle.bars.specs.Steps.{AreJoinedAlike, AreUnmade, bar_at, bar_of_one, bars_of_form}
-use Rattle.bars.proofs.BarsInRanges.{locate_of, locates_rise, sales_in_range}
+use Rattle.bars.proofs.BarsInRanges.{locate_of, sales_in_range}
 use Rattle.bars.proofs.JoinedTables.{alike_behind, traded_behind}
 use Rattle.bars.proofs.ranges.append_within.Goals as goal
-
-pub within-requires-in-Bars : goal.within-requires-in-Bars
-within-requires-in-Bars c = locates_rise c.items.result.now c.items.ensures.by_key
 
 pub returns-in-Sales-clause-alike : goal.returns-in-Sales-clause-alike
 returns-in-Sales-clause-alike c =

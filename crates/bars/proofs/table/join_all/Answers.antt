@@ -1,14 +1,10 @@
 use Rattle.std.proofs.Common.{Bor, refl}
 use Rattle.bars.specs.Bars.{Bar}
-use Rattle.bars.proofs.JoinedTables.{IsUnionOf-none}
 use Rattle.bars.proofs.LastBar.{next_bar, no_bar}
 use Rattle.bars.proofs.table.join_all.Goals as goal
 
 abbrev no_item : Bor Bar
 no_item = record { ref_ptr = (0, 0); now = no_bar }
-
-pub loop-bar-init : goal.loop-bar-init
-loop-bar-init g c = rw c.in_ok-bars.ensures.items IsUnionOf-none
 
 pub add-requires : goal.add-requires
 add-requires g c =

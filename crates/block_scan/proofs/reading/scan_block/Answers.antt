@@ -1,4 +1,4 @@
-use Rattle.std.proofs.Common.{ap, ◌∙◌, refl, subst}
+use Rattle.std.proofs.Common.{ap, ap₂, ◌∙◌, refl, subst}
 use Rattle.std.proofs.lemmas.Result.{err_from_is_err_and}
 use Rattle.block_scan.proofs.Chained.{tried_of}
 use Rattle.block_scan.proofs.reading.scan_block.Goals as goal
@@ -6,10 +6,15 @@ use Rattle.block_scan.proofs.reading.scan_block.Goals as goal
 pub returns-in_err-start : goal.returns-in_err-start
 returns-in_err-start g c =
     let p = err_from_is_err_and c.from_residual.result c.from_residual.ensures.1 in
-    rw (p.1, p.2) (_, subst (λ s. g.S.BlockSource.FailsAt s c.block.inside.from) (c.deref.ensures ∙ ap (λ v. v.source) c.block.view_is) c.in_err-start.ensures.failed)
+    rw (p.1, p.2) (
+      _,
+      subst (λ s. g.S.BlockSource.FailsAt s c.block.inside.from) (c.deref.ensures ∙ ap (λ v. v.asked.source) c.block.view_is)
+          c.in_err-start.ensures.failed,
+    )
 
 pub returns : goal.returns
 returns g c =
     let S = g.S.BlockSource in
-    tried_of S.GaveAt S.EndsAt S.FailsAt (c.deref.ensures ∙ ap (λ v. v.source) c.block.view_is) (ap (λ v. v.request) c.block.view_is) refl
+    tried_of S.GaveAt S.EndsAt S.FailsAt (ap₂ (λ source request. record { source = source; request = request }) c.deref.ensures refl
+    ∙ ap (λ v. v.asked) c.block.view_is) refl
     c.scan_piece.ensures.tried

@@ -35,13 +35,13 @@ loop-place-preserved g c =
     let few : count ≤ room = omega (arith, into_is, told.count) in
     let all = take (l.filled + count) (put_mid l.filled room l.buffer into) in
     let all_is : all ≡ take l.filled l.buffer ++ take count into =
-    filled_more l.buffer into l.filled room count into_is (omega (arith, below, i.room)) few i.filled_is in
+    filled_more l.buffer into l.filled room count told.count i.filled_is in
     let n : length all ≡ l.filled + count =
     omega (arith, ap length all_is, length-append (take l.filled l.buffer) (take count into), i.filled_is, length-take-le count into told.count) in
     let same : length (put_mid l.filled room l.buffer into) ≡ length l.buffer = search rules in
     let kept = ap (take (l.filled + count - c.in_ok-walked.walked)) c.copy_within.ensures.after
     ∙ moved (put_mid l.filled room l.buffer into) c.in_ok-walked.walked (l.filled + count) (omega (arith, c.in_ok-walked.ensures.within, n))
     (omega (arith, same, into_is, below, i.room, few)) in
-    fills_more g.S.BlockSource.GaveAt g.met.S.BlockSource.gave_more c.args.source.now c.args.request c.args.start c.args.target l.place l.filled count
-    c.in_ok-walked.walked l.buffer all c.copy_within.new.self (take count into) l.scan c.walk.new.scan c.requires.request i told.gave all_is n
-    (omega (arith, told.within)) c.in_ok-walked.ensures kept (c.copy_within.auto.self ∙ same)
+    fills_more g.S.BlockSource.GaveAt g.met.S.BlockSource.gave_more count c.requires.request i told.gave all_is n (omega (arith, told.within))
+    c.in_ok-walked.ensures
+    kept (c.copy_within.auto.self ∙ same)

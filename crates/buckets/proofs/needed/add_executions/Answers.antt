@@ -5,7 +5,8 @@ use Rattle.buckets.proofs.needed.add_executions.Goals as goal
 
 pub loop-part-preserved : goal.loop-part-preserved
 loop-part-preserved c executed ordered was =
-    subst (λ l. IsFilterOf l ordered c.add_executions_of.new.filter) (grind (arith, common_steps)) (c.add_executions_of.ensures _ _ (c.loop-part.invariant executed ordered was))
+    subst (λ l. IsFilterOf l ordered c.add_executions_of.new.filter) (grind (arith, common_steps))
+    (c.add_executions_of.ensures _ _ (c.loop-part.invariant executed ordered was))
 
 pub returns : goal.returns
 returns c executed ordered was =

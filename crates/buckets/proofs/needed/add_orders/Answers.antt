@@ -5,7 +5,8 @@ use Rattle.buckets.proofs.needed.add_orders.Goals as goal
 
 pub loop-part-preserved : goal.loop-part-preserved
 loop-part-preserved c executed ordered was =
-    subst (λ l. IsFilterOf executed l c.add_orders_of.new.filter) (grind (arith, common_steps)) (c.add_orders_of.ensures _ _ (c.loop-part.invariant executed ordered was))
+    subst (λ l. IsFilterOf executed l c.add_orders_of.new.filter) (grind (arith, common_steps))
+    (c.add_orders_of.ensures _ _ (c.loop-part.invariant executed ordered was))
 
 pub returns : goal.returns
 returns c executed ordered was =

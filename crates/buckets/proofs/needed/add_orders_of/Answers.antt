@@ -1,12 +1,18 @@
-use Rattle.std.proofs.Common.{subst, arith}
-use Rattle.std.proofs.lemmas.Grind.{common_steps}
+use Rattle.std.proofs.Common.{[], ◌∷◌, ◌++◌, append_assoc, append-nil, ap, map, subst, sym, ◌∙◌}
 use Rattle.order_filter.specs.Filters.{IsFilterOf}
+use Rattle.order_table.specs.Orders.{OrderRow}
 use Rattle.buckets.proofs.needed.add_orders_of.Goals as goal
 
-pub loop-index-preserved : goal.loop-index-preserved
-loop-index-preserved c executed ordered was =
-    subst (λ l. IsFilterOf executed l c.add_order.new.self) (grind (arith, common_steps)) (c.add_order.ensures _ _ (c.loop-index.invariant executed ordered was))
+pub loop-row-preserved : goal.loop-row-preserved
+loop-row-preserved c executed ordered was =
+    let (seen, is, all) = c.loop-row.invariant executed ordered was in (
+      seen ++ c.in-Some.row.order_no ∷ [],
+      c.add_order.ensures executed seen is,
+      append_assoc seen (c.in-Some.row.order_no ∷ []) _ ∙ ap (λ l. seen ++ map (λ (row : OrderRow). row.order_no) l) (sym c.in-Some.ensures.steps) ∙ all,
+    )
 
 pub returns : goal.returns
 returns c executed ordered was =
-    subst (λ l. IsFilterOf executed l c.loop-index.filter) (grind (arith, common_steps)) (c.loop-index.invariant executed ordered was)
+    let (seen, is, all) = c.loop-row.invariant executed ordered was in
+    let none = ap (λ l. seen ++ map (λ (row : OrderRow). row.order_no) l) c.in-None.ensures.steps.0 in
+    subst (λ l. IsFilterOf executed l c.loop-row.filter) (sym (append-nil seen) ∙ sym none ∙ all) is

@@ -1,9 +1,10 @@
-use Rattle.std.proofs.Common.{ℕ, List, ◌++◌, map, take}
+use Rattle.std.proofs.Common.{◌≡◌, ℕ, List, ◌++◌, map}
 use Rattle.order_filter.specs.Filters.{IsFilterOf}
 use Rattle.buckets.proofs.needed.add_orders_of.Given as goal
 
--- with the orders so far
-abbrev pub invariant-loop-index : goal.invariant-loop-index
-invariant-loop-index l =
+-- with those orders that make up all with those of the rows that are left
+abbrev pub invariant-loop-row : goal.invariant-loop-row
+invariant-loop-row l =
     (executed ordered : List ℕ) → IsFilterOf executed ordered l.initial.filter
-    → IsFilterOf executed (ordered ++ map (λ row. row.order_no) (take l.index l.orders)) l.filter
+    → (seen : List ℕ) × IsFilterOf executed seen l.filter
+    × (seen ++ map (λ row. row.order_no) l.row-iterator ≡ ordered ++ map (λ row. row.order_no) l.orders)

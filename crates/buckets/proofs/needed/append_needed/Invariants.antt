@@ -1,8 +1,9 @@
-use Rattle.std.proofs.Common.{◌≡◌, ◌++◌, filter, take}
+use Rattle.std.proofs.Common.{◌≡◌, ◌++◌, filter}
 use Rattle.order_filter.specs.Filters.{is_needed}
 use Rattle.buckets.proofs.needed.append_needed.Given as goal
 
--- with those of the rows so far
-abbrev pub invariant-loop-index : goal.invariant-loop-index
-invariant-loop-index l =
-    l.rows.items ≡ l.initial.rows.items ++ filter (λ row. is_needed l.found row.order_no) (take l.index l.orders)
+-- with those of the rows that are left, those of all
+abbrev pub invariant-loop-row : goal.invariant-loop-row
+invariant-loop-row l =
+    l.rows.items ++ filter (λ row. is_needed l.found row.order_no) l.row-iterator
+    ≡ l.initial.rows.items ++ filter (λ row. is_needed l.found row.order_no) l.orders

@@ -22,7 +22,8 @@ loop-morsel-preserved c =
       | in-Some+else-not-is_empty w ↦
           ap (λ parts. rows_of_parts parts.items) w.parts-is
           ∙ part_empty number i morsels d (omega (arith, c.loop-morsel-test.true)) c.loop-morsel.parts.items w.in-Some.part.now c.loop-morsel.invariant
-          (subst (λ (m : MorselRowsView). slice_get m.partitions number ≡ Some w.in-Some.part.now) this w.in-Some.ensures) (sym w.if-not-is_empty.false ∙ w.is_empty.ensures)
+          (subst (λ (m : MorselRowsView). slice_get m.partitions number ≡ Some w.in-Some.part.now) this w.in-Some.ensures)
+          (sym w.if-not-is_empty.false ∙ w.is_empty.ensures)
       | in_default w ↦
           ap (λ parts. rows_of_parts parts.items) w.parts-is
           ∙ part_missing number i morsels d (omega (arith, c.loop-morsel-test.true)) c.loop-morsel.parts.items c.loop-morsel.invariant

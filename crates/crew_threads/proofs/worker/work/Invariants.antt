@@ -1,18 +1,14 @@
-use Rattle.std.proofs.Common.{◌≡◌, ◌≤◌, ◌*◌, ◌-◌}
+use Rattle.std.proofs.Common.{◌*◌, ◌-◌}
 use Rattle.dispatcher.specs.Claims.{above}
-use Rattle.dispatcher.specs.Seats.{tasks_of, claims, marked_tasks, IsSameSeat, MayClaim}
-use Rattle.crew_threads.specs.Workers.{SawAllGiven, TookPieces}
-use Rattle.crew_threads.proofs.Workers.{Turns}
+use Rattle.dispatcher.specs.Seats.{tasks_of, claims, marked_tasks}
+use Rattle.crew_threads.specs.Workers.{TookPieces}
+use Rattle.crew_threads.proofs.Workers.{IsWorking}
 use Rattle.crew_threads.proofs.worker.work.Given as goal
 
 abbrev pub invariant-loop-claim : goal.invariant-loop-claim
 invariant-loop-claim g l = record {
-  same : IsSameSeat l.initial.seat l.seat;
-  more : MayClaim (tasks_of l.dispatcher) l.seat;
-  refused : Turns (tasks_of l.dispatcher) l.refused l.initial.seat l.seat;
-  counted : l.refused ≤ above (claims l.seat);
+  working : IsWorking (tasks_of l.dispatcher) l.refused l.initial.seat l.seat;
   sent : g.P.Port.Tells → TookPieces l.inputs (g.P.Port.taken l.initial.port) (g.P.Port.taken l.port) (marked_tasks l.seat);
-  seen : l.refused ≡ 0 → SawAllGiven (tasks_of l.dispatcher) l.seat;
 }
 
 abbrev pub decreases-loop-claim : goal.decreases-loop-claim

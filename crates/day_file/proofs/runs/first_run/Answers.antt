@@ -1,4 +1,4 @@
-use Rattle.std.proofs.Common.{◌+◌, length, sym, ◌∙◌, arith}
+use Rattle.std.proofs.Common.{sym, ◌∙◌, arith}
 use Rattle.std.proofs.lemmas.List.{take_rest}
 use Rattle.std.proofs.lemmas.Result.{err_from_is_err_and}
 use Rattle.day_file.specs.Placed.{placed_body}
@@ -11,10 +11,7 @@ loop-frame-init c =
     Reached-start c.args.target c.args.whole c.args.bytes.now _ (omega (arith, c.requires.some)) c.requires.target c.requires.front of.whole of.truncated of.end
 
 pub overflow_add-end-in-Some : goal.overflow_add-end-in-Some
-overflow_add-end-in-Some c =
-    let steps = c.in-Some.ensures.steps in
-    let next = Reached-more {new = c.next.new.self} (c.loop-frame.end + (3 + length c.in-Some.frame.body.now)) (placed_body c.in-Some.frame) c.loop-frame.invariant steps.0 steps.1 (omega arith) in
-    omega (arith, next.within, c.requires.limit)
+overflow_add-end-in-Some c = grind (arith, Reached-more, c.in-Some.ensures.steps, c.loop-frame.invariant, c.requires.limit)
 
 pub returns-then-end-target-clause-run : goal.returns-then-end-target-clause-run
 returns-then-end-target-clause-run c =

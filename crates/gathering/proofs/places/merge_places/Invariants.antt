@@ -1,5 +1,5 @@
-use Rattle.std.proofs.Common.{◌≡◌, ℕ, ◌<◌, ◌≤◌, nat_lt, length, get_or, None}
-use Rattle.gathering.specs.Kept.{either, unless}
+use Rattle.std.proofs.Common.{◌≡◌, ℕ, ◌<◌, ◌≤◌, nat_lt, if◌then◌else◌, length, get_or, None}
+use Rattle.std.specs.Option.{option_or}
 use Rattle.gathering.proofs.places.merge_places.Given as goal
 
 -- the places below the length of the others are as they were, and those from there on are merged
@@ -10,7 +10,7 @@ invariant-loop-other g l = record {
   others : (k : ℕ) → k < length l.others.items → get_or l.others.items k None ≡ get_or l.fn.others.items k None;
   as_before : (k : ℕ) → k < length l.others.items → get_or l.own.items k None ≡ get_or l.fn.own.items k None;
   merged : (k : ℕ) → length l.others.items ≤ k → get_or l.own.items k None
-      ≡ unless (nat_lt k l.from) (either (get_or l.fn.own.items k None) (get_or l.fn.others.items k None));
+      ≡ (if nat_lt k l.from then None else option_or (get_or l.fn.own.items k None) (get_or l.fn.others.items k None));
 }
 
 abbrev pub decreases-loop-other : goal.decreases-loop-other

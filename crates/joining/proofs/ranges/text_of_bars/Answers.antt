@@ -14,8 +14,8 @@ text_of_tables-requires-clause-sums g c lifetimes within =
 
 pub text_of_tables-requires-clause-starts : goal.text_of_tables-requires-clause-starts
 text_of_tables-requires-clause-starts g c lifetimes within =
-    rw c.deref.ensures.value (tables_starts c.args.width c.requires.products.0 (map arc_value c.args.products.now) _ c.requires.products.1
-    c.in_ok-tables.ensures.tables c.in_ok-tables.ensures.traded)
+    rw c.deref.ensures.value
+    (tables_starts c.args.width c.requires.products.0 (map arc_value c.args.products.now) _ c.requires.products.1 c.in_ok-tables.ensures.tables)
 
 pub returns : goal.returns
 returns g c =

@@ -1,7 +1,9 @@
-use Rattle.std.proofs.Common.{◌≡◌, take}
+use Rattle.std.proofs.Common.{◌≡◌, ◌++◌}
 use Rattle.lists.specs.Least.{part}
 use Rattle.morsel_rows.proofs.classes.orders_of_class.Given as goal
 
--- those of the rows so far
-abbrev pub invariant-loop-index : goal.invariant-loop-index
-invariant-loop-index g l = l.class ≡ part l.modulus.number (λ row. row.order_no) (take l.index l.orders) l.remainder
+-- with those of the rows that are left, those of all
+abbrev pub invariant-loop-row : goal.invariant-loop-row
+invariant-loop-row g l =
+    l.class ++ part l.modulus.number (λ row. row.order_no) l.row-iterator l.remainder
+    ≡ part l.modulus.number (λ row. row.order_no) l.orders l.remainder

@@ -6,4 +6,5 @@ use Rattle.order_table.proofs.sorting.rises.Goals as goal
 
 pub returns : goal.returns
 returns c =
-    rising_from_answer (λ (row : OrderRow). row.order_no) _ _ (c.is_sorted_by.ensures.cases (λ (x y : OrderRow). ltb x.order_no y.order_no) (answers_always _ _ _ (λ f a r h k. search rules)))
+    rising_from_answer (λ (row : OrderRow). row.order_no) _ _
+    (c.is_sorted_by.ensures.cases (λ (x y : OrderRow). ltb x.order_no y.order_no) (answers_always _ _ _ (λ f a r h k. search rules)))

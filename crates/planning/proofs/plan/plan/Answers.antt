@@ -1,4 +1,4 @@
-use Rattle.std.proofs.Common.{◌∙◌, rules}
+use Rattle.std.proofs.Common.{◌∙◌}
 use Rattle.time_and_sales.specs.Names.{name_text}
 use Rattle.meaning.specs.Selected.{locates_of}
 use Rattle.planning.proofs.plan.plan.Goals as goal
@@ -10,12 +10,3 @@ returns-clause-selection c =
     let span = c.in_ok-selection.ensures.span in
     let kinds = c.in_ok-selection.ensures.kinds in
     λ i. record { locates = locates i; span = span i; kinds = kinds i }
-
-pub returns-clause-rows : goal.returns-clause-rows
-returns-clause-rows c = search rules
-
-pub returns-clause-breaks : goal.returns-clause-breaks
-returns-clause-breaks c = search rules
-
-pub returns-clause-what : goal.returns-clause-what
-returns-clause-what c = search rules

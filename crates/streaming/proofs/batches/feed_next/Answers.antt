@@ -1,4 +1,4 @@
-use Rattle.std.proofs.Common.{◌++◌, length, subst, arith, length-take}
+use Rattle.std.proofs.Common.{◌++◌, subst, arith, length-take}
 use Rattle.std.proofs.lemmas.Result.{err_from_is_err_and}
 use Rattle.std.proofs.lemmas.List.{length-take-le, take-append-le}
 use Rattle.day_file.specs.Feeding.{HasFed}

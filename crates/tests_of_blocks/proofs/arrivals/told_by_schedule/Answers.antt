@@ -12,4 +12,4 @@ join-requires g c =
     let answer = MatchResult-at_ok (λ attempts. (first_left 2 (length blocks) c.args.events.now ≡ None) × AreOf blocks attempts) _ c.in-Ok-2.attempts
     c.in-Ok-2.is c.in_ok-attempts.ensures.answer in
     let are = subst (λ r. OnOk r (AreBlocks blocks)) c.in-Ok-2.is c.in_ok-attempts.ensures.admissible in
-    (are.source, are.request, attempts_of blocks c.in-Ok-2.attempts are answer.1)
+    (are.asked, attempts_of blocks c.in-Ok-2.attempts are answer.1)

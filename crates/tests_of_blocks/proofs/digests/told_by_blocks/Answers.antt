@@ -4,4 +4,4 @@ use Rattle.tests_of_blocks.proofs.digests.told_by_blocks.Goals as goal
 pub join-requires : goal.join-requires
 join-requires g c =
     let are = c.in_ok-attempts.ensures.admissible in
-    (are.source, are.request, attempts_of _ c.in_ok-attempts.attempts are c.in_ok-attempts.ensures.total)
+    (are.asked, attempts_of _ c.in_ok-attempts.attempts are c.in_ok-attempts.ensures.total)

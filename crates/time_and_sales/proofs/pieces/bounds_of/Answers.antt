@@ -1,17 +1,8 @@
-use Rattle.std.proofs.Common.{◌++◌, ◌∷◌, [], ap, refl, rules, sym, ◌∙◌, arith, append_assoc}
+use Rattle.std.proofs.Common.{◌++◌, ap, refl, sym, ◌∙◌, arith}
 use Rattle.std.proofs.Math.Numerals.{add-one}
-use Rattle.std.proofs.lemmas.List.{append-nil, at_drop_all, at_drop_more}
+use Rattle.std.proofs.lemmas.List.{append-nil, at_drop_all}
 use Rattle.time_and_sales.proofs.MadeTexts.{bounds_rise, greatest_so_far, length-greatest_so_far, next_bound}
 use Rattle.time_and_sales.proofs.pieces.bounds_of.Goals as goal
-
-pub loop-number-init : goal.loop-number-init
-loop-number-init c = ap (λ l. l ++ greatest_so_far 0 c.args.numbers.now) (c.in_ok-push.ensures.items ∙ ap (λ l. l ++ 0 ∷ []) c.new-bounds.ensures.items)
-
-pub loop-number-preserved : goal.loop-number-preserved
-loop-number-preserved c =
-    let old = c.loop-number.bounds.items in
-    let next = at_drop_more (greatest_so_far c.loop-number.bound) c.args.numbers.now c.loop-number.number-index 0 c.loop-number-test.true in
-    rw (c.in_ok-push-2.ensures.items, append_assoc old) (ap (λ l. old ++ l) (sym (next ∙ search rules)) ∙ c.loop-number.invariant)
 
 pub returns : goal.returns
 returns c =

@@ -1,9 +1,9 @@
-use Rattle.std.proofs.Common.{ℕ, List, ◌<◌, ◌∙◌, ap}
+use Rattle.std.proofs.Common.{arith, ℕ, List, ◌<◌}
 use Rattle.std.proofs.lemmas.Result.{IfOk-weaker}
 use Rattle.lists.specs.declared.limits.TheConstants.{TIME_LIMIT}
 use Rattle.time_and_sales.specs.Names.{last_row, name_text}
 use Rattle.time_and_sales.specs.Parted.{is_in_first}
-use Rattle.time_and_sales.specs.Texts.{Sale, lines_text}
+use Rattle.time_and_sales.specs.Texts.{Sale}
 use Rattle.time_and_sales.proofs.SalesInRanges.{listed, range_has, range_is, seen}
 use Rattle.time_and_sales.proofs.SortedByPlace.{place_of}
 use Rattle.time_and_sales.proofs.ranges.range_lines.Goals as goal
@@ -19,7 +19,4 @@ returns c =
     let p = is_in_first place_of c.args.bounds.now in
     let name : ℕ → List ℕ = λ locate. name_text locate (last_row c.args.names.now locate) in
     IfOk-weaker c.lines.result _ _ (λ text e all up perm.
-    e ∙ ap (lines_text name)
-    (ap seen c.as_slice.ensures.value
-    ∙ range_is p (listed c.args.listings.now) all (seen c.in_ok-sorted.sorted.items) up perm c.in_ok-sorted.ensures.rise c.in_ok-sorted.ensures.permutation))
-    c.lines.ensures
+    let is = range_is p (listed c.args.listings.now) all (seen c.in_ok-sorted.sorted.items) up perm c.in_ok-sorted.ensures.rise in grind arith) c.lines.ensures

@@ -1,24 +1,11 @@
-use Rattle.std.proofs.Common.{rules, ◌∙◌, filter, List, IsPermutation, ap, ap₂, sym, subst, ◌++◌, Bor, take_all, flat_map}
-use Rattle.std.proofs.lemmas.List.Elements.{filter-append}
+use Rattle.std.proofs.Common.{rules, ◌∙◌, filter, List, IsPermutation, ap, sym, subst, Bor, take_all, flat_map}
 use Rattle.std.proofs.lemmas.List.Folds.{flat_map-map}
 use Rattle.std.proofs.lemmas.List.Sorted.{IsNonDecreasingBy-from_sort_by_key, IsPermutation-map}
 use Rattle.row_types.specs.declared.trade.Sale.{Sale}
 use Rattle.time_and_sales.specs.Parted.{is_in_first}
-use Rattle.time_and_sales.proofs.RangesJoined.{flat_map_next}
 use Rattle.time_and_sales.proofs.SalesInRanges.{seen, seen_rise}
-use Rattle.time_and_sales.proofs.SortedByPlace.{place_of, places_rise}
+use Rattle.time_and_sales.proofs.SortedByPlace.{place_of}
 use Rattle.time_and_sales.proofs.ranges.range_of.Goals as goal
-
-pub within-requires : goal.within-requires
-within-requires c = places_rise _ c.items.ensures.by_place
-
-pub loop-listing-preserved : goal.loop-listing-preserved
-loop-listing-preserved c =
-    let p = is_in_first place_of c.args.bounds.now in
-    c.in_ok-append.ensures
-    ∙ ap₂ ◌++◌ c.loop-listing.invariant (c.within.ensures ∙ ap (filter p) (c.items.ensures.value ∙ ap (λ (l : Bor (List Sale)). l.now) c.listing-item.is))
-    ∙ sym (ap (filter p) (flat_map_next (λ (l : Bor (List Sale)). l.now) c.args.listings.now c.loop-listing.listing-index _ c.loop-listing-test.true)
-    ∙ filter-append p _ _)
 
 pub returns-clause-permutation : goal.returns-clause-permutation
 returns-clause-permutation c =

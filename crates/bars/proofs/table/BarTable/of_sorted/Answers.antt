@@ -4,13 +4,9 @@ use Rattle.std.proofs.lemmas.List.Elements.{All-map}
 use Rattle.bars.specs.Bars.{IsTraded}
 use Rattle.bars.specs.Steps.{bar_of_one}
 use Rattle.bars.proofs.BarsOfSales.{bars_from_ones, bars_traded}
-use Rattle.bars.proofs.JoinedTables.{IsUnionOf-none}
 use Rattle.bars.proofs.LastBar.{next_bar}
 use Rattle.bars.proofs.SumsAreBounded.{each_joins, sums_of_few}
 use Rattle.bars.proofs.table.BarTable.of_sorted.Goals as goal
-
-pub loop-sale-init : goal.loop-sale-init
-loop-sale-init g c = rw c.in_ok-bars.ensures.items IsUnionOf-none
 
 pub add-requires : goal.add-requires
 add-requires g c =

@@ -1,22 +1,26 @@
-use Rattle.std.proofs.Common.{◌≡◌, List, [], ◌∷◌, ◌++◌, All, length, map, ap, sym, subst, ◌∙◌, arith, length-append, add-one}
+use Rattle.std.proofs.Common.{◌≡◌, ℕ, suc, ◌+◌, ◌-◌, add-one, arith, rules}
+use Rattle.std.proofs.lemmas.Grind.{common_steps, elements}
 use Rattle.std.proofs.lemmas.List.{map_push}
-use Rattle.std.proofs.lemmas.List.Elements.{All-push}
-use Rattle.dispatcher.specs.declared.seat.Seat.{Seat}
-use Rattle.dispatcher.specs.Seats.{number, IsSeatOf, IsUnused}
-use Rattle.dispatcher.proofs.dispatcher.Dispatcher.deal.Goals as goal
 use Rattle.lists.proofs.Lists.{range_more}
-use Rattle.std.specs.List.{range_with_len}
+use Rattle.dispatcher.proofs.dispatcher.Dispatcher.deal.Goals as goal
+use Rattle.dispatcher.proofs.RuleIsKept.{splits}
 
-pub loop-index-preserved : goal.loop-index-preserved
-loop-index-preserved g c = let list : List Seat = c.loop-index.list.items in let seat : Seat = c.next_seat-seat.result in
-    let known = c.next_seat-seat.ensures in let inv = c.loop-index.invariant in
-    let pushed : c.push.new.self.items ≡ list ++ seat ∷ [] = c.in_ok-push.ensures.items in
-    let longer : length c.push.new.self.items ≡ length (list ++ seat ∷ []) = ap length pushed in let one_more = length-append list (seat ∷ []) in record {
-      rest_own = known.rest_own;
-      rest = known.rest;
-      count = omega arith;
-      numbers = ap (map number) pushed ∙ map_push number list seat ∙ (λ i. inv.numbers i ++ known.number i ∷ [])
-          ∙ sym (ap (range_with_len 0) (add-one c.loop-index.index) ∙ range_more 0 c.loop-index.index _ (omega arith));
-      own = subst (All (IsSeatOf c.args.self.now)) (sym pushed) (All-push (IsSeatOf c.args.self.now) list seat inv.own known.own);
-      unused = subst (All IsUnused) (sym pushed) (All-push IsUnused list seat inv.unused known.unused);
-    }
+pub split_seat-inner-requires : goal.split_seat-inner-requires
+split_seat-inner-requires g c = (search rules, omega (arith, c.args.self.now.shape), rw c.loop.invariant.rest (splits _ _ _))
+
+pub invariant_of-push : goal.invariant_of-push
+invariant_of-push g c = let n : ℕ = c.args.self.now.seats in let k : ℕ = c.loop.counter in let less : n - k ≡ suc (n - (k + 1)) = omega arith in record {
+  no_slot = rw c.split_seat-inner.ensures.4;
+  one_number = rw (c.split_seat-inner.ensures.4, c.loop.invariant.rest, less);
+}
+
+pub loop-preserved : goal.loop-preserved
+loop-preserved g c = let n : ℕ = c.args.self.now.seats in let k : ℕ = c.loop.counter in let less : n - k ≡ suc (n - (k + 1)) = omega arith in record {
+  rest_own = search rules;
+  rest = rw (c.split_seat-inner.ensures.2, c.loop.invariant.rest, less);
+  count = grind (arith, common_steps);
+  numbers = rw (c.in_ok-push.ensures.items, map_push, c.loop.invariant.numbers, add-one, range_more 0 k k (omega arith))
+      (rw (c.split_seat-inner.ensures.4, c.loop.invariant.rest, less));
+  own = grind (arith, elements);
+  unused = grind (arith, elements);
+}

@@ -4,12 +4,12 @@ use Rattle.dispatcher.specs.Rule.{view_from}
 use Rattle.dispatcher.specs.Seats.{identity, number, IsSeatOf, IsUnused}
 use Rattle.dispatcher.proofs.dispatcher.Dispatcher.deal.Given as goal
 
-abbrev pub invariant-loop-index : goal.invariant-loop-index
-invariant-loop-index g l = record {
+abbrev pub invariant-loop : goal.invariant-loop
+invariant-loop g l = record {
   rest_own : l.rest.table_id ≡ identity l.self;
-  rest : l.rest.me ≡ (view_from l.index l.self.seats, []);
-  count : length l.list.items ≡ l.index;
-  numbers : map number l.list.items ≡ range_with_len 0 l.index;
+  rest : l.rest.me ≡ (view_from l.counter l.self.seats, []);
+  count : length l.list.items ≡ l.counter;
+  numbers : map number l.list.items ≡ range_with_len 0 l.counter;
   own : All (IsSeatOf l.self) l.list.items;
   unused : All IsUnused l.list.items;
 }

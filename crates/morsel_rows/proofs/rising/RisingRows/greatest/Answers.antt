@@ -9,5 +9,6 @@ pub returns-clause-greatest : goal.returns-clause-greatest
 returns-clause-greatest c =
     let inside = c.self.inside in
     let none : Lean = record { reference = 0; price = 0; offset = 0 } in
-    rw c.from.ensures (subst (All (λ (row : OrderRow). row.order_no ≤ inside.origin.order_no + (get_or inside.rows.now (length inside.rows.now - 1) none).reference)) c.self.view_is
+    rw c.from.ensures (subst (All (λ (row : OrderRow). row.order_no ≤
+    inside.origin.order_no + (get_or inside.rows.now (length inside.rows.now - 1) none).reference)) c.self.view_is
     (greatest_wide inside.origin inside.rows.now c.self.invariant.2 none c.self.invariant.1))

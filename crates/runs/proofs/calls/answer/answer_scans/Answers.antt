@@ -1,24 +1,18 @@
 use Rattle.scanning.specs.Scans.{inputs_of}
-use Rattle.joining.proofs.ProductsJoined.{on_ok}
 use Rattle.runs.proofs.Answered.{given_of}
 use Rattle.runs.proofs.BlocksScanned.{one_cut}
 use Rattle.runs.proofs.calls.answer.answer_scans.Goals as goal
 
 pub run_second-requires-clause-total : goal.run_second-requires-clause-total
 run_second-requires-clause-total g c lifetimes within =
-    let runs = c.requires.total.0 in
-    let of = c.requires.total.1 in
+    let (runs, of) = c.requires.total in
     (inputs_of c.args.query.now.as_of c.args.parts runs, one_cut c.args.query.now.as_of c.args.parts of.cut c.requires.parts.0, of.is)
 
 pub answer_of_outcome-requires-clause-outcome : goal.answer_of_outcome-requires-clause-outcome
 answer_of_outcome-requires-clause-outcome g c lifetimes within =
-    let runs = c.requires.total.0 in
-    let of = c.requires.total.1 in
-    (runs, given_of runs c.args.query.now c.args.parts _ c.requires.parts.0 of.cut of.is c.dividing-link.ensures c.in_ok-outcome.ensures.outcome)
+    let (runs, of) = c.requires.total in
+    (runs, given_of c.requires.parts.0 of.cut of.is c.dividing-link.ensures c.in_ok-outcome.ensures.outcome)
 
 pub returns : goal.returns
-returns g c =
-    on_ok c.answer_of_outcome.result _ _
-    (λ answer is runs of.
-    is runs (given_of runs c.args.query.now c.args.parts _ c.requires.parts.0 of.cut of.is c.dividing-link.ensures c.in_ok-outcome.ensures.outcome))
-    c.answer_of_outcome.ensures
+returns g c = λ runs of.
+    c.answer_of_outcome.ensures runs (given_of c.requires.parts.0 of.cut of.is c.dividing-link.ensures c.in_ok-outcome.ensures.outcome)

@@ -7,10 +7,7 @@ use Rattle.runs.proofs.calls.run_blocks.run_blocks.Goals as goal
 
 pub returns-clause-ran : goal.returns-clause-ran
 returns-clause-ran g c =
-    let limit = c.args.settings.limit in
-    let reading = of_blocks g.S.BlockSource.GaveAt g.S.BlockSource.EndsAt g.S.BlockSource.FailsAt limit in
-    let told = told_by c.in_ok-answer.answer in
-    ran (reading c.args.source) g.K.Sink.Took g.K.Sink.HasFlushed c.args.query_text.now limit c.args.sink.now c.hand_over.new.sink c.in_ok-query.query told
-    c.in_ok-query.ensures.query
-    (subst (λ s. IsAnswered (reading s) c.in_ok-query.query told) c.in-Ok.ensures.ok c.in_ok-answer.ensures.answers) c.hand_over.result
-    c.hand_over.ensures.handed
+    let S = g.S.BlockSource in
+    ran _ c.in_ok-query.ensures.query
+    (subst (λ s. IsAnswered (of_blocks S.GaveAt S.EndsAt S.FailsAt c.args.settings.limit s) c.in_ok-query.query (told_by c.in_ok-answer.answer))
+    c.in-Ok.ensures.ok c.in_ok-answer.ensures.answers) _ _ _ _ _ c.hand_over.result c.hand_over.ensures.handed

@@ -1,7 +1,6 @@
-use Rattle.std.proofs.Common.{sym, ap, ◌∙◌, subst, arith, rules}
+use Rattle.std.proofs.Common.{refl, ap, ◌∙◌, arith, rules}
 use Rattle.std.proofs.lemmas.Result.{err_from_is_err_and}
 use Rattle.std.proofs.lemmas.Bool.{ltb-true}
-use Rattle.day_file.specs.Feeding.{HasFed}
 use Rattle.day_file.proofs.Fed.{fed_length_is}
 use Rattle.streaming.specs.Batches.{ReaderView, read_length}
 use Rattle.streaming.proofs.JoinedBatches.{grown, read_length_is, read_on, reading_on}
@@ -28,24 +27,28 @@ pub invariant_of-self-2 : goal.invariant_of-self-2
 invariant_of-self-2 g c =
     let inv = c.self.invariant.0 in
     let (taken, long, gave, fed) = c.in_ok-taken.ensures.fed in
-    let has = fed inv.fed inv.has in
-    let limit = ap (λ (v : ReaderView). v.limit) c.self.view_is in (
+    let has = fed inv.fed inv.has in (
       reading_on inv has (c.in_ok-taken.ensures.target ∙ inv.same)
-          (omega (arith, grown taken inv.has has, long, c.in_ok-taken.ensures.within, c.length.ensures.same, c.length.ensures.within, ap read_length c.self.view_is)),
+          (omega (
+            arith,
+            grown taken inv.has has,
+            long,
+            c.in_ok-taken.ensures.within,
+            c.length.ensures.same,
+            c.length.ensures.within,
+            ap read_length c.self.view_is,
+          )),
       search rules,
     )
 
 pub returns-clause-read : goal.returns-clause-read
 returns-clause-read g c =
     let (taken, long, gave, fed) = c.in_ok-taken.ensures.fed in
-    let first = ap (λ (v : ReaderView). v.first) c.self.view_is in
-    let start = ap (λ (v : ReaderView). v.start) c.self.view_is in record {
-      read = λ before runs to.
-          read_on g.met.S.Source.gave_more to gave (ap (λ (v : ReaderView). v.target) c.self.view_is) first start
-          (fed to.has.fed (subst (λ (v : ReaderView). HasFed v.cutter to.has.fed) (sym c.self.view_is) to.has.has));
-      number = first;
-      start = start;
-    }
+    rw (← c.self.view_is) (record {
+      read = λ before runs to. read_on g.met.S.Source.gave_more to gave (fed to.has.fed to.has.has);
+      number = refl;
+      start = refl;
+    })
 
 pub returns-clause-longer : goal.returns-clause-longer
 returns-clause-longer g c = λ some.
@@ -57,7 +60,6 @@ pub returns-clause-within : goal.returns-clause-within
 returns-clause-within g c =
     let inv = c.self.invariant.0 in
     let (taken, long, gave, fed) = c.in_ok-taken.ensures.fed in
-    let limit = ap (λ (v : ReaderView). v.limit) c.self.view_is in
     omega (
       arith,
       grown taken inv.has (fed inv.fed inv.has),

@@ -13,5 +13,5 @@ invariant_of-result c = (
     limit_is = c.requires.limit;
     few = omega arith;
   },
-  omega (arith, c.in_ok-zeros.ensures),
+  omega (arith, c.in_ok-vec.ensures),
 )

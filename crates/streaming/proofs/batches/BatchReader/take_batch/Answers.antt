@@ -1,5 +1,4 @@
-use Rattle.std.proofs.Common.{◌+◌, All, refl, sym, ap, ◌∙◌, subst, arith, length}
-use Rattle.day_file.specs.Feeding.{IsFullRun}
+use Rattle.std.proofs.Common.{sym, ap, ◌∙◌, subst, arith, length}
 use Rattle.streaming.specs.Batches.{HasRead}
 use Rattle.streaming.proofs.JoinedBatches.{batch_taken}
 use Rattle.streaming.proofs.batches.BatchReader.take_batch.Goals as goal
@@ -30,6 +29,5 @@ invariant_of-self-2 c =
 pub returns-clause-taken : goal.returns-clause-taken
 returns-clause-taken c = λ runs bytes has.
     let s = c.self.inside in
-    batch_taken c.in_ok-cut.cut refl (ap (λ n. s.first + n) c.count-2.ensures.count) (ap (λ n. s.start + n) c.length-2.ensures)
-    (subst (λ n. All (IsFullRun n) c.in_ok-cut.cut) c.self.invariant.0.same c.in_ok-cut.ensures.full) c.in_ok-cut.ensures.fed
-    (subst (λ v. HasRead v runs bytes) (sym c.self.view_is) has)
+    rw (c.count-2.ensures.count, c.length-2.ensures) (batch_taken c.in_ok-cut.cut
+    (rw c.self.invariant.0.same at c.in_ok-cut.ensures.full) c.in_ok-cut.ensures.fed (subst (λ v. HasRead v runs bytes) (sym c.self.view_is) has))

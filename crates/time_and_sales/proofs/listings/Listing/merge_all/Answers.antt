@@ -2,8 +2,7 @@ use Rattle.std.proofs.Common.{◌∷◌, sym, ap, ◌∙◌}
 use Rattle.std.specs.Vec.Iter.{into_iter_items}
 use Rattle.std.proofs.lemmas.List.Elements.{All-push}
 use Rattle.row_types.specs.SalesByPlace.{IsByPlace}
-use Rattle.time_and_sales.proofs.MadeTexts.{moved, none_left}
-use Rattle.time_and_sales.proofs.MergedListings.{joined_parts}
+use Rattle.time_and_sales.proofs.MadeTexts.{moved}
 use Rattle.time_and_sales.proofs.listings.Listing.merge_all.Goals as goal
 
 pub loop-listing-preserved : goal.loop-listing-preserved
@@ -13,13 +12,3 @@ loop-listing-preserved g c = record {
   by_place = rw c.in_ok-push.ensures.items
       (All-push (λ part. IsByPlace part.items) c.loop-listing.parts.items c.into_vec.result c.loop-listing.invariant.by_place c.into_vec.ensures.by_place);
 }
-
-pub merged-requires-clause-apart : goal.merged-requires-clause-apart
-merged-requires-clause-apart g c =
-    rw (← joined_parts c.loop-listing.parts.items _ _ c.loop-listing.invariant.told (none_left c.loop-listing.listing-iterator c.in-None.ensures.steps.0))
-    c.requires
-
-pub returns-clause-permutation : goal.returns-clause-permutation
-returns-clause-permutation g c =
-    rw (joined_parts c.loop-listing.parts.items _ _ c.loop-listing.invariant.told (none_left c.loop-listing.listing-iterator c.in-None.ensures.steps.0))
-    c.in_ok-merged.ensures.0
