@@ -1,7 +1,7 @@
 -- What the definitions of an answer say of one small day. Each line is decided by computing it.
 use Rattle.std.proofs.Common.{◌≡◌, ℕ, List, [], ◌∷◌, Some, None, refl, true}
 use Rattle.bars.specs.Bars.{bar_of, start_of}
-use Rattle.itch_messages.specs.HeaderFields.{HeaderFields}
+use Rattle.itch_messages.specs.Layout.{HeaderFields}
 use Rattle.itch_messages.specs.declared.message.Message.TheVariants.{Add, Executed, Broken}
 use Rattle.order_table.specs.Orders.{first_repeated}
 use Rattle.probe.specs.Pricing.{Sale, first_unknown}

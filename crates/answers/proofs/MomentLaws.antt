@@ -5,9 +5,8 @@ use Rattle.std.proofs.lemmas.Option.{MatchOption-at_none}
 use Rattle.day_file.specs.Frames.{PlacedBody, StandsFor}
 use Rattle.day_file.proofs.Laws.{frames_are_one, not_both}
 use Rattle.meaning.specs.Meaning.{Meaning}
-use Rattle.answers.specs.Answers.{DayFault, FaultOr, IsAnswer, IsAnswerToMessages, wrong_length_at}
+use Rattle.answers.specs.Answers.{DayFault, FaultOr, HasCounted, IsAnswer, IsAnswerToMessages, NoneIsPast, wrong_length_at}
 use Rattle.day_rows.specs.Messages.{Placed, counted, first_wrong, messages_of}
-use Rattle.answers.specs.Moments.{HasCounted, NoneIsPast, without_moment}
 use Rattle.answers.proofs.AnswerOfSteps.{messages_answer}
 use Rattle.day_rows.proofs.CountedMessages.{counted-all, counted-none}
 
@@ -20,7 +19,7 @@ at_moment one other file query answer same (inr (frames, stands, is)) =
     inr (frames, stands, subst (λ ms. FaultOr (first_wrong frames) wrong_length_at answer (IsAnswerToMessages ms query answer)) (same frames stands) is)
 
 pub past_all : (file : List ℕ) (query : Meaning) (answer : Result (List ℕ) DayFault) → NoneIsPast query.as_of file
-    → IsAnswer file query answer ↔ IsAnswer file (without_moment query) answer
+    → IsAnswer file query answer ↔ IsAnswer file (record query { as_of = None }) answer
 past_all file query answer none = (
   at_moment query.as_of None file query answer (λ frames stands. grind (arith, none frames, counted-all, counted-none)),
   at_moment None query.as_of file query answer (λ frames stands. grind (arith, none frames, counted-all, counted-none)),

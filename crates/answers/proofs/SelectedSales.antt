@@ -10,7 +10,7 @@ use Rattle.lists.specs.declared.limits.TheConstants.{TIME_LIMIT}
 use Rattle.row_types.specs.declared.order.OrderRow.{OrderRow}
 use Rattle.probe.specs.Pricing.{Execution, Sale, priced}
 use Rattle.probe.specs.Selection.{admits}
-use Rattle.probe.specs.Trades.{kept}
+use Rattle.probe.specs.Selection.{kept}
 use Rattle.probe.specs.declared.selection.Selection.{Selection}
 use Rattle.probe.proofs.KeptSales.{kept_have_shares, length-kept, length-priced}
 use Rattle.row_types.specs.SalesByPlace.{place_cmp}

@@ -1,13 +1,12 @@
 -- The answer to a query over a day file: the file's one fault, or the text made of all its messages that count.
 -- To be believed.
--- The language wants each name before it is used, so what the others lead to, `IsAnswer`, stands near the end.
-use Rattle.std.specs.Prelude.{◌≡◌, ℕ, Bool, ◌&&◌, List, Option, Result, Ok, Err, MatchOption, ◌⊎◌}
+use Rattle.std.specs.Prelude.{◌≡◌, ℕ, Bool, true, ◌&&◌, List, All, Option, None, Result, Ok, Err, MatchOption, ◌⊎◌}
 use Rattle.itch_messages.specs.Body.{length_fault_of}
 use Rattle.day_file.specs.Frames.{PlacedBody, StandsFor, IsTruncatedAt}
 use Rattle.order_table.specs.Orders.{OrderRow, first_repeated}
 use Rattle.probe.specs.Pricing.{Execution, Sale, first_unknown}
 use Rattle.probe.specs.Selection.{has_kind, has_time}
-use Rattle.probe.specs.Trades.{kept}
+use Rattle.probe.specs.Selection.{kept}
 use Rattle.time_and_sales.specs.Names.{DirectoryRow, name_of}
 use Rattle.time_and_sales.specs.Texts.{listing_text}
 use Rattle.bars.specs.Bars.{AreBarsOf}
@@ -18,7 +17,7 @@ use Rattle.meaning.specs.declared.query.What.TheVariants.{Bars, Sales}
 use Rattle.meaning.specs.declared.query.What.{What}
 use Rattle.meaning.specs.Selected.{has_name}
 use Rattle.day_rows.specs.Messages.{Placed, break_numbers, counted, directory_rows, executions, first_wrong}
-use Rattle.day_rows.specs.Messages.{messages_of, order_rows, trades}
+use Rattle.day_rows.specs.Messages.{is_counted, messages_of, order_rows, trades}
 use Rattle.answers.specs.declared.answer.Answer.{Answer}
 use Rattle.answers.specs.declared.answer.Answer.TheVariants.{Printed, Faulty}
 pub use Rattle.outcomes.specs.declared.day_fault.DayFault.{DayFault}
@@ -96,3 +95,18 @@ IsAnswer file query answer =
 abbrev pub told_by : {A : Type 0} → Answer A → Result (List ℕ) DayFault
 told_by (Printed text) = Ok text
 told_by (Faulty fault) = Err fault
+
+-- ---- what the laws of moments speak of
+
+-- no message of a file is past a moment
+abbrev pub NoneIsPast : Option ℕ → List ℕ → Type 0
+NoneIsPast as_of file =
+    (frames : List PlacedBody) → StandsFor frames file →
+    All (λ m. is_counted as_of m.message ≡ true) (messages_of frames)
+
+-- a file is whole, each of its lengths is right, and of its messages these count
+pub record HasCounted (as_of : Option ℕ) (file : List ℕ) (messages : List Placed) : Type 0 where
+  pub frames : List PlacedBody
+  pub stands : StandsFor frames file
+  pub right : first_wrong frames ≡ None
+  pub are : counted as_of (messages_of frames) ≡ messages

@@ -1,7 +1,6 @@
-ghost use Rattle.std.specs.Prelude.{◌≡◌, ◌↔◌, ℕ, List, Result};
-ghost use Rattle.answers.specs.Answers.{IsAnswer};
+ghost use Rattle.std.specs.Prelude.{◌≡◌, ◌↔◌, ℕ, List, None, Result};
+ghost use Rattle.answers.specs.Answers.{HasCounted, IsAnswer, NoneIsPast};
 ghost use Rattle.day_rows.specs.Messages.{Placed};
-ghost use Rattle.answers.specs.Moments.{HasCounted, NoneIsPast, without_moment};
 ghost use Rattle.outcomes.specs.declared.day_fault.DayFault.{DayFault};
 ghost use Rattle.meaning.specs.Meaning.{Meaning};
 
@@ -16,7 +15,7 @@ pub fn one_answer()
 pub fn moment_past_all()
     ensures { (file : List ℕ) (query : Meaning) (answer : Result (List ℕ) DayFault) →
         NoneIsPast query.as_of file →
-        IsAnswer file query answer ↔ IsAnswer file (without_moment query) answer }
+        IsAnswer file query answer ↔ IsAnswer file (record query { as_of = None }) answer }
 {}
 
 /// The law of a moment: two files, neither truncated nor with a wrong length, of whose messages the same

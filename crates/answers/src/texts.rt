@@ -34,7 +34,7 @@ pub fn text_of_sales<A: Allocator + Copy>(
     for sale in sales {
         time_and_sales::write_sale(&mut bytes, sale, &names.name(sale.locate))?;
     }
-    of_one(alloc, bytes)
+    of_all(bytes, Vec::new(alloc))
 }
 
 /// The text of a table of bars: a header line, then a line for each of these bars, in their order.
@@ -52,7 +52,7 @@ pub fn text_of_bars<A: Allocator + Copy>(
     for bar in table {
         bars::write_bar(&mut bytes, bar, &names.name(bar.locate))?;
     }
-    of_one(alloc, bytes)
+    of_all(bytes, Vec::new(alloc))
 }
 
 /// The text of time and sales of all listings: a header line, then a line for each sale, by place.
@@ -100,17 +100,11 @@ pub fn text_of_tables<R: Threads + Sync>(
     of_all(header, lines)
 }
 
-/// The text of one piece.
-fn of_one<A: Allocator>(alloc: A, bytes: Vec<u8, A>) -> Result<Text<A>, OutOfMemory>
-    ensures { IfOk result (λ text. text ≡ bytes.items) }
-{
-    let mut pieces = Vec::new(alloc);
-    pieces.push(bytes)?;
-    Text::of(pieces)
-}
-
 /// The text of a header and its lines.
-fn of_all(header: Vec<u8>, mut lines: Vec<Vec<u8>>) -> Result<Text, OutOfMemory>
+fn of_all<A: Allocator>(
+    header: Vec<u8, A>,
+    mut lines: Vec<Vec<u8, A>, A>,
+) -> Result<Text<A>, OutOfMemory>
     ensures { IfOk result (λ text. text ≡ header.items ++ flat_map (λ piece. piece.items) lines.items) }
 {
     lines.insert(0, header)?;

@@ -4,7 +4,7 @@ use Rattle.clap.specs.Words.{Text, fault_of, first_of, matches_of, one_of}
 use Rattle.clap.specs.declared.error.kind.ErrorKind.TheVariants as kind
 use Rattle.clap.proofs.OnLiterals.{clap_on_literals}
 use Rattle.arguments.specs.Arguments.{the_app}
-use Rattle.arguments.specs.Jobs.{is_given}
+use Rattle.arguments.specs.Arguments.{is_given}
 
 abbrev plain : List Text
 plain = codes "itch_bars" ∷ codes "day" ∷ codes "sales" ∷ []

@@ -1,17 +1,25 @@
 -- Numbers that clap took as values, as its getters read them.
 use Rattle.std.proofs.lemmas.Bool.Decides.{nat_tests}
-use Rattle.std.proofs.Common.{◌≡◌, ◌∙◌, ◌<◌, ◌≤◌, ◌^◌, ℕ, true, false, Option, Some, None, refl, ap, arith, is_some, option_map}
+use Rattle.std.proofs.Common.{◌≡◌, ◌∙◌, ◌<◌, ◌≤◌, ◌^◌, ℕ, true, false, List, Option, Some, None, refl, ap, arith, is_some, option_map}
 use Rattle.std.proofs.Common.{pos}
-use Rattle.std.specs.Str.Parse.{ExplainsUnsignedError, HasUnsignedDigitsIfOk, ParsesUnsigned, starts_with_minus}
+use Rattle.std.specs.Str.Parse.{ExplainsUnsignedError, HasUnsignedDigitsIfOk, IsNumeral, ParsesUnsigned, starts_with_minus, without_leading_plus}
 use Rattle.std.proofs.lemmas.Bool.{cases_Bool}
 use Rattle.std.proofs.lemmas.Int.{ints}
 use Rattle.clap.specs.Lexer.{without_minus}
 use Rattle.clap.specs.Matches.{ReadsOne, one_text}
 use Rattle.clap.specs.Values.{IsSignedIn}
-use Rattle.clap.specs.Walk.{Text, one_of, rows_of}
+use Rattle.clap.specs.Walk.{Row, Text, one_of, rows_of}
 use Rattle.clap.specs.declared.parser.matches.Found.{Found}
 use Rattle.clap.proofs.WalkLemmas.{one_text-rows}
-use Rattle.arguments.specs.Jobs.{HasNumberIn, WritesNumberIn, number_of}
+use Rattle.arguments.specs.Arguments.{number_of}
+
+-- the text is a number in the range
+abbrev pub WritesNumberIn : ℕ → ℕ → Text → Type 0
+WritesNumberIn least most text = IsNumeral 10 (without_leading_plus text) × (least ≤ number_of text) × (number_of text ≤ most)
+
+-- clap found a number in the range under this name
+abbrev pub HasNumberIn : ℕ → ℕ → Text → List Row → Type 0
+HasNumberIn least most id rows = (text : Text) × (one_of id rows ≡ Some text) × WritesNumberIn least most text
 
 plain_without_minus : (t : Text) → starts_with_minus t ≡ false → without_minus t ≡ t
 plain_without_minus t e = grind arith

@@ -10,7 +10,7 @@ use Rattle.clap.specs.declared.parser.matches.MatchedArg.{MatchedArg}
 use Rattle.clap.specs.declared.parser.matches.ValueSource.{ValueSource}
 use Rattle.clap.proofs.CallerLemmas.{some_of_text}
 use Rattle.clap.proofs.WalkLemmas.{find_row, first_value-rows}
-use Rattle.arguments.specs.Jobs.{is_given, is_of_words}
+use Rattle.arguments.specs.Arguments.{is_given, is_of_words}
 
 -- the getter has a text where clap found one
 pub text_found : (f : Found) (id : Text) (o : Option (Bor Text)) → option_map (λ s. s.now) o ≡ first_value f id

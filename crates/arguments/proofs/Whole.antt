@@ -13,7 +13,7 @@ use Rattle.clap.specs.Matches.{found_of}
 use Rattle.clap.specs.Simple.{App, app_of, has_plain_fields}
 use Rattle.clap.specs.Texts.{items_of}
 use Rattle.clap.specs.Values.{Accepts, read_as, reading_of}
-use Rattle.clap.specs.Walk.{Rule, Text, first_of, is_empty, is_free_arg, is_simple_arg, one_of, rows_of, rule_of}
+use Rattle.clap.specs.Walk.{Row, Rule, Text, first_of, is_empty, is_free_arg, is_simple_arg, one_of, rows_of, rule_of}
 use Rattle.clap.specs.declared.builder.action.ArgAction.TheVariants.{Set}
 use Rattle.clap.specs.declared.builder.arg.Arg.{Arg}
 use Rattle.clap.specs.declared.builder.command.Command.{Command}
@@ -26,13 +26,21 @@ use Rattle.clap.proofs.CallerLemmas.{default_present, required_has_value}
 use Rattle.clap.proofs.SimpleLemmas.{is_false, is_nil}
 use Rattle.clap.proofs.TakesLemmas.{each_rule}
 use Rattle.clap.proofs.WalkLemmas.{both, first_value-rows, one_text-rows}
-use Rattle.arguments.specs.Arguments.{file_rule, gatherers_rule, morsel_rule, partitions_rule, query_rule, the_app, workers_rule}
-use Rattle.arguments.specs.Jobs.{IsWhole}
+use Rattle.arguments.specs.Arguments.{gatherers_rule, morsel_rule, partitions_rule, required_rule, the_app, workers_rule}
 use Rattle.arguments.proofs.Found.{IsNamed, IsValued, valued_reads}
-use Rattle.arguments.proofs.Numbers.{signed_writes}
+use Rattle.arguments.proofs.Numbers.{HasNumberIn, signed_writes}
+
+-- clap found all that a job has
+pub record IsWhole (rows : List Row) : Type 0 where
+  pub file : is_some (first_of (codes "FILE") rows) ≡ true
+  pub query : is_some (first_of (codes "QUERY") rows) ≡ true
+  pub workers : HasNumberIn 1 64 (codes "workers") rows
+  pub morsel : HasNumberIn 1 1073741824 (codes "morsel") rows
+  pub partitions : HasNumberIn 1 256 (codes "partitions") rows
+  pub gatherers : HasNumberIn 1 8 (codes "gatherers") rows
 
 abbrev the_rules : List Rule
-the_rules = file_rule ∷ query_rule ∷ workers_rule ∷ morsel_rule ∷ partitions_rule ∷ gatherers_rule ∷ []
+the_rules = required_rule (codes "FILE") ∷ required_rule (codes "QUERY") ∷ workers_rule ∷ morsel_rule ∷ partitions_rule ∷ gatherers_rule ∷ []
 
 is_none : {X : Type 0} (o : Option X) → not (is_some o) ≡ true → o ≡ None
 is_none o e = grind arith
@@ -151,7 +159,7 @@ module _ (c : Command) (line : app_of c ≡ the_app) where
         )
 
     -- so all that a job has is there
-    pub whole_of : IsWhole (rows_of (found_of m))
+    whole_of : IsWhole (rows_of (found_of m))
     whole_of =
         let d = some_arg (args_of c) (rw six (omega arith)) in
         let workers = has_text 2 d (Signed (pos 1) (pos 64)) (omega arith) (omega arith) refl refl in
@@ -166,3 +174,6 @@ module _ (c : Command) (line : app_of c ≡ the_app) where
           partitions = (_, partitions.1, signed_writes 1 256 partitions.0 (omega arith) partitions.2);
           gatherers = (_, gatherers.1, signed_writes 1 8 gatherers.0 (omega arith) gatherers.2);
         }
+
+pub whole : (m : ArgMatches) → ((c : Command) × (app_of c ≡ the_app) × IsParsedFrom c m) → IsWhole (rows_of (found_of m))
+whole m parsed = whole_of parsed.0 parsed.1 m parsed.2

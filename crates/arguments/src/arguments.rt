@@ -2,11 +2,10 @@ ghost use Rattle.std.specs.Prelude.{◌≡◌, ◌∷◌, false, IfErr, IfOk, Li
 ghost use Rattle.std.specs.declared.io.ErrorKind.TheVariants.{OutOfMemory as RanOut};
 ghost use Rattle.clap.specs.Values.{kind_of};
 ghost use Rattle.clap.specs.declared.error.kind.ErrorKind.TheVariants.{InvalidValue};
-ghost use Rattle.clap.specs.Words.{FailsBy, HasKind, Kinds, app_of, fault_of, found_of};
+ghost use Rattle.clap.specs.Words.{FailsBy, HasKind, IsParsedFrom, Kinds, app_of, fault_of, found_of};
 ghost use Rattle.clap.specs.Words.{matches_of, rows_of, rule_of};
-ghost use Rattle.arguments.specs.Arguments.{file_rule, gatherers_rule, morsel_rule};
-ghost use Rattle.arguments.specs.Arguments.{partitions_rule, query_rule, the_app, workers_rule};
-ghost use Rattle.arguments.specs.Jobs.{HasSettingsOf, IsFaultOf, IsJobOf, IsWhole, is_given};
+ghost use Rattle.arguments.specs.Arguments.{HasSettingsOf, IsFaultOf, IsJobOf, gatherers_rule, is_given};
+ghost use Rattle.arguments.specs.Arguments.{morsel_rule, partitions_rule, required_rule, the_app, workers_rule};
 
 use clap::error::ErrorKind;
 use clap::parser::ValueSource;
@@ -140,7 +139,7 @@ pub fn command(alloc: Global, words: &[String]) -> Result<Job, WordsFault>
 fn matched<'a>(alloc: Global, words: &'a [String]) -> Result<ArgMatches<'a>, Error>
     ensures rows { IfOk result (λ m. rows_of (found_of m)
         ≡ matches_of the_app (map string_bytes words.entry.now)) }
-    ensures whole { IfOk result (λ m. IsWhole (rows_of (found_of m))) }
+    ensures parsed { IfOk result (λ m. (command : _) × (app_of command ≡ the_app) × IsParsedFrom command m) }
     ensures kinds { FailsBy (fault_of the_app (map string_bytes words.entry.now)) result }
 {
     let command = clap_command(alloc)?;
@@ -151,40 +150,31 @@ fn matched<'a>(alloc: Global, words: &'a [String]) -> Result<ArgMatches<'a>, Err
 fn clap_command<'a>(alloc: Global) -> Result<Command<'a>, AllocError>
     ensures { IfOk result (λ c. app_of c ≡ the_app) }
 {
+    let file = required_argument(alloc, "FILE", "A day file, unpacked; - is standard input");
+    let asked = "What to answer, as below; it is one word, so put it in quotes";
     Command::new(alloc, "itch_bars")
         .version(VERSION)
         .about("Answers a query over a day file of Nasdaq TotalView-ITCH 5.0")
         .override_usage(USAGE)
         .after_help(AFTER_HELP)
-        .arg(file_argument(alloc))?
-        .arg(query_argument(alloc))?
+        .arg(file)?
+        .arg(required_argument(alloc, "QUERY", asked))?
         .arg(workers_option(alloc))?
         .arg(morsel_option(alloc))?
         .arg(partitions_option(alloc))?
         .arg(gatherers_option(alloc))
 }
 
-/// The day file's path.
-fn file_argument<'a>(alloc: Global) -> Arg<'a>
-    ensures rule { rule_of result ≡ file_rule }
+/// A word that has to be given.
+fn required_argument<'a>(alloc: Global, name: &'a str, help: &'a str) -> Arg<'a>
+    ensures rule { rule_of result ≡ required_rule name.entry.now }
     ensures local { result.global ≡ false }
 {
-    Arg::new(alloc, "FILE")
+    Arg::new(alloc, name)
         .required(true)
         // (written, though clap would choose it: only then does its contract keep the least number of values)
         .action(ArgAction::Set)
-        .help("A day file, unpacked; - is standard input")
-}
-
-/// The query's text.
-fn query_argument<'a>(alloc: Global) -> Arg<'a>
-    ensures rule { rule_of result ≡ query_rule }
-    ensures local { result.global ≡ false }
-{
-    Arg::new(alloc, "QUERY")
-        .required(true)
-        .action(ArgAction::Set)
-        .help("What to answer, as below; it is one word, so put it in quotes")
+        .help(help)
 }
 
 /// How many threads work.
@@ -252,9 +242,8 @@ fn gatherers_option<'a>(alloc: Global) -> Arg<'a>
 }
 
 /// The job of what was matched.
-#[tactic(auto, using(crate::proofs::Texts::text_found))]
 fn job_of(alloc: Global, matches: &ArgMatches<'_>) -> Result<Job, AllocError>
-    requires { IsWhole (rows_of (found_of matches.now)) }
+    requires { (command : _) × (app_of command ≡ the_app) × IsParsedFrom command matches.now }
     ensures { IfOk result (IsJobOf (rows_of (found_of matches.now))) }
 {
     let file = matches.get_str("FILE").unwrap();
@@ -280,7 +269,7 @@ fn is_given(matches: &ArgMatches<'_>, id: &str) -> bool
 
 /// The settings of what was matched.
 fn settings_of(matches: &ArgMatches<'_>) -> Settings
-    requires { IsWhole (rows_of (found_of matches.now)) }
+    requires { (command : _) × (app_of command ≡ the_app) × IsParsedFrom command matches.now }
     ensures { HasSettingsOf (rows_of (found_of matches.now)) result }
 {
     let workers = matches.get_one::<u32>("workers").unwrap();

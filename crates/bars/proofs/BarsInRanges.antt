@@ -14,7 +14,7 @@ use Rattle.std.proofs.lemmas.List.Elements.{filter-append, filter_agree, filter_
 use Rattle.std.proofs.lemmas.List.Sorted.{IsNonDecreasingBy-from_all_adjacent}
 use Rattle.lists.proofs.Lists.{filter_of_filter}
 use Rattle.lists.proofs.Order.{Contains-filter}
-use Rattle.time_and_sales.specs.Parted.{is_in_first}
+use Rattle.time_and_sales.specs.Texts.{is_in_first}
 use Rattle.time_and_sales.proofs.RangesJoined.{flat_map_next, in_first_alike, none_pass}
 use Rattle.row_types.specs.declared.trade.Sale.{Sale}
 use Rattle.time_and_sales.proofs.SortedByPlace.{no_sale}

@@ -3,8 +3,8 @@ use Rattle.std.proofs.Common.{◌≡◌, ℕ, ◌+◌, ◌<◌, Bool, true, ◌&
 use Rattle.std.proofs.Common.{Some, None, option_to_list, Contains, IsPermutation, Ordering, Less, Equal, Greater, Bor, refl, sym, ap, ap₂, ◌∙◌, subst, arith}
 use Rattle.std.proofs.Common.{IfSome}
 use Rattle.std.specs.List.{AllByRecursion, sum_by}
-use Rattle.std.specs.List.Sorted.{IsStrictlySortedBy, IsStableByKey, IsSortedByKey}
-use Rattle.std.specs.Ordering.{is_lt, nat_cmp, ordering_reverse, ordering_then}
+use Rattle.std.specs.List.Sorted.{IsSorted, IsStrictlySortedBy, IsStableByKey, IsSortedByKey}
+use Rattle.std.specs.Ordering.{is_eq, is_lt, nat_cmp, ordering_reverse, ordering_then}
 use Rattle.std.specs.Fn.{Mut, Called, ComputesKey}
 use Rattle.std.proofs.lemmas.Bool.Decides.{nat_tests}
 use Rattle.std.proofs.lemmas.List.{get_or-map, length-map, map_push, take_more}
@@ -13,8 +13,8 @@ use Rattle.std.proofs.lemmas.List.Elements.{All-append, All-contains_itself, All
 use Rattle.std.proofs.lemmas.List.Sorted.{answers_always, IsPermutation-map}
 use Rattle.std.proofs.lemmas.Map.Keys.{sorted_head, sorted_tail}
 use Rattle.time_and_sales.proofs.RangesJoined.{flat_map_push}
-use Rattle.bars.specs.Bars.{Key, Bar, key_cmp, found, joined_bar, joined, joined_all, under, all_bars, IsByKey, IsMergeOf, IsUnionOf, IsTraded}
-use Rattle.bars.specs.Steps.{AreJoinedAlike, IsOrderOf, by_order, put}
+use Rattle.bars.specs.Bars.{Key, Bar, key_cmp, found, joined_bar, joined, joined_all, under, all_bars, IsByKey, IsUnionOf, IsTraded}
+use Rattle.bars.specs.Steps.{AreJoinedAlike, put}
 use Rattle.bars.proofs.Bars.{found_itself, has, higher_misses, key_of, key_total, same_has, tables_agree}
 
 -- ---- bars joined, one after another
@@ -163,6 +163,12 @@ ties_have : (l s m t : ℕ)
     → (not (is_lt (by_parts (l, s) (m, t))) && not (is_lt (by_parts (m, t) (l, s)))) ≡ (eqb m l && eqb t s)
 ties_have l s m t = grind (arith, nat_tests)
 
+-- bars in the order of their keys, those of one key in the order that they had
+pub record IsOrderOf (bars sorted : List Bar) : Type 0 where
+  pub rise : IsSorted key_cmp sorted
+  pub each : (key : Key) → under key sorted ≡ under key bars
+  pub permutation : IsPermutation bars sorted
+
 -- `at` gives something of each key
 module _ {X : Type 0} (now : X → Bar) (at : Key → X) (is_at : (key : Key) → key_of (now (at key)) ≡ key) where
   -- what a stable sort by locate and start leaves
@@ -227,7 +233,8 @@ puts : (a : Bar) (table : List Bar) → IsByKey table → Puts a table (put a ta
 unfolding IsStrictlySortedBy
 puts a [] up = record { rise = (tt, tt); above = λ x p q. (p, tt); alike = λ key. refl }
 puts a (b ∷ table) up =
-    elim (key_cmp a b) as (λ o. key_cmp a b ≡ o → Puts a (b ∷ table) (by_order o (a ∷ b ∷ table) (joined_bar a b ∷ table) (b ∷ put a table))) [
+    elim (key_cmp a b) as (λ o. key_cmp a b ≡ o
+    → Puts a (b ∷ table) (cond (is_lt o) (a ∷ b ∷ table) (cond (is_eq o) (joined_bar a b ∷ table) (b ∷ put a table)))) [
       | Less ↦ λ e. record {
         rise = ((e, below_all a b (λ z h. key_total.trans a b z e h) table up.0), up);
         above = λ x p q. (p, q);
@@ -251,6 +258,3 @@ puts a (b ∷ table) up =
 
 pub put_union : (bar : Bar) (table : List Bar) → IsByKey table → IsUnionOf (bar ∷ table) (put bar table)
 put_union bar table up = let m = puts bar table up in union_from (bar ∷ table) (put bar table) m.rise m.alike
-
-pub merge_from : (one other table : List Bar) → IsByKey one → IsByKey other → IsUnionOf (one ++ other) table → IsMergeOf one other table
-merge_from one other table up vp union = record { rise = union.rise; each = λ key. grind (arith, union.each key, together-append, together_found) }

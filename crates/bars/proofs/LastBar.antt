@@ -1,6 +1,6 @@
 -- The last bar of a table, to which the next bar is joined, or behind which it comes.
 use Rattle.std.proofs.Common.{◌≡◌, ℕ, ◌+◌, ◌<◌, true, false, All, List, [], ◌∷◌, ◌++◌, length, map, take, get_or, Ordering, Less, Equal, refl, set}
-use Rattle.std.proofs.Common.{sym, ◌∙◌, subst, arith, append_assoc, is_eq, is_gt, is_lt}
+use Rattle.std.proofs.Common.{Contains, sym, ◌∙◌, subst, arith, append_assoc, is_eq, is_gt, is_lt}
 use Rattle.std.specs.List.Sorted.{IsSorted}
 use Rattle.std.proofs.lemmas.Bool.Decides.{nat_tests}
 use Rattle.std.proofs.lemmas.Grind.{common_steps, elements}
@@ -9,8 +9,7 @@ use Rattle.std.proofs.lemmas.List.Elements.{Contains-get_or, All-get_or}
 use Rattle.std.proofs.lemmas.List.Sorted.{ranks_by, sorted_far}
 use Rattle.std.proofs.lemmas.List.{set_at}
 use Rattle.std.proofs.lemmas.Map.Keys.{Less-from_sorted, sorted_from_all_adjacent}
-use Rattle.bars.specs.Bars.{Bar, key_cmp, joined_bar, IsByKey, IsUnionOf}
-use Rattle.bars.specs.Steps.{CanAdd, EachJoins}
+use Rattle.bars.specs.Bars.{Bar, key_cmp, joined_bar, AllSumsFit, CanJoin, IsByKey, IsUnionOf}
 use Rattle.bars.proofs.Bars.{key_total}
 use Rattle.bars.proofs.JoinedTables.{alike_parts, pair_alike, table_has, union_from, union_itself, union_more, union_of_one}
 use Rattle.bars.proofs.SumsAreBounded.{next_fits}
@@ -66,11 +65,17 @@ pub ruleset adding = (common_steps, nil_from_length, union_of_one, equal_from, C
 
 -- ---- sorted bars
 
+-- a table that the bar is put into: none of its bars comes after that one, and the sums of one of its key fit
+pub record CanAdd (table : List Bar) (bar : Bar) : Type 0 where
+  pub by_key : IsByKey table
+  pub up_to : All (λ kept. is_gt (key_cmp kept bar) ≡ false) table
+  pub sums : (kept : Bar) → Contains table kept → key_cmp kept bar ≡ Equal → CanJoin kept bar
+
 not_after : (a b : Bar) → is_lt (key_cmp b a) ≡ false → is_gt (key_cmp a b) ≡ false
 not_after a b h = grind (arith, nat_tests)
 
 -- the next of sorted bars can be put into the table that those before it are joined to
-next_can_add : (sorted table : List Bar) (i : ℕ) (d : Bar) → IsSorted key_cmp sorted → EachJoins sorted → i < length sorted → IsUnionOf (take i sorted) table
+next_can_add : (sorted table : List Bar) (i : ℕ) (d : Bar) → IsSorted key_cmp sorted → AllSumsFit sorted → i < length sorted → IsUnionOf (take i sorted) table
     → CanAdd table (get_or sorted i d)
 next_can_add sorted table i d rise fit within union =
     let bar = get_or sorted i d in
@@ -84,7 +89,7 @@ next_can_add sorted table i d rise fit within union =
     }
 
 -- so can that of the next of what has bars, and with it one bar more is joined
-pub next_bar : {X : Type 0} (f : X → Bar) (xs : List X) (i : ℕ) (d : X) (bar : Bar) (table : List Bar) → IsSorted key_cmp (map f xs) → EachJoins (map f xs)
+pub next_bar : {X : Type 0} (f : X → Bar) (xs : List X) (i : ℕ) (d : X) (bar : Bar) (table : List Bar) → IsSorted key_cmp (map f xs) → AllSumsFit (map f xs)
     → i < length xs → bar ≡ f (get_or xs i d) → IsUnionOf (take i (map f xs)) table
     → CanAdd table bar × ((new : List Bar) → IsUnionOf (table ++ bar ∷ []) new → IsUnionOf (take (i + 1) (map f xs)) new)
 next_bar f xs i d bar table rise fit within is union =

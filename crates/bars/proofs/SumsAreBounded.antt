@@ -1,17 +1,17 @@
 -- The sums of a bar: how large they can be, and what they mean for the text of a bar.
 use Rattle.std.proofs.Common.{◌≡◌, ℕ, ◌+◌, ◌*◌, ◌/◌, ◌^◌, ◌<◌, ◌≤◌, true, All, List, [], ◌∷◌, ◌++◌, length, map, take, drop, get_or, Some}
-use Rattle.std.proofs.Common.{Contains, Equal, Option, None, option_to_list, append_assoc, refl, sym, ap, ap₂, ◌∙◌, arith, sum_by}
-use Rattle.std.proofs.lemmas.List.{append-nil, length-append, map-append, take-append-drop}
+use Rattle.std.proofs.Common.{Contains, Equal, None, append_assoc, refl, sym, ap, ◌∙◌, arith, sum_by}
+use Rattle.std.proofs.lemmas.List.{take-append-drop}
 use Rattle.std.proofs.lemmas.List.Sums.{count_by-le-length, length-filter, sum_by-append, sum_by-cons}
-use Rattle.std.proofs.lemmas.List.Elements.{All-append, All-filter, All-head, All-map, All-tail, All-weaker, filter-append, filter_more}
+use Rattle.std.proofs.lemmas.List.Elements.{All-filter, All-head, All-map, All-tail, All-weaker, filter-append, filter_more}
 use Rattle.std.proofs.Math.Nat.{div-mul-le_self, div-le_of_le-mul}
 use Rattle.row_types.specs.declared.trade.Sale.{Sale}
-use Rattle.bars.specs.Bars.{Key, Bar, start_of, has_key, bar_of, found, key_cmp, AreBarsOf, AreBarsOfEach, CanJoin, IsByKey, IsUnionOf, SumsFit, AllSumsFit}
+use Rattle.bars.specs.Bars.{Key, Bar, start_of, has_key, bar_of, key_cmp, AreBarsOf, AreBarsOfEach, CanJoin, IsUnionOf, AllSumsFit}
 use Rattle.bars.specs.Bars.{IsTraded, joined_all, under, all_bars, all_sales}
-use Rattle.bars.specs.Steps.{AreJoinedAlike, EachJoins, bar_of_one}
+use Rattle.bars.specs.Steps.{AreJoinedAlike, bar_of_one}
 use Rattle.bars.specs.Texts.{IsWritable}
 use Rattle.bars.proofs.Bars.{found_itself, has, has_itself, key_of, same_has}
-use Rattle.bars.proofs.JoinedTables.{Adds, alike_from, alike_parts, of, sum_of_joined, sum_together, under_found}
+use Rattle.bars.proofs.JoinedTables.{Adds, IsOrderOf, alike_from, of, sum_of_joined, sum_together}
 use Rattle.bars.proofs.BarsInRanges.{starts_alike}
 use Rattle.bars.proofs.BarsOfSales.{each_alike, ones_union, together_ones}
 
@@ -52,7 +52,8 @@ all_sums_fit width lists tables are = sums_of_few width (all_sales lists) (all_b
 -- ---- two bars whose sums fit together
 
 -- where all sums fit, each next bar can be joined
-pub each_joins : (bars : List Bar) → AllSumsFit bars → EachJoins bars
+each_joins : (bars : List Bar) → AllSumsFit bars → (key : Key) (front rest : List Bar) (bar kept : Bar) → under key bars ≡ front ++ bar ∷ rest
+    → joined_all None front ≡ Some kept → CanJoin kept bar
 each_joins bars fit key front rest bar kept split before =
     let volume = within (λ z. z.volume) (λ a b. refl) in
     let notional = within (λ z. z.notional) (λ a b. refl) in
@@ -62,7 +63,7 @@ each_joins bars fit key front rest bar kept split before =
     within f h = omega (arith, ap (sum_by f) split, sum_by-append f front (bar ∷ rest), sum_by-cons f bar rest, sum_of_joined f h front kept before)
 
 -- the next bar's and those of a bar of its key that those before it are joined to
-pub next_fits : (bars table : List Bar) (i : ℕ) (d kept : Bar) → i < length bars → IsUnionOf (take i bars) table → EachJoins bars → Contains table kept
+pub next_fits : (bars table : List Bar) (i : ℕ) (d kept : Bar) → i < length bars → IsUnionOf (take i bars) table → AllSumsFit bars → Contains table kept
     → key_cmp kept (get_or bars i d) ≡ Equal → CanJoin kept (get_or bars i d)
 next_fits bars table i d kept within union fit there same =
     let bar = get_or bars i d in
@@ -73,38 +74,15 @@ next_fits bars table i d kept within union fit there same =
     let whole = filter-append (λ b. has b key) (take (i + 1) bars) (drop (i + 1) bars) in
     let split : under key bars ≡ before ++ bar ∷ after =
     grind (arith, take-append-drop (i + 1) bars, filter_more (λ b. has b key) bars i d within, append_assoc before (bar ∷ []) after) in
-    fit key before after bar kept split (sym (union.each key) ∙ found_itself table kept union.rise there)
+    each_joins bars fit key before after bar kept split (sym (union.each key) ∙ found_itself table kept union.rise there)
 
--- the bars of one key of two tables
-pub under_both : (key : Key) (one other : List Bar) → IsByKey one → IsByKey other
-    → under key (one ++ other) ≡ option_to_list (found one key) ++ option_to_list (found other key)
-under_both key one other up vp = filter-append (λ b. has b key) one other ∙ ap₂ ◌++◌ (under_found key one up) (under_found key other vp)
-
--- the sums of the bars of fewer than 2,147,483,648 sales fit
-pub sums_fit : (width : ℕ) (xs ys : List Sale) (one other : List Bar) → AreBarsOf width xs one → AreBarsOf width ys other
-    → All IsTraded one → All IsTraded other → length xs + length ys < 2 ^ 31 → SumsFit one other
-sums_fit width xs ys one other p q traded also few key a b e f =
-    let alike = alike_parts one (map (bar_of_one width) xs) other (map (bar_of_one width) ys) (alike_from (ones_union width xs one p))
-    (alike_from (ones_union width ys other q)) in
-    let all = All-append IsTraded one other traded also in
-    let fit = sums_of_few width (xs ++ ys) (one ++ other) (rw (map-append (bar_of_one width) xs ys) alike) all (rw length-append few) in
-    each_joins (one ++ other) fit key (a ∷ []) [] b a (grind (arith, under_both key one other p.rise q.rise)) refl
-
--- where the sums of two tables fit, each next of their bars can be joined
-pub tables_join : (one other : List Bar) → IsByKey one → IsByKey other → SumsFit one other → EachJoins (one ++ other)
-tables_join one other up vp fit key front rest bar kept split before =
-    go (found one key) (found other key) (fit key) front (sym (under_both key one other up vp) ∙ split) before
-  where
-    go : (x y : Option Bar) → ((a b : Bar) → x ≡ Some a → y ≡ Some b → CanJoin a b) → (front : List Bar)
-        → option_to_list x ++ option_to_list y ≡ front ++ bar ∷ rest → joined_all None front ≡ Some kept → CanJoin kept bar
-    go x y h [] e f = absurd (cc)
-    go None None h (a ∷ front) e f = absurd (cc)
-    go (Some a) None h (z ∷ front) e f = absurd (omega (arith, ap length e, length-append front (bar ∷ rest)))
-    go None (Some b) h (z ∷ front) e f = absurd (omega (arith, ap length e, length-append front (bar ∷ rest)))
-    go (Some a) (Some b) h (z ∷ []) e f = h kept bar (cc) (cc)
-    go (Some a) (Some b) h (z ∷ w ∷ front) e f = absurd (omega (arith, ap length e, length-append front (bar ∷ rest)))
-
-pub ruleset merging = (append-nil, tables_join)
+-- the sums of bars in order are those of the bars
+pub fits_in_order : (bars sorted : List Bar) → IsOrderOf bars sorted → AllSumsFit bars → AllSumsFit sorted
+fits_in_order bars sorted order fit = record {
+  volume = λ key. rw (order.each key) (fit.volume key);
+  notional = λ key. rw (order.each key) (fit.notional key);
+  trades = λ key. rw (order.each key) (fit.trades key);
+}
 
 -- ---- what the text of a bar asks
 

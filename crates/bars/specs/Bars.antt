@@ -22,17 +22,15 @@ start_of width time = time / (width * NANOSECONDS) * (width * NANOSECONDS)
 
 -- the sale's locate and interval are the key's
 abbrev pub has_key : ℕ → Key → Sale → Bool
-has_key width key sale =
-    (sale.locate == key.locate) && (start_of width sale.time == key.start)
+has_key width key sale = (sale.locate == key.locate) && (start_of width sale.time == key.start)
 
--- the bar of the sales of one key, in whatever order they come: first and last by place, high and low by price, the
--- sums and the count; no bar if there are no sales
-abbrev pub bar_of : Key → List Sale → Option Bar
-bar_of key [] = None
-bar_of key (sale ∷ sales) =
+-- the bar of a sale and others of its key, in whatever order they come: first and last by place, high and low by
+-- price, the sums and the count
+abbrev pub bar_from : Key → Sale → List Sale → Bar
+bar_from key sale sales =
     let first = least_of (λ s. s.place) sale sales in
     let last = greatest_of (λ s. s.place) sale sales in
-    Some (record {
+    record {
       locate = key.locate;
       start = key.start;
       first_place = first.place;
@@ -44,7 +42,12 @@ bar_of key (sale ∷ sales) =
       volume = sum_by (λ s. s.shares) (sale ∷ sales);
       notional = sum_by (λ s. s.shares * s.price) (sale ∷ sales);
       trades = length (sale ∷ sales);
-    })
+    }
+
+-- the bar of the sales of one key; no bar if there are no sales
+abbrev pub bar_of : Key → List Sale → Option Bar
+bar_of key [] = None
+bar_of key (sale ∷ sales) = Some (bar_from key sale sales)
 
 -- bars compare by locate, then by start
 abbrev pub key_cmp : Bar → Bar → Ordering
@@ -56,63 +59,47 @@ IsByKey table = IsStrictlySortedBy key_cmp table
 
 -- the bar that a table has under a key
 abbrev pub found : List Bar → Key → Option Bar
-found table key =
-    find (λ bar. (bar.locate == key.locate) && (bar.start == key.start)) table
+found table key = find (λ bar. (bar.locate == key.locate) && (bar.start == key.start)) table
 
 -- the table has, by rising keys, the bar of each key that some sale has, and no other
 pub record AreBarsOf (width : ℕ) (sales : List Sale) (table : List Bar) : Type 0 where
   pub rise : IsByKey table
   pub each : (key : Key) → found table key ≡ bar_of key (filter (has_key width key) sales)
 
--- what any bar of sales has: some volume, an average price of 32 bits, and no more volume than as
--- many trades of 64 bits can have
+-- what any bar of sales has: some volume, an average price of 32 bits, and no more volume than as many trades of 64
+-- bits can have
 abbrev pub IsTraded : Bar → Type 0
 IsTraded bar =
-    (0 < bar.volume) × (bar.notional ≤ bar.volume * 4294967295)
-    × (bar.volume ≤ bar.trades * 2 ^ 64)
+    (0 < bar.volume) × (bar.notional ≤ bar.volume * 4294967295) × (bar.volume ≤ bar.trades * 2 ^ 64)
 
--- ---- two tables made one
+-- ---- tables made one
 
 -- two bars of one key joined: of sales at one place, the first bar's counts
 abbrev pub joined_bar : Bar → Bar → Bar
-joined_bar a b =
-    record {
-      locate = a.locate;
-      start = a.start;
-      first_place = min a.first_place b.first_place;
-      first = cond (nat_lt b.first_place a.first_place) b.first a.first;
-      high = max a.high b.high;
-      low = min a.low b.low;
-      last_place = max a.last_place b.last_place;
-      last = cond (nat_lt a.last_place b.last_place) b.last a.last;
-      volume = a.volume + b.volume;
-      notional = a.notional + b.notional;
-      trades = a.trades + b.trades;
-    }
+joined_bar a b = record {
+  locate = a.locate;
+  start = a.start;
+  first_place = min a.first_place b.first_place;
+  first = cond (nat_lt b.first_place a.first_place) b.first a.first;
+  high = max a.high b.high;
+  low = min a.low b.low;
+  last_place = max a.last_place b.last_place;
+  last = cond (nat_lt a.last_place b.last_place) b.last a.last;
+  volume = a.volume + b.volume;
+  notional = a.notional + b.notional;
+  trades = a.trades + b.trades;
+}
 
--- the bar under a key in one of two tables, or both of them joined
+-- the bar that is there, or both of them joined
 abbrev pub joined : Option Bar → Option Bar → Option Bar
 joined None b = b
 joined (Some a) None = Some a
 joined (Some a) (Some b) = Some (joined_bar a b)
 
--- the table has, by rising keys, the bars of two tables, those of one key joined
-pub record IsMergeOf (one other table : List Bar) : Type 0 where
-  pub rise : IsByKey table
-  pub each : (key : Key) → found table key ≡ joined (found one key) (found other key)
-
 -- the sums of two bars fit into 128 bits, and their numbers of trades into 64
 abbrev pub CanJoin : Bar → Bar → Type 0
 CanJoin a b =
-    (a.volume + b.volume < 2 ^ 128) × (a.notional + b.notional < 2 ^ 128)
-    × (a.trades + b.trades < 2 ^ 64)
-
--- the sums of the bars that two tables have under one key fit
-abbrev pub SumsFit : List Bar → List Bar → Type 0
-SumsFit one other =
-    (key : Key) (a b : Bar) → found one key ≡ Some a → found other key ≡ Some b → CanJoin a b
-
--- ---- many tables made one
+    (a.volume + b.volume < 2 ^ 128) × (a.notional + b.notional < 2 ^ 128) × (a.trades + b.trades < 2 ^ 64)
 
 -- the bars of a list, all of one key, joined in its order to what there was before
 abbrev pub joined_all : Option Bar → List Bar → Option Bar
@@ -121,8 +108,7 @@ joined_all before (bar ∷ bars) = joined_all (joined before (Some bar)) bars
 
 -- the bars of a list that have a key
 abbrev pub under : Key → List Bar → List Bar
-under key bars =
-    filter (λ bar. (bar.locate == key.locate) && (bar.start == key.start)) bars
+under key bars = filter (λ bar. (bar.locate == key.locate) && (bar.start == key.start)) bars
 
 -- the bars of all tables, table by table
 abbrev pub all_bars : List (List Bar) → List Bar

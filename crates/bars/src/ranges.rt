@@ -1,10 +1,10 @@
 //! The lines of many tables, of ranges of locates by threads.
-ghost use Rattle.std.specs.Prelude.{◌≡◌, ◌<◌, ◌++◌, All, IfOk, OnOk, List, drop, filter, length, map, slice_index};
+ghost use Rattle.std.specs.Prelude.{◌≡◌, ◌<◌, ◌++◌, All, IfOk, OnOk, List, drop, filter, length, map};
 ghost use Rattle.std.specs.List.{flat_map};
-ghost use Rattle.std.specs.List.Sorted.{IsNonDecreasing, IsSorted};
+ghost use Rattle.std.specs.List.Sorted.{IsSorted};
 ghost use Rattle.lists.specs.declared.limits.TheConstants.{TIME_LIMIT};
 ghost use Rattle.time_and_sales.specs.Names.{last_row, name_text};
-ghost use Rattle.time_and_sales.specs.Parted.{is_in_first};
+ghost use Rattle.time_and_sales.specs.Texts.{is_in_first};
 ghost use Rattle.bars.specs.Bars.{AllSumsFit, IsTraded, IsUnionOf, all_bars, key_cmp};
 ghost use Rattle.bars.specs.Steps.{AreJoinedAlike, bar_at};
 ghost use Rattle.bars.specs.Texts.{lines_text};
@@ -42,53 +42,8 @@ pub fn lines_in_ranges<R: Threads + Sync>(
         Some(form) => locates_of(alloc, form, ranges)?,
         None => Vec::new(alloc),
     };
-    let bounds = bounds_of(alloc, locates.as_slice())?;
-    lines_from(rt, alloc, tables, names, bounds.as_slice())
-}
-
-/// Of what most is kept among the tables.
-fn longest<'a>(tables: &[&'a BucketBars]) -> Option<&'a Form> {
-    let mut longest: Option<&Form> = None;
-    for table in tables {
-        let form = table.form();
-        if longest.is_none_or(|longest| longest.len() < form.len()) {
-            longest = Some(form);
-        }
-    }
-    longest
-}
-
-/// The locates with which `parts` parts of what is kept, of one length, begin, without the first.
-fn locates_of(alloc: Global, form: &Form, parts: u32) -> Result<Vec<u64>, OutOfMemory> {
-    let mut locates = Vec::new(alloc);
-    for part in 1..parts {
-        let before = form.len() / parts as usize * part as usize;
-        if let Some(locate) = form.locate(before) {
-            locates.push(u64::from(locate))?;
-        }
-    }
-    Ok(locates)
-}
-
-/// The lines of the bars of all tables, in a piece for each bound: those whose locates are from this
-/// bound on and below the next.
-fn lines_from<R: Threads + Sync>(
-    rt: &R,
-    alloc: Global,
-    tables: &[&BucketBars],
-    names: &Names,
-    bounds: &[u64],
-) -> Result<Vec<Vec<u8>>, OutOfMemory>
-    requires sums { AllSumsFit (all_bars (map (λ table. table.now) tables.now)) }
-    requires starts { All (λ bar. bar.start < TIME_LIMIT) (all_bars (map (λ table. table.now) tables.now)) }
-    requires some { 0 < length bounds.now }
-    requires first { slice_index bounds.now 0 ≡ 0 }
-    requires rise { IsNonDecreasing bounds.now }
-    ensures { IfOk result (λ texts. (all : List TheBar) →
-        IsUnionOf (all_bars (map (λ table. table.now) tables.now)) all →
-        flat_map (λ text. text.items) texts.items
-        ≡ lines_text (λ locate. name_text locate (last_row names.now locate)) all) }
-{
+    let made = bounds_of(alloc, locates.as_slice())?;
+    let bounds = made.as_slice();
     texts_of(
         rt,
         alloc,
@@ -103,6 +58,24 @@ fn lines_from<R: Threads + Sync>(
                 (filter (is_in_first (λ bar. bar.locate) (drop i bounds.entry.now)) all)) }
         { range_lines(alloc, tables, names, &bounds[i..]) },
     )
+}
+
+/// Of what most is kept among the tables.
+fn longest<'a>(tables: &[&'a BucketBars]) -> Option<&'a Form> {
+    let forms = tables.iter().map(|table| table.form());
+    forms.max_by_key(|form| form.len())
+}
+
+/// The locates with which `parts` parts of what is kept, of one length, begin, without the first.
+fn locates_of(alloc: Global, form: &Form, parts: u32) -> Result<Vec<u64>, OutOfMemory> {
+    let mut locates = Vec::new(alloc);
+    for part in 1..parts {
+        let before = form.len() / parts as usize * part as usize;
+        if let Some(locate) = form.locate(before) {
+            locates.push(u64::from(locate))?;
+        }
+    }
+    Ok(locates)
 }
 
 /// The lines of the bars of all tables whose locates are in the first range.

@@ -1,12 +1,15 @@
 //! A table of bars.
 ghost use Rattle.std.specs.Prelude.{◌≡◌, ℕ, ◌<◌, ◌≤◌, List, [], ◌∷◌, ◌++◌, length, map};
-ghost use Rattle.std.specs.Prelude.{All, IfOk, OnErr, OnOk, nat_eq};
+ghost use Rattle.std.specs.Prelude.{All, Contains, IfOk, OnErr, OnOk, false, nat_eq};
 ghost use Rattle.std.specs.List.{IsDistinct};
 ghost use Rattle.row_types.specs.declared.trade.Sale.{Sale};
 ghost use Rattle.std.specs.List.Sorted.{IsPermutation, IsSorted};
-ghost use Rattle.bars.specs.Bars.{AllSumsFit, AreBarsOf, AreBarsOfEach, IsByKey, IsMergeOf};
-ghost use Rattle.bars.specs.Bars.{IsTraded, IsUnionOf, SumsFit, all_bars, all_sales, key_cmp};
-ghost use Rattle.bars.specs.Steps.{CanAdd, EachJoins, IsOrderOf, bar_of_one};
+ghost use Rattle.std.specs.Ordering.{is_gt};
+ghost use Rattle.std.specs.declared.cmp.Ordering.TheVariants.{Equal};
+ghost use Rattle.bars.specs.Bars.{AllSumsFit, AreBarsOf, AreBarsOfEach, CanJoin, IsByKey, IsTraded, IsUnionOf};
+ghost use Rattle.bars.specs.Bars.{all_bars, all_sales, key_cmp};
+ghost use Rattle.bars.specs.Steps.{bar_of_one};
+ghost use Rattle.bars.specs.declared.bar.Bar.{Bar as TheBar};
 
 use crate::OutOfMemory;
 use crate::bar::Bar;
@@ -157,10 +160,9 @@ impl<A: Allocator + Clone> BarTable<A> {
 
     /// Takes in the bars of `other`, and joins those of one locate and start. It is refused if
     /// there is no memory for the bars of both or to sort them, and then leaves the table as it was.
-    #[tactic(auto, using(crate::proofs::JoinedTables::merge_from))]
     pub fn merge<B: Allocator>(&mut self, other: &BarTable<B>) -> Result<(), OutOfMemory>
-        requires sums { SumsFit self.old other.now }
-        ensures merged { OnOk result (IsMergeOf self.old other.now self.new) }
+        requires sums { AllSumsFit (self.old ++ other.now) }
+        ensures merged { OnOk result (IsUnionOf (self.old ++ other.now) self.new) }
         ensures bars { OnOk result ((width : ℕ) (sales more : List Sale) →
             AreBarsOf width sales self.old → AreBarsOf width more other.now →
             AreBarsOf width (sales ++ more) self.new) }
@@ -210,7 +212,9 @@ fn count_bars_of(sales: &[Sale], width: u32) -> usize
 #[inline]
 #[tactic(auto, using(crate::proofs::LastBar::adding))]
 fn add<A: Allocator>(bars: &mut Vec<Bar, A>, bar: Bar) -> Result<(), OutOfMemory>
-    requires { CanAdd bars.old.items bar }
+    requires by_key { IsByKey bars.old.items }
+    requires up_to { All (λ kept. is_gt (key_cmp kept bar) ≡ false) bars.old.items }
+    requires sums { (kept : TheBar) → Contains bars.old.items kept → key_cmp kept bar ≡ Equal → CanJoin kept bar }
     ensures { OnOk result (IsUnionOf (bars.old.items ++ bar ∷ []) bars.new.items) }
 {
     let Some(last) = bars.last_mut() else {
@@ -226,15 +230,12 @@ fn add<A: Allocator>(bars: &mut Vec<Bar, A>, bar: Bar) -> Result<(), OutOfMemory
 }
 
 /// Two tables in one.
-#[tactic(auto, using(crate::proofs::SumsAreBounded::merging))]
 fn merge_bars<'a, A: Allocator + Clone>(
     alloc: A,
     one: &'a [Bar],
     other: &'a [Bar],
 ) -> Result<Vec<Bar, A>, OutOfMemory>
-    requires one { IsByKey one.now }
-    requires other { IsByKey other.now }
-    requires sums { SumsFit one.now other.now }
+    requires { AllSumsFit (one.now ++ other.now) }
     ensures { IfOk result (λ bars. IsUnionOf (one.now ++ other.now) bars.items) }
 {
     unite(alloc, &[one, other])
@@ -242,18 +243,19 @@ fn merge_bars<'a, A: Allocator + Clone>(
 
 /// One list of the bars of all parts, by key, those of one key made one.
 fn unite<A: Allocator + Clone>(alloc: A, parts: &[&[Bar]]) -> Result<Vec<Bar, A>, OutOfMemory>
-    requires { EachJoins (all_bars (map (λ part. part.now) parts.now)) }
+    requires { AllSumsFit (all_bars (map (λ part. part.now) parts.now)) }
     ensures { IfOk result
         (λ bars. IsUnionOf (all_bars (map (λ part. part.now) parts.now)) bars.items) }
 {
-    let sorted = in_order(alloc.clone()?, parts)?;
+    let mut sorted = all_of(alloc.clone()?, parts)?;
+    sorted.sort_by_key(|bar| (bar.locate, bar.start))?;
     join_all(alloc, sorted.as_slice())
 }
 
-/// The bars of all parts in order of their keys.
-fn in_order<'a, A: Allocator>(alloc: A, parts: &[&'a [Bar]]) -> Result<Vec<&'a Bar, A>, OutOfMemory>
-    ensures { IfOk result (λ sorted. IsOrderOf (all_bars (map (λ part. part.now) parts.now))
-        (map (λ bar. bar.now) sorted.items)) }
+/// The bars of all parts, part by part.
+fn all_of<'a, A: Allocator>(alloc: A, parts: &[&'a [Bar]]) -> Result<Vec<&'a Bar, A>, OutOfMemory>
+    ensures { IfOk result (λ bars. map (λ bar. bar.now) bars.items
+        ≡ all_bars (map (λ part. part.now) parts.now)) }
 {
     let mut bars = Vec::with_capacity(alloc, count_bars(parts))?;
     for part in parts {
@@ -261,24 +263,20 @@ fn in_order<'a, A: Allocator>(alloc: A, parts: &[&'a [Bar]]) -> Result<Vec<&'a B
             bars.push(bar)?;
         }
     }
-    bars.sort_by_key(|bar| (bar.locate, bar.start))?;
     Ok(bars)
 }
 
 /// How many bars the parts have, for room for them to be made.
 fn count_bars(parts: &[&[Bar]]) -> usize {
-    let mut count = 0usize;
-    for part in parts {
-        count = count.saturating_add(part.len());
-    }
-    count
+    let counts = parts.iter().map(|part| part.len());
+    counts.fold(0, |count: usize, more| count.saturating_add(more))
 }
 
 /// Sorted bars in one list, those of one key made one.
 #[tactic(auto, using(std::proofs::lemmas::List::take_all, crate::proofs::JoinedTables::union_of_none))]
 fn join_all<A: Allocator>(alloc: A, sorted: &[&Bar]) -> Result<Vec<Bar, A>, OutOfMemory>
     requires rise { IsSorted key_cmp (map (λ bar. bar.now) sorted.now) }
-    requires sums { EachJoins (map (λ bar. bar.now) sorted.now) }
+    requires sums { AllSumsFit (map (λ bar. bar.now) sorted.now) }
     ensures { IfOk result (λ bars. IsUnionOf (map (λ bar. bar.now) sorted.now) bars.items) }
 {
     let mut bars = Vec::with_capacity(alloc, sorted.len())?;

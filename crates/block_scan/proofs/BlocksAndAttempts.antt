@@ -3,17 +3,19 @@ use Rattle.std.proofs.Common.{◌≡◌, ℕ, zero, suc, ◌<◌, Option, Some, 
 use Rattle.std.specs.Arc.{arc_value}
 use Rattle.std.specs.declared.sync.Arc.{Arc}
 use Rattle.std.specs.List.{AllWithin}
+use Rattle.std.specs.Option.{option_or}
+use Rattle.std.specs.Result.{result_err}
 use Rattle.std.proofs.lemmas.List.{get_or-map, length-map, map_push}
 use Rattle.std.proofs.lemmas.List.FromFn.{length-map-range_with_len}
 use Rattle.std.proofs.lemmas.List.Elements.{All-map}
 use Rattle.lists.specs.Least.{numbers_below}
-use Rattle.block_scan.specs.Attempts.{AreAttemptsOf, AreBlocks, AreOf, AttemptView, BlockView, Gives, block_at, blocks_of, fault_or, first_fault_of}
+use Rattle.block_scan.specs.Attempts.{AreAttemptsOf, AreBlocks, AreOf, AttemptView, BlockView, block_at, blocks_of, first_fault_of}
 use Rattle.block_scan.specs.Pieces.{Asked, IsAskable}
 use Rattle.streaming.specs.declared.fault.SourceFault.{SourceFault}
 use Rattle.block_scan.specs.declared.piece.Piece.{Piece}
 use Rattle.block_scan.specs.declared.request.Request.{Request}
 
-passed : (found : Result Piece SourceFault) (other : Option SourceFault) → IsOk found → fault_or found other ≡ other
+passed : (found : Result Piece SourceFault) (other : Option SourceFault) → IsOk found → option_or (result_err found) other ≡ other
 passed (Ok piece) other is = refl
 passed (Err fault) other is = absurd (true≢false (sym is))
 
@@ -30,7 +32,7 @@ module _ {S : Type 0} where
 
   -- one more block, and what comes of it
   pub are_more : (blocks : List (BlockView S)) (attempts : List (AttemptView S)) (block : BlockView S) (attempt : AttemptView S) → AreOf blocks attempts
-      → Gives block attempt → AreOf (blocks ++ block ∷ []) (attempts ++ attempt ∷ [])
+      → attempt.asked ≡ block.asked → AreOf (blocks ++ block ∷ []) (attempts ++ attempt ∷ [])
   are_more blocks attempts block attempt are gives = rw (map_push, map_push) (ap₂ (λ l a. l ++ a ∷ []) are gives)
 
   -- what comes of some blocks of one source is of it
@@ -51,7 +53,7 @@ module _ {S : Type 0} where
       → first_fault_of attempts ≡ Some fault
   first_found [] k v fault ok below here is = absurd (omega (arith, below))
   first_found (a ∷ attempts) zero v fault ok below here is =
-      ap (λ (found : Result Piece SourceFault). fault_or found (first_fault_of attempts)) (ap (λ (x : AttemptView S). x.found) here ∙ is)
+      ap (λ (found : Result Piece SourceFault). option_or (result_err found) (first_fault_of attempts)) (ap (λ (x : AttemptView S). x.found) here ∙ is)
   first_found (a ∷ attempts) (suc k) v fault ok below here is =
       passed a.found (first_fault_of attempts) (ok 0 a (omega arith) (omega arith))
       ∙ first_found attempts k v fault (λ n d low less. ok (suc n) d (omega arith) (omega (arith, less))) (omega (arith, below)) here is

@@ -2,10 +2,11 @@
 use Rattle.std.proofs.Common.{◌≡◌, ℕ, ◌+◌, ◌<◌, List, [], ◌∷◌, ◌++◌, length, take_at, drop_at, refl, sym, ap, ap₂, ◌∙◌, subst, arith}
 use Rattle.std.proofs.Common.{map, Result}
 use Rattle.std.specs.List.{concat}
-use Rattle.std.proofs.lemmas.List.{length-append}
+use Rattle.std.proofs.lemmas.List.{length-append, map_push}
 use Rattle.std.proofs.lemmas.List.Elements.{All-push}
-use Rattle.lists.proofs.Lists.{concat_push, length-concat_push, map_more}
-use Rattle.day_file.specs.Cuts.{AreBytes, IsRun, MorselView}
+use Rattle.lists.proofs.Lists.{concat_push, length-concat_push}
+use Rattle.lists.specs.Among.{AreBytes}
+use Rattle.day_file.specs.Cuts.{IsRun, MorselView}
 use Rattle.day_file.specs.Frames.{IsStuck, IsTruncatedAt, IsWhole, PlacedBody, StandsFrom}
 use Rattle.day_file.specs.Kept.{numbered}
 use Rattle.day_file.specs.Walk.{frames_of}
@@ -16,7 +17,7 @@ use Rattle.day_file.proofs.Walks.{walk_whole}
 use Rattle.scanning.specs.Scans.{ScanInputView, ScanTotalView, inputs_of, scan_of, total_of, with_scan}
 use Rattle.scanning.proofs.TotalOfScans.{total_more}
 use Rattle.block_scan.specs.Blocks.{GaveWhole}
-use Rattle.block_scan.specs.Pieces.{Asked, IsChained, IsPiece, IsTried, EndsBy}
+use Rattle.block_scan.specs.Pieces.{Asked, IsChained, IsPiece, IsTried}
 use Rattle.streaming.specs.declared.fault.SourceFault.{SourceFault}
 use Rattle.block_scan.specs.declared.piece.Piece.{Piece}
 use Rattle.block_scan.specs.declared.piece.Tail.TheVariants.{Cut}
@@ -36,7 +37,7 @@ total_with request place runs frames run stands here =
     let input : MorselView → ScanInputView = λ morsel. record { morsel = morsel; as_of = request.as_of; parts = request.parts } in
     let last : MorselView = record { number = 0 + length runs; start = 0 + length (concat runs); bytes = run } in
     let inputs : inputs_of request.as_of request.parts (runs ++ run ∷ []) ≡ inputs_of request.as_of request.parts runs ++ input last ∷ [] =
-    ap (map input) (numbered-last 0 0 runs run) ∙ map_more input (numbered 0 0 runs) last in
+    ap (map input) (numbered-last 0 0 runs run) ∙ map_push input (numbered 0 0 runs) last in
     let at : place ≡ last.start = omega (arith, here) in
     let walked : frames_of last ≡ frames = walk_whole last.start run frames (subst (λ k. StandsFrom k frames run) at stands) in
     ap total_of inputs ∙ total_more (inputs_of request.as_of request.parts runs) (input last)
@@ -65,14 +66,14 @@ module _ {S : Type 0} (GaveAt : S → ℕ → List ℕ → Type 0) (EndsAt : S �
         bytes = All-push AreBytes runs run chained.bytes is.are;
         gave = rw concat_push (gave_behind run (gave_front source piece.start run is.rest is.gave));
         at_is = omega (arith, is.end_is, begins, chained.at_is, length-concat_push runs run);
-        within = is.within;
+        within = omega (arith, is.within);
         are = ap₂ with_scan chained.are is.scan ∙ sym (total_with request piece.start runs is.frames run is.stands (begins ∙ chained.at_is));
       }
 
   -- where it ends at a frame that is cut off, the source is truncated there
   pub chain_cut : piece.tail ≡ Cut → (day : List ℕ) × GaveWhole GaveAt EndsAt request.limit source day × IsTruncatedAt day piece.end
   chain_cut cut =
-      let tail = subst (EndsBy GaveAt EndsAt source request.limit piece.end is.rest) cut is.tail in
+      let tail = is.cut cut in
       let before = concat chained.runs in
       let behind = is.bytes ++ is.rest in
       let day = before ++ behind in
@@ -89,7 +90,7 @@ module _ {S : Type 0} (GaveAt : S → ℕ → List ℕ → Type 0) (EndsAt : S �
         record {
           gave = gave_behind behind is.gave;
           ended = subst (EndsAt source) (sym long) tail.2;
-          within = omega (arith, long, tail.3);
+          within = omega (arith, long, is.within);
         },
         subst (IsTruncatedAt day) place
             (truncated_later day (length before) (length is.bytes) (subst IsWhole (sym (take_at before behind (length before) refl)) front)

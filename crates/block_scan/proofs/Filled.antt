@@ -1,16 +1,16 @@
 -- What a piece has read and walked so far.
 use Rattle.std.proofs.Common.{◌≡◌, ℕ, ◌+◌, ◌-◌, ◌<◌, ◌≤◌, List, [], ◌∷◌, ◌++◌, length, take, drop, sym, ap, ◌∙◌, subst, arith, append_assoc, take_at}
 use Rattle.std.proofs.lemmas.List.{drop-take, length-append, length-drop, take-append-drop, take-append-le, length-take-le}
-use Rattle.std.proofs.lemmas.List.Edits.{take-paste}
-use Rattle.std.proofs.lemmas.List.Elements.{All-append}
+use Rattle.std.proofs.lemmas.List.Elements.{All-append, All-drop, All-take}
 use Rattle.std.proofs.Math.Seq.{take-append-add}
 use borrow.Rule.Slice.PartMut.{put_mid}
 use lib.Seq.{paste}
-use Rattle.day_file.specs.Cuts.{AreBytes}
+use Rattle.lists.specs.Among.{AreBytes}
 use Rattle.day_file.specs.Frames.{PlacedBody, IsStuck, StandsFrom}
 use Rattle.day_file.proofs.Joined.{StandsFrom-append}
 use Rattle.scanning.specs.Scans.{ScanView, scan_of}
-use Rattle.block_scan.specs.Pieces.{IsAskable, IsWalked}
+use Rattle.block_scan.specs.Pieces.{IsAskable}
+use Rattle.block_scan.proofs.Walked.{IsWalked, stuck_short}
 use Rattle.block_scan.specs.declared.request.Request.{Request}
 
 -- the bytes of whole frames from the start on were read and walked, and behind them those that the buffer begins with were read
@@ -20,6 +20,7 @@ pub record IsFilling {S : Type 0} (GaveAt : S → ℕ → List ℕ → Type 0) (
   pub bytes : List ℕ
   pub room : 65537 < length buffer
   pub filled_is : length (take filled buffer) ≡ filled
+  pub held : AreBytes (take filled buffer)
   pub gave : GaveAt source start (bytes ++ take filled buffer)
   pub stands : StandsFrom start frames bytes
   pub are : AreBytes bytes
@@ -55,10 +56,11 @@ module _ {S : Type 0} (GaveAt : S → ℕ → List ℕ → Type 0)
   pub fills_more : {source : S} {request : Request} {start target place filled walked : ℕ} (count : ℕ) {buffer all last piece : List ℕ} {scan new : ScanView}
       → IsAskable request → IsFilling GaveAt source request start target place filled buffer scan → GaveAt source (place + filled) piece
       → all ≡ take filled buffer ++ piece → length all ≡ filled + count → place + filled + count ≤ request.limit
-      → IsWalked request.as_of all place target walked scan new → take (filled + count - walked) last ≡ drop walked all → length last ≡ length buffer
+      → AreBytes all → IsWalked request.as_of all place target walked scan new → take (filled + count - walked) last ≡ drop walked all
+      → length last ≡ length buffer
       → IsFilling GaveAt source request start target (place + walked) (filled + count - walked) last new
-  fills_more {source} {request} {start} {place = place} {filled = filled} {walked = walked} count {buffer} {all} {last} {piece} ask old gave all_is n fits w
-      kept long =
+  fills_more {source} {request} {start} {place = place} {filled = filled} {walked = walked} count {buffer} {all} {last} {piece} ask old gave all_is n fits
+      are_all w kept long =
       let halves : all ≡ take walked all ++ drop walked all = sym (take-append-drop walked all) in
       let whole : GaveAt source start (old.bytes ++ all) = subst (λ l. GaveAt source start (old.bytes ++ l)) (sym all_is)
       (gave_on source start place filled old.bytes (take filled buffer) piece old.gave old.place_is old.filled_is gave) in
@@ -68,17 +70,18 @@ module _ {S : Type 0} (GaveAt : S → ℕ → List ℕ → Type 0)
         bytes = old.bytes ++ take walked all;
         room = omega (arith, long, old.room);
         filled_is = omega (arith, ap length kept, length-drop walked all, n);
+        held = subst AreBytes (sym kept) (All-drop (λ byte. byte < 256) walked all are_all);
         gave = subst (GaveAt source start)
             (ap (λ l. old.bytes ++ l) halves ∙ sym (append_assoc old.bytes (take walked all) (drop walked all))
             ∙ ap (λ l. (old.bytes ++ take walked all) ++ l) (sym kept)) whole;
         stands = StandsFrom-append start old.frames w.frames old.bytes (take walked all) old.stands
             (subst (λ k. StandsFrom k w.frames (take walked all)) old.place_is w.stands);
-        are = All-append (λ byte. byte < 256) old.bytes (take walked all) old.are w.are;
+        are = All-append (λ byte. byte < 256) old.bytes (take walked all) old.are (All-take (λ byte. byte < 256) walked all are_all);
         place_is = omega (arith, old.place_is, length-append old.bytes (take walked all), front);
         within = omega (arith, fits, n, w.within);
         scan_is = w.takes request.parts old.frames ask.some ask.most old.scan_is;
         stuck = λ h. subst IsStuck (sym kept) (w.ends h);
-        short = λ h. omega (arith, w.short h, n, w.within);
+        short = λ h. omega (arith, n, length-drop walked all, stuck_short (drop walked all) (All-drop (λ byte. byte < 256) walked all are_all) (w.ends h));
       }
 
 -- ---- a byte behind the limit

@@ -1,8 +1,15 @@
 -- The tasks of a source that is read at places: its blocks, and what came of them.
 -- To be believed of a crate used by itself: a promise of the program speaks of the whole source alone.
-use Rattle.std.specs.Prelude.{◌≡◌, ℕ, ◌+◌, ◌*◌, ◌<◌, ◌==◌, ◌&&◌, Bool, nat_eq, min, if◌then◌else◌, List, [], ◌∷◌, All, map, length, Option, Some, None, Result, Ok, Err}
-use Rattle.std.specs.Option.{option_eq}
+use Rattle.std.specs.Prelude.{◌≡◌, ℕ, ◌+◌, ◌*◌, ◌<◌, ◌==◌, ◌&&◌, Bool, true, nat_eq, min, if◌then◌else◌}
+use Rattle.std.specs.Prelude.{List, [], ◌∷◌, All, map, length, Option, None, Result}
+use Rattle.std.specs.Cmp.{IsEquivalence}
+use Rattle.std.specs.Option.{option_eq, option_or}
+use Rattle.std.specs.Result.{result_err}
+use Rattle.std.proofs.Common.{arith, sym, ap, ◌∙◌, subst}
+use Rattle.std.proofs.lemmas.Bool.Decides.{nat_tests}
+use Rattle.lists.proofs.Exact.{IsExact, exact_equiv, exact_list, exact_nat, exact_option}
 use Rattle.lists.specs.Least.{numbers_below}
+use Rattle.gathering.specs.Adding.{same_inputs}
 use Rattle.streaming.specs.declared.fault.SourceFault.{SourceFault}
 use Rattle.block_scan.specs.declared.piece.Piece.{Piece}
 use Rattle.block_scan.specs.declared.request.Request.{Request}
@@ -26,11 +33,6 @@ abbrev pub is_same_request : Request → Request → Bool
 is_same_request a b =
     (a.limit == b.limit) && option_eq nat_eq a.as_of b.as_of && (a.parts == b.parts) && (a.block == b.block)
 
--- the fault, or where there is a piece the other fault
-abbrev pub fault_or : Result Piece SourceFault → Option SourceFault → Option SourceFault
-fault_or (Ok _) other = other
-fault_or (Err fault) _ = Some fault
-
 module _ {S : Type 0} where
   -- both blocks are of equal sources, between the same places, and the same is asked of them
   abbrev pub is_same_block : (S → S → Bool) → BlockView S → BlockView S → Bool
@@ -50,10 +52,6 @@ module _ {S : Type 0} where
   abbrev pub blocks_of : S → Request → ℕ → List (BlockView S)
   blocks_of source request count = map (block_at source request count) (numbers_below count)
 
-  -- this may come of the block: an attempt at the same source for the same request
-  abbrev pub Gives : BlockView S → AttemptView S → Type 0
-  Gives block attempt = attempt.asked ≡ block.asked
-
   -- these may come of the blocks, one of each, in order
   abbrev pub AreOf : List (BlockView S) → List (AttemptView S) → Type 0
   AreOf blocks attempts = map (λ attempt. attempt.asked) attempts ≡ map (λ block. block.asked) blocks
@@ -68,9 +66,39 @@ module _ {S : Type 0} where
   -- the fault of the first attempt that has no piece
   abbrev pub first_fault_of : List (AttemptView S) → Option SourceFault
   first_fault_of [] = None
-  first_fault_of (attempt ∷ attempts) = fault_or attempt.found (first_fault_of attempts)
+  first_fault_of (attempt ∷ attempts) = option_or (result_err attempt.found) (first_fault_of attempts)
 
   -- there is at least one attempt, and all are at blocks of this source for this request
   pub record AreAttemptsOf (asked : Asked S) (attempts : List (AttemptView S)) : Type 0 where
     pub some : 0 < length attempts
     pub each : All (λ attempt. attempt.asked ≡ asked) attempts
+
+-- ---- blocks that compare as equal are one
+
+exact_request : IsExact is_same_request
+exact_request = record {
+  itself = λ a. grind (arith, nat_tests, (exact_option exact_nat).itself);
+  one = λ a b h. grind (arith, nat_tests, (exact_option exact_nat).one);
+}
+
+module _ {S : Type 0} {eq : S → S → Bool} (laws : IsEquivalence eq) (one : (a b : S) → eq a b ≡ true → a ≡ b) where
+  exact_block : IsExact (is_same_block eq)
+  exact_block = record {
+    itself = λ a. grind (arith, nat_tests, laws.refl, exact_request.itself);
+    one = λ a b h.
+        let source = one a.asked.source b.asked.source in
+        let request = exact_request.one a.asked.request b.asked.request in
+        grind (arith, nat_tests);
+  }
+
+  pub block_equiv : IsEquivalence (is_same_block eq)
+  block_equiv = exact_equiv exact_block
+
+  pub equal_blocks : (a b : BlockView S) (attempt : AttemptView S) → is_same_block eq a b ≡ true
+      → attempt.asked ≡ a.asked → attempt.asked ≡ b.asked
+  equal_blocks a b attempt same gives = gives ∙ ap (λ (block : BlockView S). block.asked) (exact_block.one a b same)
+
+  pub equal_attempts : (xs ys : List (BlockView S)) → same_inputs (is_same_block eq) xs ys ≡ true
+      → (attempts : List (AttemptView S)) → AreOf ys attempts → AreOf xs attempts
+  equal_attempts xs ys same attempts are =
+      subst (λ blocks. AreOf blocks attempts) (sym ((exact_list exact_block).one xs ys same)) are

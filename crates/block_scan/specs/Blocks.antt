@@ -1,15 +1,17 @@
 -- What a source gave to readings at places, and what is known of it then.
 -- To be believed.
-use Rattle.std.specs.Prelude.{ℕ, ◌≤◌, List, [], ◌∷◌, length}
+use Rattle.std.specs.Prelude.{◌≡◌, ℕ, ◌+◌, ◌≤◌, Bool, nat_eq, List, [], ◌∷◌, ◌++◌, length, take, drop, Option, None, Some, IfSome}
+use Rattle.std.specs.Cmp.Lexicographic.{pointwise}
+use Rattle.std.specs.Option.{option_eq}
+use Rattle.std.proofs.Common.{arith, refl, sym, ap, ◌∙◌}
+use Rattle.std.proofs.Math.Seq.{drop-append_seam, take-add, take-append_seam}
+use Rattle.std.proofs.lemmas.List.{drop-drop, drop-take, length-append, take-take}
+use Rattle.lists.proofs.Exact.{IsExact, exact_list, exact_nat, exact_option}
 use Rattle.streaming.specs.Readings.{IsSourceFault, Reading}
 use Rattle.streaming.specs.declared.fault.SourceFault.{SourceFault}
 
 -- S is a source, and `GaveAt` says which bytes it gave to readings from a place on.
 module _ {S : Type 0} (GaveAt : S → ℕ → List ℕ → Type 0) where
-  -- the source gave a byte at the limit, counted from 0: one more than it may have
-  abbrev pub GaveMoreAt : ℕ → S → Type 0
-  GaveMoreAt limit source = (byte : ℕ) × GaveAt source limit (byte ∷ [])
-
   -- readings gave these bytes from the source's start on, no more than the limit, and one found no byte after them
   pub record GaveWhole (EndsAt : S → ℕ → Type 0) (limit : ℕ) (source : S) (day : List ℕ) : Type 0 where
     pub gave : GaveAt source 0 day
@@ -25,7 +27,7 @@ abbrev pub of_blocks : {S : Type 0} → (S → ℕ → List ℕ → Type 0) → 
 of_blocks GaveAt EndsAt FailsAt limit source = record {
   all = GaveWhole GaveAt EndsAt limit source;
   some = Unit {0};
-  longer = GaveMoreAt GaveAt limit source;
+  longer = (byte : ℕ) × GaveAt source limit (byte ∷ []);
   failed = (place : ℕ) × FailsAt source place;
   too_many = ⊥;
   untouched = Unit {0};
@@ -35,3 +37,45 @@ of_blocks GaveAt EndsAt FailsAt limit source = record {
 abbrev pub IsBlocksFault : {S : Type 0} → (S → ℕ → List ℕ → Type 0) → (S → ℕ → Type 0) → (S → ℕ → Type 0)
     → S → ℕ → SourceFault → Type 0
 IsBlocksFault GaveAt EndsAt FailsAt source limit = IsSourceFault (of_blocks GaveAt EndsAt FailsAt limit source)
+
+-- ---- what a device gives at places, if it is known what it holds
+
+-- these bytes are at this place, if it is known which are
+abbrev pub KnownAt : Option (List ℕ) → ℕ → List ℕ → Type 0
+KnownAt held place bytes = IfSome held (λ all. take (length bytes) (drop place all) ≡ bytes)
+
+-- no byte is at this place, if that is known
+abbrev pub KnownEnd : Option (List ℕ) → ℕ → Type 0
+KnownEnd held place = IfSome held (λ all. length all ≤ place)
+
+-- what is known of both is the same
+abbrev pub is_known_same : Option (List ℕ) → Option (List ℕ) → Bool
+is_known_same a b = option_eq (pointwise nat_eq) a b
+
+pub exact_known : IsExact is_known_same
+exact_known = exact_option (exact_list exact_nat)
+
+pub known_nothing : (held : Option (List ℕ)) (place : ℕ) → KnownAt held place []
+known_nothing None place = tt
+known_nothing (Some all) place = refl
+
+pub known_more : (held : Option (List ℕ)) (place : ℕ) (xs ys : List ℕ) → KnownAt held place xs
+    → KnownAt held (place + length xs) ys → KnownAt held place (xs ++ ys)
+known_more None place xs ys p q = tt
+known_more (Some all) place xs ys p q =
+    rw (length-append xs ys, take-add (length xs) (length ys) (drop place all), p, drop-drop (length xs) place all)
+    (ap (λ l. xs ++ l) q)
+
+pub known_front : (held : Option (List ℕ)) (place : ℕ) (xs ys : List ℕ) → KnownAt held place (xs ++ ys)
+    → KnownAt held place xs
+known_front None place xs ys p = tt
+known_front (Some all) place xs ys p =
+    sym (take-take (length xs) (length (xs ++ ys)) (drop place all) (omega (arith, length-append xs ys)))
+    ∙ ap (take (length xs)) p ∙ take-append_seam xs ys
+
+pub known_back : (held : Option (List ℕ)) (place : ℕ) (xs ys : List ℕ) → KnownAt held place (xs ++ ys)
+    → KnownAt held (place + length xs) ys
+known_back None place xs ys p = tt
+known_back (Some all) place xs ys p =
+    rw (← drop-drop (length xs) place all, ← drop-take (length xs) (length ys) (drop place all), ← length-append xs ys)
+    (ap (drop (length xs)) p ∙ drop-append_seam xs ys)

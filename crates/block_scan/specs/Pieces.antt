@@ -1,17 +1,16 @@
 -- What is known of pieces of a source that were read and scanned.
 -- To be believed of a crate used by itself: a promise of the program speaks of the whole source alone.
-use Rattle.std.specs.Prelude.{◌≡◌, ℕ, ◌+◌, ◌<◌, ◌≤◌, List, ◌++◌, length, take, drop, All}
-use Rattle.std.specs.Prelude.{Bool, false, Option, Result, Ok, Err, IfOk, IfErr}
+use Rattle.std.specs.Prelude.{◌≡◌, ℕ, ◌+◌, ◌<◌, ◌≤◌, List, ◌++◌, length, All, Bool, false, Result, Ok, Err, IfOk, IfErr}
 use Rattle.std.specs.List.{concat}
 use Rattle.lists.specs.declared.limits.TheConstants.{LONGEST_FILE, MOST_PARTITIONS}
-use Rattle.day_file.specs.Cuts.{AreBytes, IsRun}
+use Rattle.lists.specs.Among.{AreBytes}
+use Rattle.day_file.specs.Cuts.{IsRun}
 use Rattle.day_file.specs.Frames.{IsStuck, PlacedBody, StandsFrom}
-use Rattle.scanning.specs.Scans.{ScanTotalView, ScanView, TakesIn, inputs_of, scan_of, total_of}
+use Rattle.scanning.specs.Scans.{ScanTotalView, inputs_of, scan_of, total_of}
 use Rattle.block_scan.specs.Blocks.{IsBlocksFault}
 use Rattle.streaming.specs.declared.fault.SourceFault.{SourceFault}
 use Rattle.block_scan.specs.declared.piece.Piece.{Piece}
-use Rattle.block_scan.specs.declared.piece.Tail.{Tail}
-use Rattle.block_scan.specs.declared.piece.Tail.TheVariants.{More, Whole, Cut}
+use Rattle.block_scan.specs.declared.piece.Tail.TheVariants.{Whole, Cut}
 use Rattle.block_scan.specs.declared.request.Request.{Request}
 
 -- the limit is no longer than a file may be, and the number of partitions is one that is allowed
@@ -33,28 +32,10 @@ module _ (S : Type 0) where
     pub at : ℕ
     pub total : ScanTotalView
 
--- what a walk did over bytes that begin at this place: the frames of the first `walked` of them were taken in, and it
--- ended at the target, or where there is no whole frame
-pub record IsWalked (as_of : Option ℕ) (bytes : List ℕ) (place target walked : ℕ) (old new : ScanView)
-    : Type 0 where
-  pub frames : List PlacedBody
-  pub within : walked ≤ length bytes
-  pub stands : StandsFrom place frames (take walked bytes)
-  pub are : AreBytes (take walked bytes)
-  pub takes : TakesIn as_of frames old new
-  pub ends : place + walked < target → IsStuck (drop walked bytes)
-  pub short : place + walked < target → length bytes < walked + 65538
-
 -- S is a source. `GaveAt` says which bytes it gave to readings from a place on, and `EndsAt` that one found none there.
 module _ {S : Type 0} (GaveAt : S → ℕ → List ℕ → Type 0) (EndsAt : S → ℕ → Type 0) where
-  -- how a piece ended at this place, after which `rest` was read too
-  abbrev pub EndsBy : S → ℕ → ℕ → List ℕ → Tail → Type 0
-  EndsBy source limit end rest More = Unit {0}
-  EndsBy source limit end rest Whole = EndsAt source end
-  EndsBy source limit end rest Cut =
-      (0 < length rest) × IsStuck rest × EndsAt source (end + length rest) × (end + length rest ≤ limit)
-
-  -- a piece: bytes that were read from its start on, the scan of their frames, and how it ended
+  -- a piece: bytes that were read from its start on, the scan of their frames, and, where it ended at no target, that
+  -- the source ends there, or behind the rest, which begins with no whole frame
   pub record IsPiece (source : S) (request : Request) (piece : Piece) : Type 0 where
     pub frames : List PlacedBody
     pub bytes : List ℕ
@@ -63,9 +44,10 @@ module _ {S : Type 0} (GaveAt : S → ℕ → List ℕ → Type 0) (EndsAt : S �
     pub stands : StandsFrom piece.start frames bytes
     pub are : AreBytes bytes
     pub end_is : piece.end ≡ piece.start + length bytes
-    pub within : piece.end ≤ request.limit
+    pub within : piece.end + length rest ≤ request.limit
     pub scan : piece.scanned ≡ scan_of request.parts request.as_of frames
-    pub tail : EndsBy source request.limit piece.end rest piece.tail
+    pub ended : piece.tail ≡ Whole → EndsAt source piece.end
+    pub cut : piece.tail ≡ Cut → (0 < length rest) × IsStuck rest × EndsAt source (piece.end + length rest)
 
   -- what comes of a block: a piece, or why there is none
   abbrev pub IsTried : (S → ℕ → Type 0) → S → Request → Result Piece SourceFault → Type 0

@@ -2,8 +2,7 @@
 ghost use Rattle.std.specs.Prelude.{◌≤◌};
 ghost use Rattle.std.specs.Arc.{arc_value};
 ghost use Rattle.std.specs.Cmp.{partial_equiv_from_equiv};
-ghost use Rattle.block_scan.specs.Attempts.{BlockView, is_same_block};
-ghost use Rattle.block_scan.specs.EqualBlocks.{block_equiv};
+ghost use Rattle.block_scan.specs.Attempts.{BlockView, block_equiv, is_same_block};
 ghost use Rattle.block_scan.specs.Pieces.{IsAskable};
 
 use crate::request::Request;
@@ -37,7 +36,7 @@ impl<S: BlockSource> Model for Block<S> {
 impl<S: BlockSource> PartialEq for Block<S> {
     ghost eq = { is_same_block S.eq };
 
-    ghost laws = { partial_equiv_from_equiv (block_equiv S.eq S.Eq.laws) };
+    ghost laws = { partial_equiv_from_equiv (block_equiv S.Eq.laws S.one_source) };
 
     fn eq(&self, other: &Self) -> bool {
         *self.source == *other.source
@@ -48,5 +47,5 @@ impl<S: BlockSource> PartialEq for Block<S> {
 }
 
 impl<S: BlockSource> Eq for Block<S> {
-    ghost laws = { block_equiv S.eq S.Eq.laws };
+    ghost laws = { block_equiv S.Eq.laws S.one_source };
 }

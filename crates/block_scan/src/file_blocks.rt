@@ -1,9 +1,9 @@
 //! Open files as devices that are read at places.
 ghost use Rattle.std.specs.Prelude.{◌≡◌, ◌<◌, ◌≤◌, ℕ, List, Option, None, IfOk, length, take};
 ghost use Rattle.std.specs.Cmp.{partial_equiv_from_equiv};
-ghost use Rattle.block_scan.specs.Known.{KnownAt, KnownEnd, is_known_same};
-ghost use Rattle.block_scan.specs.KnownLaws.{known_back, known_equiv, known_front, known_more, known_nothing};
-ghost use Rattle.block_scan.specs.KnownLaws.{one_known};
+ghost use Rattle.lists.proofs.Exact.{exact_equiv};
+ghost use Rattle.block_scan.specs.Blocks.{KnownAt, KnownEnd, exact_known, is_known_same};
+ghost use Rattle.block_scan.specs.Blocks.{known_back, known_front, known_more, known_nothing};
 
 use crate::source::BlockSource;
 use day_file::DeviceFailed;
@@ -69,7 +69,7 @@ impl<F: ReadsAt> FileBlocks<F> {
 impl<F: ReadsAt> PartialEq for FileBlocks<F> {
     ghost eq = { is_known_same };
 
-    ghost laws = { partial_equiv_from_equiv known_equiv };
+    ghost laws = { partial_equiv_from_equiv (exact_equiv exact_known) };
 
     fn eq(&self, other: &Self) -> bool {
         self.file.is_same(&other.file)
@@ -77,7 +77,7 @@ impl<F: ReadsAt> PartialEq for FileBlocks<F> {
 }
 
 impl<F: ReadsAt> Eq for FileBlocks<F> {
-    ghost laws = { known_equiv };
+    ghost laws = { exact_equiv exact_known };
 }
 
 impl<F: ReadsAt> BlockSource for FileBlocks<F> {
@@ -96,7 +96,7 @@ impl<F: ReadsAt> BlockSource for FileBlocks<F> {
 
     ghost gave_back = { known_back };
 
-    ghost one_source = { one_known };
+    ghost one_source = { exact_known.one };
 
     fn read_at(&self, place: u64, into: &mut [u8]) -> Result<usize, DeviceFailed> {
         self.file.get(place, into)

@@ -1,8 +1,9 @@
 //! Pieces that are read and scanned through one buffer.
-ghost use Rattle.std.specs.Prelude.{◌≡◌, ◌≤◌, ◌<◌, ◌+◌, ◌-◌, length, take, drop, vec_len, IfErr, IfOk, OnOk};
+ghost use Rattle.std.specs.Prelude.{◌≡◌, ◌≤◌, ◌<◌, ◌+◌, length, take, vec_len, IfErr, IfOk};
 ghost use Rattle.lists.specs.declared.limits.TheConstants.{LONGEST_FILE};
+ghost use Rattle.lists.specs.Among.{AreBytes};
 ghost use Rattle.block_scan.specs.Blocks.{IsBlocksFault};
-ghost use Rattle.block_scan.specs.Pieces.{IsAskable, IsTried, IsWalked};
+ghost use Rattle.block_scan.specs.Pieces.{IsAskable, IsTried};
 
 use crate::OutOfMemory;
 use crate::block::Block;
@@ -23,7 +24,7 @@ const BUFFER: usize = 126_976;
 
 /// How many bytes are looked at for where a frame begins, and how many behind its target a piece reads at a
 /// time, since its last frame mostly ends there.
-const SEEN: usize = 4_096;
+pub(crate) const SEEN: usize = 4_096;
 
 /// The piece of a block, from the place on where a frame seems to begin.
 pub(crate) fn scan_block<S: BlockSource>(
@@ -33,8 +34,7 @@ pub(crate) fn scan_block<S: BlockSource>(
     ensures { IsTried S.GaveAt S.EndsAt S.FailsAt block.now.asked.source block.now.asked.request result }
 {
     let (source, request) = (&*block.source, block.request);
-    let mut seen = [0u8; SEEN];
-    let start = guess(source, block.from, request.limit, &mut seen)?;
+    let start = guess(source, block.from, request.limit)?;
     let mut buffer = zeros(alloc)?;
     scan_piece(alloc, source, request, start, block.to, &mut buffer)
 }
@@ -49,6 +49,7 @@ pub(crate) fn zeros(alloc: Global) -> Result<Vec<u8>, OutOfMemory>
 /// Reads from the start on, and scans the whole frames that it reads, up to the first one that
 /// begins at or after the target, or to the source's end. It keeps no more of the bytes than the
 /// buffer has room for.
+#[tactic(auto, using(crate::proofs::Walked::walked_within))]
 pub(crate) fn scan_piece<S: BlockSource>(
     alloc: Global,
     source: &S,
@@ -83,10 +84,11 @@ pub(crate) fn scan_piece<S: BlockSource>(
             });
         }
         filled += count;
-        let walked = walk(&buffer[..filled], place, target, request.as_of, &mut scan)?;
-        buffer.copy_within(walked..filled, 0);
-        filled -= walked;
-        place += walked as u64;
+        let frames = Frames::of(place, &buffer[..filled]);
+        let walked = scan.take_in(request.as_of, frames, target - place)?;
+        buffer.copy_within(walked as usize..filled, 0);
+        filled -= walked as usize;
+        place += walked;
     }
     let scanned = scan.finish(alloc)?;
     Ok(Piece {
@@ -112,6 +114,7 @@ fn read_some<S: BlockSource>(
     requires room { 0 < length into.old }
     ensures count { IfOk result (λ n. n ≤ length into.new) }
     ensures gave { IfOk result (λ n. S.GaveAt source.now place (take n into.new)) }
+    ensures bytes { IfOk result (λ n. AreBytes (take n into.new)) }
     ensures within { IfOk result (λ n. place + n ≤ limit) }
     ensures end { IfOk result (λ n. n ≡ 0 → S.EndsAt source.now place) }
     ensures fault { IfErr result (IsBlocksFault S.GaveAt S.EndsAt S.FailsAt source.now limit) }
@@ -122,24 +125,4 @@ fn read_some<S: BlockSource>(
         return Err(SourceFault::TooLong);
     }
     Ok(count)
-}
-
-/// Takes the whole frames of bytes that begin at this place into the scan, up to the first one that
-/// begins at or after the target, and says how many bytes they have.
-fn walk(
-    bytes: &[u8],
-    place: u64,
-    target: u64,
-    as_of: Option<u32>,
-    scan: &mut OpenScan,
-) -> Result<usize, OutOfMemory>
-    requires { place + length bytes.now ≤ LONGEST_FILE }
-    ensures { IfOk result (λ walked. IsWalked as_of bytes.now place target walked scan.old scan.new) }
-{
-    let walked = scan.take_in(
-        as_of,
-        Frames::of(place, bytes),
-        target.saturating_sub(place),
-    )?;
-    Ok(walked as usize)
 }

@@ -1,8 +1,7 @@
 //! The work whose tasks are the blocks of a source.
 ghost use Rattle.std.specs.Prelude.{◌≡◌};
 ghost use Rattle.std.specs.Arc.{arc_value};
-ghost use Rattle.block_scan.specs.Attempts.{AreBlocks, AreOf, Gives};
-ghost use Rattle.block_scan.specs.EqualBlocks.{equal_attempts, equal_blocks};
+ghost use Rattle.block_scan.specs.Attempts.{AreBlocks, AreOf, equal_attempts, equal_blocks};
 
 use crate::OutOfMemory;
 use crate::attempt::{Attempt, Attempts};
@@ -30,15 +29,15 @@ impl<S: BlockSource + Send + Sync> Work for BlockWork<S> {
 
     type Total = Attempts<S>;
 
-    ghost Gives = { λ block attempt. Gives block (arc_value attempt) };
+    ghost Gives = { λ block attempt. (arc_value attempt).asked ≡ block.asked };
 
     ghost IsTotalOf = { AreOf };
 
     ghost IsAdmissible = { AreBlocks };
 
-    ghost equal_values = { λ a b attempt. equal_blocks S.eq S.one_source a b (arc_value attempt) };
+    ghost equal_values = { λ a b attempt. equal_blocks S.Eq.laws S.one_source a b (arc_value attempt) };
 
-    ghost equal_totals = { equal_attempts S.eq S.one_source };
+    ghost equal_totals = { equal_attempts S.Eq.laws S.one_source };
 
     fn run(alloc: Global, input: &Block<S>) -> Result<Arc<Attempt<S>, Global>, OutOfMemory> {
         let found = match scan_block(alloc, input) {

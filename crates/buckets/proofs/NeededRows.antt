@@ -10,7 +10,7 @@ use Rattle.order_table.proofs.PartRows.{price_where}
 use Rattle.order_filter.specs.Filters.{AreNeeded, is_needed}
 use Rattle.order_filter.proofs.FilteredOrders.{all_pass, distinct_filter, first_repeated_where}
 use Rattle.probe.specs.Pricing.{Execution, first_unknown, is_unknown, priced, sale_at, sale_of, unknown_of}
-use Rattle.probe.specs.PricedBefore.{IsPricingOf}
+use Rattle.probe.specs.Pricing.{IsPricingOf}
 use Rattle.probe.specs.declared.pricing.Priced.{Priced}
 
 module _ (rows needed : List OrderRow) (executions : List Execution)

@@ -4,14 +4,16 @@ use Rattle.std.specs.Arc.{arc_value}
 use Rattle.std.specs.declared.sync.Arc.{Arc}
 use Rattle.std.proofs.lemmas.List.Elements.{filter_map-append}
 use Rattle.lists.specs.Least.{least_by}
-use Rattle.lists.proofs.Least.{best_by-append, better_option, lesser_ranks}
+use Rattle.std.proofs.lemmas.List.MinMax.{IsStrictWeakOrder-by_number}
+use Rattle.lists.proofs.Least.{best_by-append, better_option}
 use Rattle.order_table.specs.declared.table.Repeated.{Repeated}
 use Rattle.row_types.specs.declared.trade.Unknown.{Unknown}
 use Rattle.buckets.specs.Buckets.{found, total_found}
 use Rattle.buckets.specs.FoundRows.{FoundView, all_found, with_found}
 use Rattle.buckets.specs.BucketRows.{BucketView}
 use Rattle.buckets.specs.declared.product.Product.{Product}
-use Rattle.lists.proofs.Lists.{cons_nil, map_more}
+use Rattle.std.proofs.lemmas.List.{map_push}
+use Rattle.lists.proofs.Lists.{cons_nil}
 
 module _ {W : Type 0} (place : W → ℕ) where
   least_itself : (o : Option W) → least_by place (option_to_list o) ≡ o
@@ -23,7 +25,7 @@ module _ {W : Type 0} (place : W → ℕ) where
       → least_by place (filter_map f (front ++ x ∷ [])) ≡ least_by place (option_to_list (least_by place (filter_map f front)) ++ option_to_list (f x))
   least_more f front x =
       let beats : W → W → Bool = λ y best. ltb (place y) (place best) in
-      let ranks = lesser_ranks place in
+      let ranks = IsStrictWeakOrder-by_number place in
       ap (least_by place) (filter_map-append f front (x ∷ []) ∙ ap (λ l. filter_map f front ++ l) (cons_nil (f x)))
       ∙ best_by-append beats ranks (filter_map f front) (option_to_list (f x))
       ∙ ap (λ o. better_option beats ranks o (least_by place (option_to_list (f x)))) (sym (least_itself (least_by place (filter_map f front))))
@@ -31,17 +33,17 @@ module _ {W : Type 0} (place : W → ℕ) where
 
 -- the total of one bucket more
 pub total_found_more : (before : List BucketView) (next : BucketView) → total_found (before ++ next ∷ []) ≡ with_found (total_found before) (found next)
-total_found_more before next = ap all_found (map_more found before next) ∙ more (map found before) (found next)
+total_found_more before next = ap all_found (map_push found before next) ∙ more (map found before) (found next)
   where
     more : (all : List FoundView) (one : FoundView) → all_found (all ++ one ∷ []) ≡ with_found (all_found all) one
     more all one =
         let repeated = least_more (λ (r : Repeated). r.place) (λ (f : FoundView). f.repeated) all one in
         let unknown = least_more (λ (u : Unknown). u.place) (λ (f : FoundView). f.unknown) all one in
-        let products = map_more (λ (f : FoundView). f.product) all one in
+        let products = map_push (λ (f : FoundView). f.product) all one in
         λ i. record { repeated = repeated i; unknown = unknown i; products = products i }
 
 -- shared products with one more
 pub products_more : {Z : Type 0} (items new : List (Arc Product Z)) (one : Arc Product Z) (product : Product) → new ≡ items ++ one ∷ []
     → arc_value one ≡ product
     → map arc_value new ≡ map arc_value items ++ product ∷ []
-products_more items new one product e same = ap (map arc_value) e ∙ map_more arc_value items one ∙ ap (λ p. map arc_value items ++ p ∷ []) same
+products_more items new one product e same = ap (map arc_value) e ∙ map_push arc_value items one ∙ ap (λ p. map arc_value items ++ p ∷ []) same

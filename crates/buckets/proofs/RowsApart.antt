@@ -1,5 +1,5 @@
 -- Rows of messages by place: no place stands twice in a list of them or in what is kept of their trades, and those are few.
-use Rattle.std.proofs.Common.{ℕ, ◌<◌, Bool, List, Option, Some, None, length, map, nat_eq, arith}
+use Rattle.std.proofs.Common.{ℕ, ◌<◌, Bool, List, length, map, nat_eq, arith}
 use Rattle.std.specs.List.{IsDistinct}
 use Rattle.std.proofs.lemmas.List.{length-append}
 use Rattle.lists.specs.declared.limits.TheConstants.{TRADE_LIMIT}
@@ -9,8 +9,6 @@ use Rattle.row_types.specs.declared.trade.Sale.{Sale}
 use Rattle.probe.proofs.KeptSales.{length-kept, length-priced}
 use Rattle.day_rows.proofs.RowsByPlace.{kept_apart, orders_distinct}
 use Rattle.morsel_rows.specs.Partitions.{AreRowsByPlace, PartitionView}
-use Rattle.morsel_rows.proofs.MessagesOfPartition.{class_by_place}
-use Rattle.buckets.specs.BucketRows.{cut_to}
 use Rattle.buckets.specs.FoundRows.{sales_in, trades_in}
 
 module _ (rows : PartitionView) (are : AreRowsByPlace rows) where
@@ -29,8 +27,3 @@ module _ (rows : PartitionView) (are : AreRowsByPlace rows) where
         length-priced rows.orders rows.executions,
         are.few,
       )
-
--- so are those of one class of them
-pub cut_by_place : (modulus : Option ℕ) (number : ℕ) (rows : PartitionView) → AreRowsByPlace rows → AreRowsByPlace (cut_to modulus number rows)
-cut_by_place None number rows are = are
-cut_by_place (Some modulus) number rows are = class_by_place modulus number rows are

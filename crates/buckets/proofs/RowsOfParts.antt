@@ -1,19 +1,14 @@
--- The rows of the partitions of morsels, with those of one morsel more, and classes of them.
-use Rattle.std.proofs.Common.{◌≡◌, true, ℕ, ◌+◌, ◌%◌, ◌==◌, ◌<◌, ◌≤◌, List, [], ◌∷◌, ◌++◌, Some, Bor, flat_map, get_or, length, map, take, sym, ap, ap₂, ◌∙◌}
+-- The rows of the partitions of morsels, with those of one morsel more.
+use Rattle.std.proofs.Common.{◌≡◌, true, ℕ, ◌+◌, ◌<◌, ◌≤◌, List, [], ◌∷◌, ◌++◌, Some, Bor, flat_map, get_or, length, map, take, sym, ap, ap₂, ◌∙◌}
 use Rattle.std.specs.Arc.{arc_value}
 use Rattle.std.specs.List.{slice_get}
 use Rattle.std.specs.declared.alloc.Global.{Global}
 use Rattle.std.specs.declared.sync.Arc.{Arc}
-use Rattle.std.proofs.lemmas.List.{append-nil, get_or_past, take_more}
+use Rattle.std.proofs.lemmas.List.{append-nil, get_or_past, take_more, map_push}
 use Rattle.std.proofs.lemmas.List.Concat.{flat_map-append}
-use Rattle.std.proofs.lemmas.List.Elements.{filter-append}
 use Rattle.std.proofs.lemmas.Option.{get_or_from_slice_get}
-use Rattle.lists.proofs.Lists.{map_more}
-use Rattle.row_types.specs.declared.order.OrderRow.{OrderRow}
-use Rattle.row_types.specs.declared.trade.Execution.{Execution}
-use Rattle.row_types.specs.declared.trade.Sale.{Sale}
 use Rattle.morsel_rows.specs.SameRows.{is_same_partition, partition_equiv, same_partition}
-use Rattle.morsel_rows.specs.Partitions.{MorselRowsView, PartitionView, class_of, joined_partitions, no_rows_in, partition_at}
+use Rattle.morsel_rows.specs.Partitions.{MorselRowsView, PartitionView, joined_partitions, no_rows_in, partition_at}
 use Rattle.buckets.specs.BucketRows.{rows_at, rows_of_parts}
 
 -- rows, and others after them
@@ -56,7 +51,7 @@ module _ (number i : ℕ) (morsels : List (Arc MorselRowsView Global)) (d : Arc 
   morsel_more =
       let at : Arc MorselRowsView Global → PartitionView = λ morsel. partition_at number (arc_value morsel) in
       ap (λ l. joined_partitions (map at l)) (take_more morsels i d within)
-      ∙ ap joined_partitions (map_more at (take i morsels) (get_or morsels i d))
+      ∙ ap joined_partitions (map_push at (take i morsels) (get_or morsels i d))
       ∙ joined_more (rows_at number (take i morsels)) (at (get_or morsels i d))
 
   -- it has one of the number
@@ -65,7 +60,7 @@ module _ (number i : ℕ) (morsels : List (Arc MorselRowsView Global)) (d : Arc 
       → rows_of_parts new ≡ joined_partitions (rows_at number (take (i + 1) morsels))
   part_more parts new part before pushed there =
       let now : Bor PartitionView → PartitionView = λ p. p.now in
-      ap (λ l. joined_partitions (map now l)) pushed ∙ ap joined_partitions (map_more now parts part) ∙ joined_more (map now parts) part.now
+      ap (λ l. joined_partitions (map now l)) pushed ∙ ap joined_partitions (map_push now parts part) ∙ joined_more (map now parts) part.now
       ∙ ap₂ with_rows before (sym (get_or_from_slice_get (arc_value (get_or morsels i d)).partitions number part.now no_rows_in there)) ∙ sym morsel_more
 
   -- it has none
@@ -87,26 +82,3 @@ module _ (number i : ℕ) (morsels : List (Arc MorselRowsView Global)) (d : Arc 
       ∙ ap (with_rows (joined_partitions (rows_at number (take i morsels))))
       (get_or_from_slice_get (arc_value (get_or morsels i d)).partitions number part no_rows_in there ∙ same_partition part no_rows_in (sym empty))
       ∙ joined_none (joined_partitions (rows_at number (take i morsels))))
-
--- ---- the class of the rows of one partition more
-
-class_with : (n b : ℕ) (rows more : PartitionView) → class_of n (with_rows rows more) b ≡ with_rows (class_of n rows b) (class_of n more b)
-unfolding with_rows
-class_with n b rows more =
-    same_rows
-    (filter-append (λ (row : OrderRow). row.order_no % n == b) rows.orders more.orders)
-    (filter-append (λ (execution : Execution). execution.order_no % n == b) rows.executions more.executions)
-    (filter-append (λ (sale : Sale). sale.place % n == b) rows.own_priced more.own_priced)
-
-pub classes_more : (n b i : ℕ) (parts : List (Bor PartitionView)) (d : Bor PartitionView) → i < length parts
-    → (classes new : List PartitionView) (class : PartitionView) → joined_partitions classes ≡ class_of n (rows_of_parts (take i parts)) b
-    → new ≡ classes ++ class ∷ [] → class ≡ class_of n (get_or parts i d).now b
-    → joined_partitions new ≡ class_of n (rows_of_parts (take (i + 1) parts)) b
-classes_more n b i parts d within classes new class before pushed is =
-    let now : Bor PartitionView → PartitionView = λ p. p.now in
-    let next = get_or parts i d in
-    ap joined_partitions pushed ∙ joined_more classes class ∙ ap₂ with_rows before is
-    ∙ sym (ap (λ l. class_of n (rows_of_parts l) b) (take_more parts i d within)
-    ∙ ap (λ l. class_of n (joined_partitions l) b) (map_more now (take i parts) next)
-    ∙ ap (λ rows. class_of n rows b) (joined_more (map now (take i parts)) next.now)
-    ∙ class_with n b (rows_of_parts (take i parts)) next.now)

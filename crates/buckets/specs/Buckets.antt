@@ -3,23 +3,23 @@
 use Rattle.std.specs.Prelude.{◌≡◌, Bool, true, ◌==◌, ◌&&◌, List, All, length, map, nat_eq}
 use Rattle.std.specs.Cmp.{IsEquivalence}
 use Rattle.std.specs.Cmp.Lexicographic.{pointwise}
-use Rattle.std.specs.Option.{option_eq}
 use Rattle.std.specs.declared.alloc.Global.{Global}
 use Rattle.std.proofs.Common.{ap, arith, sym, ◌∙◌}
 use Rattle.std.proofs.lemmas.Bool.Decides.{nat_tests}
 use Rattle.gathering.specs.Adding.{same_inputs}
-use Rattle.lists.proofs.Exact.{IsExact, exact_equiv, exact_list, exact_nat, exact_option}
+use Rattle.lists.proofs.Exact.{IsExact, exact_equiv, exact_list, exact_nat}
 use Rattle.lists.specs.Least.{numbers_below}
 use Rattle.probe.specs.Selection.{admits}
 use Rattle.meaning.specs.declared.query.What.{What}
+use Rattle.morsel_rows.specs.Partitions.{joined_partitions}
 use Rattle.morsel_rows.specs.SameRows.{exact_partition, is_same_partition}
-use Rattle.buckets.specs.BucketRows.{BucketView, own_rows}
+use Rattle.buckets.specs.BucketRows.{BucketView}
 use Rattle.buckets.specs.FoundRows.{FoundView, TotalView, all_found, found_of}
 use Rattle.buckets.specs.SameQuestions.{exact_selection, exact_what, is_same_selection, is_same_what}
 
 -- the value of a bucket
 abbrev pub found : BucketView → FoundView
-found bucket = found_of bucket.what bucket.breaks (admits bucket.selection) (own_rows bucket)
+found bucket = found_of bucket.what bucket.breaks (admits bucket.selection) (joined_partitions bucket.rows)
 
 -- the total of buckets
 abbrev pub total_found : List BucketView → TotalView
@@ -31,29 +31,24 @@ pub record AreNumbered (buckets : List BucketView) : Type 0 where
   pub what : What
   pub one : All (λ bucket. bucket.what ≡ what) buckets
 
--- both have the same number and modulus, and the same rows of the same partition, morsel by morsel, and the same is
--- asked of them
+-- both have the same number and the same rows, morsel by morsel, and the same is asked of them
 abbrev pub is_same_bucket : BucketView → BucketView → Bool
 is_same_bucket a b =
     (a.number == b.number)
-    && ((a.partition == b.partition)
-    && (option_eq nat_eq a.modulus b.modulus
     && (pointwise is_same_partition a.rows b.rows
     && (pointwise nat_eq a.breaks b.breaks
-    && (is_same_selection a.selection b.selection && is_same_what a.what b.what)))))
+    && (is_same_selection a.selection b.selection && is_same_what a.what b.what)))
 
 -- ---- the laws of a work
 
 exact_bucket : IsExact is_same_bucket
 exact_bucket =
-    let modulus = exact_option exact_nat in
     let rows = exact_list exact_partition in
     let breaks = exact_list exact_nat in
     let selection = exact_selection {A = Global} in
     record {
-      itself = λ a.
-          grind (arith, nat_tests, modulus.itself, rows.itself, breaks.itself, selection.itself, exact_what.itself);
-      one = λ a b h. grind (arith, nat_tests, modulus.one, rows.one, breaks.one, selection.one, exact_what.one);
+      itself = λ a. grind (arith, nat_tests, rows.itself, breaks.itself, selection.itself, exact_what.itself);
+      one = λ a b h. grind (arith, nat_tests, rows.one, breaks.one, selection.one, exact_what.one);
     }
 
 pub bucket_equiv : IsEquivalence is_same_bucket

@@ -5,7 +5,7 @@ use Rattle.lists.specs.Least.{least_by}
 use Rattle.order_table.specs.Orders.{first_repeated, repeated_of}
 use Rattle.order_table.specs.declared.table.Repeated.{Repeated}
 use Rattle.probe.specs.Pricing.{first_unknown, priced, unknown_of}
-use Rattle.probe.specs.Trades.{kept}
+use Rattle.probe.specs.Selection.{kept}
 use Rattle.row_types.specs.declared.trade.Sale.{Sale}
 use Rattle.row_types.specs.declared.trade.Unknown.{Unknown}
 use Rattle.meaning.specs.declared.query.What.{What}

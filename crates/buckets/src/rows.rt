@@ -1,9 +1,7 @@
 //! The rows of one partition in all morsels.
-ghost use Rattle.std.specs.Prelude.{◌≡◌, ◌<◌, IfOk, map, nat_eq};
-ghost use Rattle.std.specs.Arc.{arc_value};
+ghost use Rattle.std.specs.Prelude.{◌≡◌, IfOk};
 ghost use Rattle.std.specs.Cmp.Lexicographic.{pointwise};
-ghost use Rattle.std.specs.Option.{option_eq};
-ghost use Rattle.morsel_rows.specs.Partitions.{class_of, joined_partitions, no_rows_in, partition_at};
+ghost use Rattle.morsel_rows.specs.Partitions.{joined_partitions, no_rows_in, partition_at};
 ghost use Rattle.morsel_rows.specs.SameRows.{is_same_partition};
 ghost use Rattle.buckets.specs.BucketRows.{rows_at, rows_of_parts};
 
@@ -30,49 +28,6 @@ pub(crate) fn parts_of<'a>(
         }
     }
     Ok(parts)
-}
-
-/// Copies of the rows of these partitions that leave the number by the modulus, partition by partition.
-pub(crate) fn classes_of(
-    alloc: Global,
-    modulus: u32,
-    number: u32,
-    parts: &[&Partition],
-) -> Result<Vec<Partition>, OutOfMemory>
-    requires { 0 < modulus }
-    ensures { IfOk result (λ classes.
-        joined_partitions classes.items ≡ class_of modulus (rows_of_parts parts.now) number) }
-{
-    let mut classes = Vec::with_capacity(alloc, parts.len())?;
-    for part in parts {
-        classes.push(part.class(alloc, modulus, number)?)?;
-    }
-    Ok(classes)
-}
-
-/// Where each of these partitions stands.
-pub(crate) fn lent<'a>(
-    alloc: Global,
-    parts: &'a [Partition],
-) -> Result<Vec<&'a Partition>, OutOfMemory>
-    ensures { IfOk result (λ lent. rows_of_parts lent.items ≡ joined_partitions parts.now) }
-{
-    let mut lent = Vec::with_capacity(alloc, parts.len())?;
-    for part in parts {
-        lent.push(part)?;
-    }
-    Ok(lent)
-}
-
-/// Whether both are the same modulus, or neither is one.
-pub(crate) fn same_modulus(one: Option<u32>, other: Option<u32>) -> bool
-    ensures { result ≡ option_eq nat_eq one other }
-{
-    match (one, other) {
-        (None, None) => true,
-        (Some(one), Some(other)) => one == other,
-        _ => false,
-    }
 }
 
 /// Whether the rows of the partition of this number are the same, morsel by morsel.

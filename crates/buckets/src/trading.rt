@@ -2,7 +2,7 @@
 ghost use Rattle.std.specs.Prelude.{◌≡◌, ◌++◌, IfOk, OnOk, List, map, nat_eq};
 ghost use Rattle.std.specs.List.{IsDistinct};
 ghost use Rattle.row_types.specs.declared.order.OrderRow.{OrderRow as TheRow};
-ghost use Rattle.probe.specs.PricedBefore.{IsPricingOf};
+ghost use Rattle.probe.specs.Pricing.{IsPricingOf};
 ghost use Rattle.probe.specs.Pricing.{priced};
 ghost use Rattle.morsel_rows.specs.Partitions.{AreRowsByPlace};
 ghost use Rattle.buckets.specs.BucketRows.{rows_of_parts};

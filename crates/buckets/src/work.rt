@@ -1,18 +1,14 @@
 //! The work of buckets.
-ghost use Rattle.std.specs.Prelude.{◌≡◌, ◌++◌, IfOk, option_to_list};
+ghost use Rattle.std.specs.Prelude.{◌≡◌, ◌++◌, option_to_list};
 ghost use Rattle.lists.specs.Least.{least_by};
-ghost use Rattle.morsel_rows.specs.Partitions.{AreRowsByPlace};
-ghost use Rattle.buckets.specs.BucketRows.{own_rows, rows_of_parts};
 ghost use Rattle.buckets.specs.Buckets.{AreNumbered, found, same_found, same_total_found, total_found};
 
 use crate::OutOfMemory;
 use crate::bucket::Bucket;
 use crate::found::{BucketTotal, Found};
 use crate::making::product;
-use crate::rows::lent;
 use crate::trading::{Traded, trade};
 use gathering::Work;
-use morsel_rows::Partition;
 use order_table::Repeated;
 use probe::{Unknown, keep};
 use std::alloc::Global;
@@ -41,13 +37,18 @@ impl Work for BucketWork {
 
     fn run(alloc: Global, input: &Bucket) -> Result<Found, OutOfMemory> {
         let parts = input.parts(alloc)?;
-        match input.class(alloc, parts.as_slice())? {
-            Some(class) => {
-                let lent = lent(alloc, class.as_slice())?;
-                found_in(alloc, input, lent.as_slice())
-            }
-            None => found_in(alloc, input, parts.as_slice()),
-        }
+        let Traded {
+            repeated,
+            unknown,
+            mut sales,
+        } = trade(alloc, parts.as_slice())?;
+        keep(&mut sales, input.breaks(), input.selection());
+        let product = product(sales, input.what());
+        Ok(Found {
+            repeated,
+            unknown,
+            product: Arc::new(alloc, product)?,
+        })
     }
 
     fn empty(alloc: Global) -> BucketTotal {
@@ -65,26 +66,6 @@ impl Work for BucketWork {
         total.unknown = earlier_unknown(total.unknown, output.unknown);
         Ok(())
     }
-}
-
-/// What is found in the bucket, whose rows are those of these partitions.
-fn found_in(alloc: Global, bucket: &Bucket, parts: &[&Partition]) -> Result<Found, OutOfMemory>
-    requires by_place { AreRowsByPlace (rows_of_parts parts.now) }
-    requires own { own_rows bucket.now ≡ rows_of_parts parts.now }
-    ensures { IfOk result (λ one. one ≡ found bucket.now) }
-{
-    let Traded {
-        repeated,
-        unknown,
-        mut sales,
-    } = trade(alloc, parts)?;
-    keep(&mut sales, bucket.breaks(), bucket.selection());
-    let product = product(sales, bucket.what());
-    Ok(Found {
-        repeated,
-        unknown,
-        product: Arc::new(alloc, product)?,
-    })
 }
 
 /// Of both, the one of smaller place.

@@ -6,20 +6,18 @@ use Rattle.std.specs.List.{join_with_byte, list_all, All}
 use Rattle.std.proofs.lemmas.Fmt.{digits_decimal, digits_value-decimal, length-decimal-le, decimal_nonempty}
 use Rattle.std.proofs.lemmas.Str.Parse.{IsNumeralModel, numerals_by_fold}
 use Rattle.std.proofs.lemmas.Slice.Eq.{bytes_eq-Decides}
-use Rattle.std.proofs.lemmas.Bool.{and_from, and_parts, not-true, lt-ltb, ltb-true, leb-true, ne_eqb, eq-eqb, cases_lt, false_from_ne_true}
+use Rattle.std.proofs.lemmas.Bool.{and_from, and_parts, not-true, lt-ltb, leb-true, ne_eqb, eq-eqb, cases_lt, false_from_ne_true}
 use Rattle.std.proofs.lemmas.Bool.Decides.{nat_tests}
 use Rattle.std.proofs.lemmas.List.Elements.{All-weaker}
 use Rattle.std.proofs.lemmas.List.Folds.{list_all-append}
 use Rattle.std.proofs.lemmas.List.Splits.{slice_split_none, slice_split_at}
 use Rattle.std.proofs.lemmas.List.Sums.{AllPass-from_list_all, list_all-from_AllPass}
 use Rattle.query.specs.Words.{parts, words_of_parts, words_from, words_of}
-use Rattle.meaning.specs.Symbols.{is_symbol_byte, is_symbol}
 use Rattle.query.specs.Values.{number_from, count_of, unit_of, pair_at, clock_of, time_of, symbols_of, kinds_of}
-use Rattle.meaning.specs.Meaning.{CanBeSpelled, IsSound, Kinds, Meaning, Span, are_symbols, has_some, is_span, is_width}
+use Rattle.meaning.specs.Meaning.{CanBeSpelled, Kinds, Meaning, Span, are_symbols, has_some, is_symbol_byte, is_symbol, is_width}
 use Rattle.meaning.specs.declared.query.What.TheVariants.{Bars, Sales}
 use Rattle.meaning.specs.declared.query.What.{What}
-use Rattle.query.specs.Said.{Said, only, meaning_of}
-use Rattle.query.specs.Grammar.{Conditions, Linked, Moment, Means}
+use Rattle.query.specs.Grammar.{Said, only, meaning_of, Conditions, Linked, Moment, Means}
 use Rattle.query.specs.Grammar.{symbol, time, kind, done, further, any_moment, up_to, sales, bars}
 use Rattle.canonical_query.specs.Canonical.{pair_text, clock_text, what_words, symbol_condition, time_condition, kind_letters, kind_condition}
 use Rattle.canonical_query.specs.Canonical.{canonical, conditions_of, linked, moment_words}
@@ -160,27 +158,29 @@ kinds_say said true true true true h = record { says = refl; plain = λ link l. 
 kinds_say said e c p q h =
     record { says = λ at. kind refl (kinds_spelled e c p q h).0 done; plain = λ link l. rw (l, (kinds_spelled e c p q h).1) refl }
 
-span_says : (said : Said) (span : Option Span) (kinds : Kinds) → ((some : Span) → span ≡ Some some → is_span some ≡ true) → has_some kinds ≡ true
+span_says : (said : Said) (span : Option Span) (kinds : Kinds)
+    → ((some : Span) → span ≡ Some some → (some.since < some.until) × (some.until ≤ 86400)) → has_some kinds ≡ true
     → IsSpelled (record said { span = None; kinds = None }) (time_condition span ++ kind_condition kinds)
     (meaning_of (record said { span = span; kinds = Some kinds }))
 span_says said None kinds bound some = kinds_say (record said { span = None }) kinds.e kinds.c kinds.p kinds.q some
 span_says said (Some span) kinds bound some =
     let rest = kinds_say (record said { span = Some span }) kinds.e kinds.c kinds.p kinds.q some in
-    let sound = and_parts (nat_lt span.since span.until) _ (bound span refl) in
-    let within : (span.since < span.until) × (span.until ≤ 86400) = (ltb-true _ _ sound.0, leb-true _ _ sound.1) in
+    let within = bound span refl in
     record {
-      says = λ at. time refl (time_value span.since (omega arith)) (time_value span.until within.1) sound.0
+      says = λ at. time refl (time_value span.since (omega arith)) (time_value span.until within.1) (lt-ltb _ _ within.0)
           (linked_says (codes "and") _ (kind_condition kinds) _ _ rest.says);
       plain = λ link l. rw (l, clock_plain span.since, clock_plain span.until, rest.plain (codes "and") refl) refl;
     }
 
-symbols_say : (said : Said) (symbols : Option (List (List ℕ))) (kinds : Kinds) → IsSound said.what said.as_of symbols said.span → has_some kinds ≡ true
+symbols_say : (said : Said) (symbols : Option (List (List ℕ))) (kinds : Kinds)
+    → ((some : List (List ℕ)) → symbols ≡ Some some → are_symbols some ≡ true)
+    → ((some : Span) → said.span ≡ Some some → (some.since < some.until) × (some.until ≤ 86400)) → has_some kinds ≡ true
     → IsSpelled (record said { symbols = None; span = None; kinds = None }) (symbol_condition symbols ++ (time_condition said.span ++ kind_condition kinds))
     (meaning_of (record said { symbols = symbols; kinds = Some kinds }))
-symbols_say said None kinds sound some = span_says (record said { symbols = None }) said.span kinds sound.span some
-symbols_say said (Some names) kinds sound some =
-    let rest = span_says (record said { symbols = Some names }) said.span kinds sound.span some in
-    let spelled = symbols_spelled names (sound.symbols names refl) in
+symbols_say said None kinds listed bound some = span_says (record said { symbols = None }) said.span kinds bound some
+symbols_say said (Some names) kinds listed bound some =
+    let rest = span_says (record said { symbols = Some names }) said.span kinds bound some in
+    let spelled = symbols_spelled names (listed names refl) in
     record {
       says = λ at. symbol refl spelled.0 (linked_says (codes "and") _ (time_condition said.span ++ kind_condition kinds) _ _ rest.says);
       plain = λ link l. rw (l, spelled.1, rest.plain (codes "and") refl) refl;
@@ -224,7 +224,7 @@ pub canonical_means : (query : Meaning) → CanBeSpelled query → Means (words_
 unfolding canonical
 canonical_means query spelled =
     let said : Said = record { what = query.what; as_of = query.as_of; symbols = None; span = query.span; kinds = None } in
-    let conditions = symbols_say said query.symbols query.kinds spelled.sound spelled.kinds in
-    what_means query.what (from_moment query.as_of (conditions_of query)) query spelled.sound.width
+    let conditions = symbols_say said query.symbols query.kinds spelled.symbols spelled.span spelled.kinds in
+    what_means query.what (from_moment query.as_of (conditions_of query)) query spelled.width
     (moment_plain query.as_of _ (conditions.plain (codes "where") refl))
-    (λ at. moment_says query.what query.as_of (conditions_of query) query at spelled.sound.moment conditions.says)
+    (λ at. moment_says query.what query.as_of (conditions_of query) query at spelled.moment conditions.says)

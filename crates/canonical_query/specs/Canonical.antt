@@ -1,7 +1,7 @@
 -- The canonical text of a query.
 -- To be believed of a crate used by itself.
 use Rattle.std.specs.Prelude.{ℕ, ◌+◌, ◌/◌, ◌%◌, ◌&&◌, if◌then◌else◌, List, [], ◌∷◌, ◌++◌, Option, Some, None, codes}
-use Rattle.std.specs.List.{join_with_byte}
+use Rattle.std.specs.List.{flat_map, join_with_byte}
 use Rattle.std.specs.Fmt.{decimal}
 use Rattle.meaning.specs.Meaning.{Kinds, Meaning, Span}
 use Rattle.meaning.specs.declared.query.What.TheVariants.{Bars, Sales}
@@ -63,12 +63,18 @@ abbrev pub linked : List ℕ → List (List (List ℕ)) → List (List ℕ)
 linked link [] = []
 linked link (condition ∷ conditions) = link ∷ condition ++ linked (codes "and") conditions
 
--- the words of the canonical text: what is listed, the moment, then the conditions
-abbrev pub canonical_words : Meaning → List (List ℕ)
-canonical_words query =
-    what_words query.what
-    ++ (moment_words query.as_of ++ linked (codes "where") (conditions_of query))
-
--- the one text in which a query is written: the canonical words, with one space between each two
+-- the one text in which a query is written: the words of what is listed, of the moment and of the conditions, with one
+-- space between each two
 unfoldable pub canonical : Meaning → List ℕ
-canonical query = join_with_byte SPACE (canonical_words query)
+canonical query =
+    join_with_byte SPACE
+    (what_words query.what ++ (moment_words query.as_of ++ linked (codes "where") (conditions_of query)))
+
+-- words with a space before each
+abbrev pub spaced : List (List ℕ) → List ℕ
+spaced words = flat_map (λ bytes. SPACE ∷ bytes) words
+
+-- the word before the next condition
+abbrev pub next_link : List ℕ → List (List (List ℕ)) → List ℕ
+next_link link [] = link
+next_link link (condition ∷ conditions) = codes "and"

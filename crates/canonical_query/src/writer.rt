@@ -1,12 +1,9 @@
 //! Writes a query as its canonical text.
-ghost use Rattle.std.specs.Prelude.{◌≡◌, ◌∷◌, ◌++◌, [], ◌<◌, ◌≤◌, length, List, take, ◌&&◌, not, OnOk, OnErr, IfOk};
-ghost use Rattle.std.specs.Prelude.{true, Some, ℕ};
-ghost use Rattle.std.specs.Fmt.{decimal};
+ghost use Rattle.std.specs.Prelude.{◌≡◌, ◌∷◌, ◌++◌, [], ◌<◌, ◌≤◌, ◌&&◌, not, if◌then◌else◌, OnOk, OnErr, IfOk, Some, ℕ};
 ghost use Rattle.std.specs.List.{join_with_byte};
 ghost use Rattle.canonical_query.specs.Canonical.{canonical, clock_text, kind_condition, kind_letters, linked};
-ghost use Rattle.canonical_query.specs.Canonical.{moment_words, pair_text, symbol_condition, time_condition};
-ghost use Rattle.canonical_query.specs.Canonical.{what_words};
-ghost use Rattle.canonical_query.specs.CanonicalPieces.{letter_text, next_link, spaced};
+ghost use Rattle.canonical_query.specs.Canonical.{moment_words, next_link, pair_text, spaced, symbol_condition};
+ghost use Rattle.canonical_query.specs.Canonical.{time_condition, what_words};
 
 use itoa::Buffer;
 use lists::OutOfMemory;
@@ -64,7 +61,6 @@ fn append_what<A: Allocator>(text: &mut Vec<u8, A>, what: What) -> Result<(), Ou
     }
 }
 
-/// Appends the moment, if there is one.
 fn append_moment<A: Allocator>(text: &mut Vec<u8, A>, as_of: Option<u32>) -> Result<(), OutOfMemory>
     requires { (time : ℕ) → as_of ≡ Some time → time ≤ SECONDS_OF_DAY }
     ensures { OnOk result (text.new.items ≡ text.old.items ++ spaced (moment_words as_of)) }
@@ -164,8 +160,8 @@ fn append_letter<A: Allocator>(
     chosen: bool,
     letter: u8,
 ) -> Result<bool, OutOfMemory>
-    ensures text { OnOk result (text.new.items
-        ≡ text.old.items ++ letter_text is_first chosen letter) }
+    ensures text { OnOk result (text.new.items ≡ text.old.items
+        ++ (if chosen then (if is_first then letter ∷ [] else COMMA ∷ letter ∷ []) else [])) }
     ensures first { IfOk result (λ still. still ≡ (is_first && not chosen)) }
 {
     if !chosen {
@@ -189,7 +185,6 @@ fn append_letters<A: Allocator>(text: &mut Vec<u8, A>, kinds: Kinds) -> Result<(
     Ok(())
 }
 
-/// Appends the condition on kinds, unless all four are selected.
 fn append_kinds<A: Allocator>(
     text: &mut Vec<u8, A>,
     link: &[u8],

@@ -1,14 +1,13 @@
 -- What a run's outcome says of its status, and its status of the errors.
-use Rattle.std.proofs.Common.{◌≡◌, ℕ, Bool, List, Result, Ok, Err, refl, arith}
+use Rattle.std.proofs.Common.{◌≡◌, ◌==◌, ℕ, Bool, List, Result, Ok, Err, refl, arith}
 use Rattle.reports.specs.FaultLines.{status_of}
-use Rattle.command_line.specs.Outcomes.{tells_failed_reading}
 use Rattle.reports.specs.Reports.{Reported, status_of_outcome}
 use Rattle.runs.specs.Runs.{is_read_failed}
 use Rattle.outcomes.specs.declared.run_fault.RunFault.{RunFault}
 use Rattle.outcomes.specs.declared.run_fault.RunFault.TheVariants as fault
 
 -- the status of a failed reading is no other outcome's
-pub read_failed_status : (outcome : Result (Unit {0}) RunFault) → is_read_failed outcome ≡ tells_failed_reading (status_of_outcome outcome)
+pub read_failed_status : (outcome : Result (Unit {0}) RunFault) → is_read_failed outcome ≡ (status_of_outcome outcome == status_of fault.ReadFailed)
 read_failed_status (Ok done) = refl
 read_failed_status (Err (fault.Query f)) = refl
 read_failed_status (Err fault.ReadFailed) = refl

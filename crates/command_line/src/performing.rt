@@ -1,9 +1,8 @@
-ghost use Rattle.std.specs.Prelude.{◌≡◌, false, MatchOption};
-ghost use Rattle.command_line.specs.Outcomes.{Did, tells_failed_reading};
+ghost use Rattle.std.specs.Prelude.{◌≡◌, ◌==◌, false, MatchOption};
+ghost use Rattle.command_line.specs.Outcomes.{Did, DidNotOpen};
 ghost use Rattle.block_scan.specs.Blocks.{of_blocks};
 ghost use Rattle.streaming.specs.Readings.{of_stream};
-ghost use Rattle.reports.specs.FaultLines.{line_of, status_of};
-ghost use Rattle.reports.specs.Reports.{Delivered};
+ghost use Rattle.reports.specs.FaultLines.{status_of};
 
 use arguments::Job;
 use reports::{report, tell};
@@ -26,10 +25,10 @@ pub fn perform<R: Threads + Wait + Sync, S: Source, K: Sink, L: Sink>(
     requires source { S.has_failed source.old ≡ false }
     requires out { K.has_failed out.old ≡ false }
     requires errors { L.has_failed errors.old ≡ false }
-    ensures did { Did (of_stream S.Gave S.HasEnded job.now.settings.limit job.now.settings.morsel
-        source.old source.new) K.Took K.HasFlushed K.has_failed L.Took L.HasFlushed L.has_failed
-        job.now out.old out.new errors.old errors.new result }
-    ensures read_failed { S.has_failed source.new ≡ tells_failed_reading result }
+    ensures did { Did K.Took K.HasFlushed K.has_failed L.Took L.HasFlushed L.has_failed
+        job.now out.old out.new errors.old errors.new result
+        (of_stream S.Gave S.HasEnded job.now.settings.limit job.now.settings.morsel source.old source.new) }
+    ensures read_failed { S.has_failed source.new ≡ (result == status_of RunFault.ReadFailed) }
     ensures quiet { result ≡ 0 → errors.new ≡ errors.old }
 {
     let outcome = run(rt, alloc, source, job.query.as_str(), job.settings, out);
@@ -50,20 +49,13 @@ pub fn perform_blocks<R: Threads + Wait + Sync, S: BlockSource + Send + Sync, K:
 ) -> u8
     requires out { K.has_failed out.old ≡ false }
     requires errors { L.has_failed errors.old ≡ false }
-    ensures did { Did (of_blocks S.GaveAt S.EndsAt S.FailsAt job.now.settings.limit source)
-        K.Took K.HasFlushed K.has_failed L.Took L.HasFlushed L.has_failed
-        job.now out.old out.new errors.old errors.new result }
+    ensures did { Did K.Took K.HasFlushed K.has_failed L.Took L.HasFlushed L.has_failed
+        job.now out.old out.new errors.old errors.new result
+        (of_blocks S.GaveAt S.EndsAt S.FailsAt job.now.settings.limit source) }
     ensures quiet { result ≡ 0 → errors.new ≡ errors.old }
 {
-    let outcome = run_blocks(
-        rt,
-        alloc,
-        source,
-        length,
-        job.query.as_str(),
-        job.settings,
-        out,
-    );
+    let query = job.query.as_str();
+    let outcome = run_blocks(rt, alloc, source, length, query, job.settings, out);
     report(outcome, errors)
 }
 
@@ -81,13 +73,12 @@ pub fn perform_opened<R: Threads + Wait + Sync, S: Source + Drop, K: Sink, L: Si
     requires out { K.has_failed out.old ≡ false }
     requires errors { L.has_failed errors.old ≡ false }
     ensures did { MatchOption opened
-        ((result ≡ status_of RunFault.ReadFailed)
-        × Delivered L.Took L.HasFlushed L.has_failed errors.old errors.new (line_of RunFault.ReadFailed)
-        × (out.new ≡ out.old))
-        (λ source. (after : S) × Did (of_stream S.Gave S.HasEnded job.now.settings.limit
-        job.now.settings.morsel source after) K.Took K.HasFlushed K.has_failed
-        L.Took L.HasFlushed L.has_failed job.now out.old out.new errors.old errors.new result
-        × (S.has_failed after ≡ tells_failed_reading result)) }
+        (DidNotOpen K.Took K.HasFlushed K.has_failed L.Took L.HasFlushed L.has_failed
+        job.now out.old out.new errors.old errors.new result)
+        (λ source. (after : S) × Did K.Took K.HasFlushed K.has_failed L.Took L.HasFlushed L.has_failed
+        job.now out.old out.new errors.old errors.new result
+        (of_stream S.Gave S.HasEnded job.now.settings.limit job.now.settings.morsel source after)
+        × (S.has_failed after ≡ (result == status_of RunFault.ReadFailed))) }
     ensures quiet { result ≡ 0 → errors.new ≡ errors.old }
 {
     match opened {

@@ -1,2 +1,1 @@
--- What the contracts speak of: a worker's run.
 pub mod Workers

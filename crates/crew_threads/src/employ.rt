@@ -57,24 +57,14 @@ impl<'s, W: Work + 's, G: Gate, R: Threads + Wait + Sync> Pipeline<'s, W, G, R> 
         let to = to.clone().ok()?;
         let (alloc, number, gate) = (self.alloc, self.number, self.gate);
         let mut port = ChannelPort::new(self.rt, to);
-        scope
-            .spawn(
-                move || -> u32
-                    requires { (tasks_of (arc_value dispatcher) ≡ length (arc_value inputs))
-                        × IsSeatOf (arc_value dispatcher) seat × IsUnused seat }
-                {
-                    work(
-                        alloc,
-                        &*dispatcher,
-                        &mut seat,
-                        &*inputs,
-                        &mut port,
-                        number,
-                        gate,
-                    )
-                },
-            )
-            .ok()?;
+        let run = move || -> u32
+            requires { (tasks_of (arc_value dispatcher) ≡ length (arc_value inputs))
+                × IsSeatOf (arc_value dispatcher) seat × IsUnused seat }
+        {
+            let (tasks, inputs) = (&*dispatcher, &*inputs);
+            work(alloc, tasks, &mut seat, inputs, &mut port, number, gate)
+        };
+        scope.spawn(run).ok()?;
         Some(())
     }
 }

@@ -40,10 +40,9 @@ fn start_gatherer<'s, E, W: Work + 's, R: Threads + Wait + Sync>(
     inputs: &Arc<Inputs<W>, Global>,
 ) -> Option<Gatherer<W>> {
     let inputs = Arc::try_clone(inputs).ok()?;
-    let gathering = Gathering::new(alloc, inputs).ok()?;
+    let mut gathering = Gathering::new(alloc, inputs).ok()?;
     let (to, from) = crossbeam_channel::unbounded::<Piece<W>, Global>(alloc).ok()?;
     let gather = move || {
-        let mut gathering = gathering;
         gather_all(rt, &mut gathering, &from);
         gathering
     };

@@ -14,14 +14,11 @@ use std::thread::{Scope, Threads};
 /// The total of all inputs of one pipeline. It starts the crew's workers on threads of their own, if there
 /// is a task. The crew's gatherers gather: the caller's thread, and if there are more each on a thread of its
 /// own. A worker sends its pieces to the gatherer of its number modulo theirs. The caller's thread runs itself
-/// the tasks whose pieces no worker brought.
+/// the tasks whose pieces no worker brought: one that couldn't be made or sent is among them.
 ///
-/// With one gatherer the pipeline is done as soon as all tasks are covered, whatever a slow worker still
-/// holds. With several it waits until all workers have ended, and then merges what was gathered.
-///
-/// It waits for the pieces. A thread, a seat or a channel that can't be had is done without, and a piece
-/// that can't be made or sent is run again by the caller. It is refused if memory was refused to the
-/// caller's thread.
+/// It waits for the pieces: with one gatherer until all tasks are covered, whatever a slow worker still holds,
+/// with several until all workers have ended, and then merges what was gathered. A thread, a seat or a channel
+/// that can't be had is done without. It is refused if memory was refused to the caller's thread.
 pub fn run_pipeline<'s, E, W: Work + 's, G: Gate, R: Threads + Wait + Sync>(
     scope: &Scope<'s, E>,
     rt: &'s R,

@@ -42,9 +42,8 @@ impl<M: Drop, R: Wait> Port<M> for ChannelPort<'_, M, R> {
     ghost Tells = { ⊥ };
 
     fn send(&mut self, message: M) -> Result<(), M> {
-        match self.to.send(self.rt, message) {
-            Ok(()) => Ok(()),
-            Err(refused) => Err(refused.into_inner()),
-        }
+        self.to
+            .send(self.rt, message)
+            .map_err(|refused| refused.into_inner())
     }
 }

@@ -1,7 +1,7 @@
 //! A worker's whole run.
-ghost use Rattle.std.specs.Prelude.{◌≡◌, ◌<◌, [], length, MatchBool};
-ghost use Rattle.dispatcher.specs.Seats.{tasks_of, claims, marked_tasks, IsSeatOf, IsSameSeat};
-ghost use Rattle.crew_threads.specs.Workers.{AllMarkedBut, IsDone, SawAllGiven, TookPieces, TookPiece};
+ghost use Rattle.std.specs.Prelude.{◌≡◌, ◌<◌, ℕ, [], ◌∷◌, length, Contains, MatchOption};
+ghost use Rattle.dispatcher.specs.Seats.{tasks_of, claims, marked_tasks, seen_tasks, IsSeatOf, IsSameSeat, WasGiven};
+ghost use Rattle.crew_threads.specs.Workers.{IsDone, TookPieces};
 
 use crate::gate::Gate;
 use crate::port::Port;
@@ -30,48 +30,39 @@ pub fn work<W: Work, P: Port<Piece<W>>, G: Gate>(
     requires unclaimed { claims seat.old ≡ [] }
     requires unmarked { marked_tasks seat.old ≡ [] }
     ensures same { IsSameSeat seat.old seat.new }
-    ensures done { IsDone (tasks_of dispatcher.now) seat.new }
+    ensures done { IsDone (tasks_of dispatcher.now) result seat.old seat.new }
     ensures sent { P.Tells
         → TookPieces inputs.now (P.taken port.old) (P.taken port.new) (marked_tasks seat.new) }
-    ensures refused { AllMarkedBut (tasks_of dispatcher.now) result seat.old seat.new }
-    ensures seen { result ≡ 0 → SawAllGiven (tasks_of dispatcher.now) seat.new }
+    ensures seen { result ≡ 0 → (task : ℕ) → WasGiven (tasks_of dispatcher.now) seat.new task
+        → Contains (seen_tasks seat.new) task }
 {
+    let tasks = u64::from(inputs.count());
     let mut refused = 0;
     while let Claim::Task { claim, task } = dispatcher.claim(seat) {
         if !dispatcher.is_marked(seat, task) {
-            let round = if claim < u64::from(inputs.count()) {
-                0
-            } else {
-                1
-            };
+            let round = if claim < tasks { 0 } else { 1 };
             gate.before(pipeline, task, round);
-            if serve(alloc, inputs, port, task) {
-                dispatcher.mark(seat, task);
-            } else {
-                refused += 1;
+            match serve(alloc, inputs, port, task) {
+                Some(()) => dispatcher.mark(seat, task),
+                None => refused += 1,
             }
         }
     }
     refused
 }
 
-/// Makes the task's piece and sends it. Answers whether the port took it.
+/// Makes the task's piece and sends it, if there is memory for it and the port takes it.
 fn serve<W: Work, P: Port<Piece<W>>>(
     alloc: Global,
     inputs: &Inputs<W>,
     port: &mut P,
     task: u32,
-) -> bool
+) -> Option<()>
     requires { task < length inputs.now }
-    ensures { P.Tells → MatchBool result
-        (TookPiece inputs.now (P.taken port.old) (P.taken port.new) task)
-        (P.taken port.new ≡ P.taken port.old) }
+    ensures { P.Tells → MatchOption result (P.taken port.new ≡ P.taken port.old)
+        (λ _. TookPieces inputs.now (P.taken port.old) (P.taken port.new) (task ∷ [])) }
 {
-    let Ok(input) = Arc::try_clone(inputs.input(task)) else {
-        return false;
-    };
-    let Ok(piece) = Piece::make(alloc, task, input) else {
-        return false;
-    };
-    port.send(piece).is_ok()
+    let input = Arc::try_clone(inputs.input(task)).ok()?;
+    let piece = Piece::make(alloc, task, input).ok()?;
+    port.send(piece).ok()
 }

@@ -1,5 +1,5 @@
 -- The one cut of bytes by a target: with a run more at its head or at its end, and how long its runs are.
-use Rattle.std.proofs.Common.{◌≡◌, ℕ, suc, ◌+◌, ◌-◌, ◌<◌, ◌≤◌, List, [], ◌∷◌, ◌++◌, length, take, drop, All, refl, sym, ap, ◌∙◌, subst}
+use Rattle.std.proofs.Common.{◌≡◌, ℕ, ◌+◌, ◌-◌, ◌<◌, ◌≤◌, List, [], ◌∷◌, ◌++◌, length, take, drop, All, refl, sym, ap, ◌∙◌, subst}
 use Rattle.std.proofs.Common.{append_assoc, arith, get_or}
 use Rattle.std.proofs.Math.Seq.{drop-append_seam, take-append_seam, take-length}
 use Rattle.std.specs.List.{concat}
@@ -8,9 +8,8 @@ use Rattle.std.proofs.lemmas.List.Elements.{All-cons, All-nil, All-tail, All-tak
 use Rattle.std.proofs.lemmas.Result.{err_from_is_err_and}
 use Rattle.lists.proofs.Lists.{length-concat_push}
 use Rattle.day_file.specs.Frames.{PlacedBody, spelling, IsShort, IsWhole}
-use Rattle.day_file.specs.Cuts.{IsRun, IsCutBy, HasNoShorter, but_last}
+use Rattle.day_file.specs.Cuts.{HasNoShorter, IsCutBy, IsFirstRun, IsRun, but_last}
 use Rattle.day_file.specs.Feeding.{IsFullRun}
-use Rattle.day_file.specs.Follow.{IsFirstRun}
 use Rattle.day_file.proofs.Joined.{IsWhole-further, IsWhole-nil, IsWhole-spelling, spelling-append}
 use Rattle.day_file.proofs.Readings.{AreShort, length-spelling}
 

@@ -9,10 +9,8 @@ use Rattle.std.proofs.lemmas.List.Elements.{All-nil, All-push, All-tail, All-wea
 use Rattle.lists.specs.declared.limits.TheConstants.{LONGEST_FILE, MOST_MORSELS}
 use Rattle.lists.proofs.Lists.{All-parts, concat_push, length-concat_push}
 use Rattle.day_file.specs.Frames.{IsTruncatedAt, IsWhole}
-use Rattle.day_file.specs.Cuts.{IsCutBy, IsRun}
-use Rattle.day_file.specs.Cutting.{IsCutting, IsTaken}
-use Rattle.day_file.specs.Feeding.{CutterView, HasFed, IsFullRun, fed_length}
-use Rattle.day_file.specs.Follow.{IsFirstRun, rest_run}
+use Rattle.day_file.specs.Cuts.{IsCutBy, IsFirstRun, IsRun, rest_run}
+use Rattle.day_file.specs.Feeding.{CutterView, HasFed, IsCutting, IsFullRun, IsTaken, fed_length}
 use Rattle.day_file.proofs.CutsBy.{cut_after, cut_more, cut_none, cuts_are_one, some_bytes, some_runs}
 use Rattle.day_file.proofs.Joined.{IsWhole-append, IsWhole-nil, truncated_later}
 use Rattle.day_file.proofs.Laws.{not_both}

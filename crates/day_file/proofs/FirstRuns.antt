@@ -3,7 +3,7 @@ use Rattle.std.proofs.Common.{◌≡◌, ℕ, suc, ◌+◌, ◌-◌, ◌<◌, �
 use Rattle.std.proofs.Math.Seq.{take-length}
 use Rattle.std.proofs.lemmas.List.{append_assoc, drop-drop, drop_at, length-append, length-drop, length-take-le, take-append-drop, take-take, take_at}
 use Rattle.day_file.specs.Frames.{FramesLeft, PlacedBody, frame_of, spelling, IsShort, IsTruncatedAt, IsWhole, StandsFrom}
-use Rattle.day_file.specs.Follow.{IsFirstRun}
+use Rattle.day_file.specs.Cuts.{IsFirstRun}
 use Rattle.day_file.proofs.Joined.{IsWhole-append, IsWhole-between, IsWhole-further, one_frame, reading_of, truncated_later}
 use Rattle.day_file.proofs.Laws.{not_both, truncated_once}
 use Rattle.day_file.proofs.Readings.{IsReading, head_apart, head_short, length-spelling, reading_head, reading_tail}

@@ -1,6 +1,5 @@
 -- What a `Cut` keeps of its morsels, as it grows.
-use Rattle.std.proofs.Common.{◌≡◌, ℕ, zero, suc, ◌+◌, ◌<◌, ◌≤◌, List, [], ◌∷◌, ◌++◌, length, map, get_or, slice_get, Some, refl, sym, ap}
-use Rattle.std.proofs.Common.{◌∙◌, arith, Fits, w8}
+use Rattle.std.proofs.Common.{Fits, List, Some, [], ℕ, ◌++◌, ◌+◌, ◌<◌, ◌∙◌, ◌∷◌, ◌≡◌, ◌≤◌, ap, arith, get_or, length, map, refl, slice_get, suc, sym, w8, zero}
 use Rattle.std.proofs.lemmas.List.{get_or_default, length-append, length-map, map-append}
 use Rattle.std.specs.List.{concat}
 use Rattle.lists.proofs.Lists.{length-concat_push}
@@ -8,7 +7,8 @@ use Rattle.std.proofs.lemmas.Option.{slice_get_read}
 use Rattle.std.proofs.Math.ListN.{get_or-map}
 use Rattle.std.proofs.lemmas.List.Elements.{All-push}
 use Rattle.lists.specs.declared.limits.TheConstants.{LONGEST_FILE, MOST_MORSELS}
-use Rattle.day_file.specs.Cuts.{AreBytes, IsRun, MorselView, start_of}
+use Rattle.lists.specs.Among.{AreBytes}
+use Rattle.day_file.specs.Cuts.{IsRun, MorselView, start_of}
 use Rattle.day_file.specs.Kept.{runs_of, numbered, AreMorsels}
 
 pub numbered-append : (number start : ℕ) (runs more : List (List ℕ))

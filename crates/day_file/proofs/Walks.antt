@@ -8,8 +8,8 @@ use Rattle.std.proofs.Math.Seq.{drop-append_seam, take-append_seam}
 use Rattle.std.proofs.lemmas.List.Elements.{All-drop, All-nil}
 use Rattle.byteorder.specs.Endian.{big_number}
 use Rattle.day_file.specs.Frames.{FramesLeft, PlacedBody, frame_of, spelling, StandAt, IsShort, IsStuck, StandsFrom, IsTruncatedAt, IsWhole}
-use Rattle.day_file.specs.Cuts.{AreBytes}
-use Rattle.day_file.specs.Walk.{first_length, left_of, place_if_any, truncated_after, walk}
+use Rattle.lists.specs.Among.{AreBytes}
+use Rattle.day_file.specs.Walk.{first_length, left_of, place_if_any, walk}
 use Rattle.day_file.proofs.Joined.{IsWhole-spelling, stands_from}
 use Rattle.day_file.proofs.Readings.{AreShort, IsReading, IsReading-truncated, IsStuck-nil, head_short, length_told, reading_more, same_reading}
 use Rattle.day_file.proofs.Laws.{not_both}
@@ -150,7 +150,8 @@ walk_next place size bytes prefix after body rest b two p a told fits bodies res
 
 -- where no frame is left, the bytes end here, or are truncated here
 pub ended_walk : (place : ℕ) (rest : List ℕ) → walk (length rest) place rest ≡ [] → (left_of place rest).truncated ≡ place_if_any place rest
-ended_walk place rest none = ap (λ frames. truncated_after frames place rest) none ∙ ap (λ n. place_if_any n rest) (omega arith)
+ended_walk place rest none =
+    ap (λ frames. let end = length (spelling frames) in place_if_any (place + end) (drop end rest)) none ∙ ap (λ n. place_if_any n rest) (omega arith)
 
 -- bytes that are whole frames have no place where they are truncated
 pub whole_has_no_end : (bytes : List ℕ) (start : ℕ) (o : Option ℕ) → IsWhole bytes

@@ -3,16 +3,15 @@
 use Rattle.std.specs.Prelude.{◌≡◌, ℕ, ◌+◌, ◌-◌, ◌<◌, ◌≤◌, ◌⊎◌, ◌==◌, ◌&&◌, Bool, List, [], ◌∷◌, length, take, All, nat_eq}
 use Rattle.std.specs.Cmp.Lexicographic.{pointwise}
 use Rattle.std.specs.List.{concat}
-use Rattle.day_file.specs.Frames.{IsWhole}
+use Rattle.lists.specs.declared.limits.TheConstants.{MOST_MORSELS}
+use Rattle.day_file.specs.declared.cutting.CutFault.{CutFault}
+use Rattle.day_file.specs.declared.cutting.CutFault.TheVariants.{Truncated, NotABoundary, TooManyMorsels, OutOfMemory}
+use Rattle.day_file.specs.Frames.{IsTruncatedAt, IsWhole}
 
 -- one or more whole frames
 pub record IsRun (bytes : List ℕ) : Type 0 where
   pub some : 0 < length bytes
   pub whole : IsWhole bytes
-
--- each number of a list is a byte
-abbrev pub AreBytes : List ℕ → Type 0
-AreBytes bytes = All (λ byte. byte < 256) bytes
 
 -- runs whose bytes, in order, are these bytes
 pub record IsCutOf (runs : List (List ℕ)) (bytes : List ℕ) : Type 0 where
@@ -60,6 +59,39 @@ IsFirstBad bytes last [] bad = ⊥
 IsFirstBad bytes last (end ∷ ends) bad =
     ((end ≡ bad) × ¬ ((last < end) × IsPlace bytes end))
     ⊎ ((last < end) × IsPlace bytes end × IsFirstBad bytes end ends bad)
+
+-- each of the ends is greater than the one before it, the first one than `last`, and is the place of a frame
+abbrev pub AreEnds : List ℕ → ℕ → List ℕ → Type 0
+AreEnds bytes last [] = Unit {0}
+AreEnds bytes last (end ∷ ends) = (last < end) × IsPlace bytes end × AreEnds bytes end ends
+
+-- what a refusal says of a file: it is truncated there; or it is whole, and that is a bad end; or it has such a cut,
+-- of more morsels than are allowed; or, out of memory, it has such a cut, of no more than are allowed
+abbrev pub IsFaultOf : (ℕ → Type 0) → (List (List ℕ) → Type 0) → List ℕ → CutFault → Type 0
+IsFaultOf IsBad IsIt bytes (Truncated place) = IsTruncatedAt bytes place
+IsFaultOf IsBad IsIt bytes (NotABoundary end) = IsWhole bytes × IsBad end
+IsFaultOf IsBad IsIt bytes TooManyMorsels = (runs : List (List ℕ)) × IsIt runs × (MOST_MORSELS < length runs)
+IsFaultOf IsBad IsIt bytes OutOfMemory = (runs : List (List ℕ)) × IsIt runs × (length runs ≤ MOST_MORSELS)
+
+-- what a refusal of `cut`, or of a `Cutter`, says
+abbrev pub IsCutFault : ℕ → List ℕ → CutFault → Type 0
+IsCutFault target bytes fault = IsFaultOf (λ _. ⊥) (λ runs. IsCutBy target runs bytes) bytes fault
+
+-- what a refusal of `cut_at` says
+abbrev pub IsCutAtFault : List ℕ → List ℕ → CutFault → Type 0
+IsCutAtFault ends bytes fault = IsFaultOf (IsFirstBad bytes 0 ends) (λ runs. IsCutAt ends runs bytes) bytes fault
+
+-- the first run of a cut by a target has this many bytes
+pub record IsFirstRun (target : ℕ) (n : ℕ) (bytes : List ℕ) : Type 0 where
+  pub within : n ≤ length bytes
+  pub run : IsRun (take n bytes)
+  pub shortest : HasNoShorter target (take n bytes)
+  pub full : n < length bytes → target ≤ n
+
+-- the rest as a run, if there is any
+abbrev pub rest_run : List ℕ → List (List ℕ)
+rest_run [] = []
+rest_run (byte ∷ bytes) = (byte ∷ bytes) ∷ []
 
 -- what contracts see of a morsel: its number in its cut, the number of bytes before it, its bytes
 pub record MorselView : Type 0 where

@@ -1,9 +1,10 @@
 -- What was fed to a `Cutter`.
 -- To be believed of a crate used by itself.
-use Rattle.std.specs.Prelude.{◌≡◌, ℕ, ◌+◌, ◌<◌, ◌≤◌, List, ◌++◌, length, All}
+use Rattle.std.specs.Prelude.{◌≡◌, ℕ, ◌+◌, ◌<◌, ◌≤◌, List, ◌++◌, length, take, drop, All}
 use Rattle.std.specs.List.{concat}
-use Rattle.lists.specs.declared.limits.TheConstants.{MOST_MORSELS}
+use Rattle.lists.specs.declared.limits.TheConstants.{LONGEST_FILE, MOST_MORSELS}
 use Rattle.day_file.specs.Cuts.{IsRun, HasNoShorter}
+use Rattle.day_file.specs.Frames.{IsWhole}
 
 -- what contracts see of a `Cutter`: its target, the runs that it keeps, how many bytes the full runs after those had,
 -- and the bytes after all full runs
@@ -32,3 +33,20 @@ pub record HasFed (cutter : CutterView) (fed : List ℕ) : Type 0 where
   pub past : length (concat beyond) ≡ cutter.past
   pub most : 0 < cutter.past → MOST_MORSELS ≤ length cutter.cut
   pub joined : fed ≡ concat (cutter.cut ++ beyond) ++ cutter.rest
+
+-- what a cutter keeps between its calls: something was fed, and of the bytes after the full runs the first `whole` are
+-- known to be whole frames
+pub record IsCutting (cutter : CutterView) (whole : ℕ) : Type 0 where
+  pub fed : List ℕ
+  pub has : HasFed cutter fed
+  pub below : whole < cutter.target
+  pub within : whole ≤ length cutter.rest
+  pub front : IsWhole (take whole cutter.rest)
+  pub bound : fed_length cutter ≤ LONGEST_FILE
+
+-- a run of so many bytes was taken off the head of the rest
+pub record IsTaken (end : ℕ) (old new : CutterView) : Type 0 where
+  pub fed : (fed : List ℕ) → HasFed old fed → HasFed new fed
+  pub bytes : length (concat new.cut) + new.past ≡ (length (concat old.cut) + old.past) + end
+  pub target : new.target ≡ old.target
+  pub rest : new.rest ≡ drop end old.rest

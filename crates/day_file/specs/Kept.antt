@@ -3,7 +3,8 @@
 use Rattle.std.specs.Prelude.{◌≡◌, ℕ, ◌+◌, ◌≤◌, List, [], ◌∷◌, length, map, All}
 use Rattle.std.specs.List.{concat}
 use Rattle.lists.specs.declared.limits.TheConstants.{LONGEST_FILE, MOST_MORSELS}
-use Rattle.day_file.specs.Cuts.{AreBytes, IsRun, MorselView}
+use Rattle.lists.specs.Among.{AreBytes}
+use Rattle.day_file.specs.Cuts.{IsRun, MorselView}
 
 -- the bytes of each morsel
 abbrev pub runs_of : List MorselView → List (List ℕ)

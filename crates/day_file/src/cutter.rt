@@ -1,11 +1,8 @@
 ghost use Rattle.std.specs.Prelude.{◌≡◌, ◌≤◌, ◌<◌, ◌+◌, ◌++◌, ◌⊎◌, [], ℕ, List, length, drop, IfErr, IfOk, IfSome, IsNone, OnErr, OnOk, vec_len, All};
 ghost use Rattle.std.specs.List.{concat};
 ghost use Rattle.lists.specs.declared.limits.TheConstants.{MOST_MORSELS};
-ghost use Rattle.day_file.specs.Cuts.{IsCutBy};
-ghost use Rattle.day_file.specs.Follow.{IsFirstRun};
-ghost use Rattle.day_file.specs.CutFaults.{IsCutFault};
-ghost use Rattle.day_file.specs.Cutting.{IsTaken};
-ghost use Rattle.day_file.specs.Feeding.{HasFed, IsFullRun, fed_length};
+ghost use Rattle.day_file.specs.Cuts.{IsCutBy, IsCutFault, IsFirstRun};
+ghost use Rattle.day_file.specs.Feeding.{HasFed, IsFullRun, IsTaken, fed_length};
 ghost use Rattle.day_file.specs.Frames.{IsTruncatedAt, IsWhole};
 
 use crate::runs::{count_runs, head_of};
@@ -30,8 +27,7 @@ pub struct Cutter {
 
 impl Model for Cutter {
     ghost use Rattle.std.specs.Prelude.{◌≤◌, drop, vec_len};
-    ghost use Rattle.day_file.specs.Cutting.{IsCutting};
-    ghost use Rattle.day_file.specs.Feeding.{CutterView};
+    ghost use Rattle.day_file.specs.Feeding.{CutterView, IsCutting};
 
     ghost Value = { CutterView };
 
@@ -192,12 +188,13 @@ impl Cutter {
         ensures none { IsNone result → (IsWhole self.old.rest × (length self.old.rest < self.old.target))
             ⊎ ((place : ℕ) × IsTruncatedAt self.old.rest place) }
     {
-        let head = head_of(self.left(), self.whole, self.target);
-        if head.is_run {
-            return Some(head.end);
+        match head_of(self.left(), self.whole, self.target) {
+            Ok(end) => Some(end),
+            Err(whole) => {
+                self.whole = whole;
+                None
+            }
         }
-        self.whole = head.end;
-        None
     }
 
     // Takes the full run off the head of the rest.

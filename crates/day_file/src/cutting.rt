@@ -1,8 +1,6 @@
 ghost use Rattle.std.specs.Prelude.{◌≡◌, ◌≤◌, ◌<◌, ◌↔◌, ◌∷◌, [], ℕ, List, length, take, IfOk, IfErr, IfSome, IsNone, IsTrue};
 ghost use Rattle.day_file.specs.Frames.{IsWhole};
-ghost use Rattle.day_file.specs.Cuts.{IsCutAt, IsCutBy, IsFirstBad};
-ghost use Rattle.day_file.specs.Follow.{AreEnds, runs_at};
-ghost use Rattle.day_file.specs.CutFaults.{IsCutAtFault, IsCutFault};
+ghost use Rattle.day_file.specs.Cuts.{AreEnds, IsCutAt, IsCutAtFault, IsCutBy, IsCutFault, IsFirstBad};
 
 use crate::runs::{count_runs, run_at};
 use crate::{Cut, DayFile, OutOfMemory, Truncated, check};
@@ -139,7 +137,7 @@ fn make_at(alloc: Global, bytes: &[u8], ends: &[u64]) -> Result<Cut, OutOfMemory
     requires whole { IsWhole bytes.now }
     requires ends { AreEnds bytes.now 0 ends.now }
     requires few { length ends.now < MOST_MORSELS }
-    ensures { IfOk result (λ cut. cut ≡ runs_at 0 bytes.now ends.now) }
+    ensures { IfOk result (λ cut. IsCutAt ends.now cut bytes.now) }
 {
     let mut cut = Cut::empty(alloc);
     let mut start = 0;

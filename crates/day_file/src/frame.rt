@@ -30,7 +30,7 @@ pub struct Frames<'a> {
 impl<'a> Model for Frames<'a> {
     ghost use Rattle.std.specs.Prelude.{◌+◌, ◌≤◌, length};
     ghost use Rattle.lists.specs.declared.limits.TheConstants.{LONGEST_FILE};
-    ghost use Rattle.day_file.specs.Cuts.{AreBytes};
+    ghost use Rattle.lists.specs.Among.{AreBytes};
     ghost use Rattle.day_file.specs.Frames.{FramesLeft};
     ghost use Rattle.day_file.specs.Walk.{left_of};
 

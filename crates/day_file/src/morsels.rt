@@ -1,8 +1,8 @@
 ghost use Rattle.std.specs.Prelude.{◌≡◌, ◌≤◌, ◌<◌, ◌+◌, ◌++◌, ◌∷◌, [], ℕ, List, length, OnOk, OnErr, IfOk, slice_get, Some, vec_len, All};
 ghost use Rattle.std.specs.List.{concat};
 ghost use Rattle.std.specs.Arc.{arc_value};
-ghost use Rattle.day_file.specs.Cuts.{AreBytes, IsRun, start_of};
-ghost use Rattle.day_file.specs.Follow.{rest_run};
+ghost use Rattle.lists.specs.Among.{AreBytes};
+ghost use Rattle.day_file.specs.Cuts.{IsRun, rest_run, start_of};
 ghost use Rattle.day_file.specs.Frames.{IsWhole};
 
 use crate::{Morsel, OutOfMemory};

@@ -1,7 +1,6 @@
-ghost use Rattle.std.specs.Prelude.{◌≡◌, ◌≤◌, ◌<◌, ◌⊎◌, ℕ, List, length, take, drop, IfOk, IfErr, IsTrue, false};
+ghost use Rattle.std.specs.Prelude.{◌≡◌, ◌≤◌, ◌<◌, ◌⊎◌, ℕ, List, length, take, drop, IfOk, IfErr};
 ghost use Rattle.day_file.specs.Frames.{IsTruncatedAt, IsWhole};
-ghost use Rattle.day_file.specs.Cuts.{IsCutBy};
-ghost use Rattle.day_file.specs.Follow.{IsFirstRun};
+ghost use Rattle.day_file.specs.Cuts.{IsCutBy, IsFirstRun};
 
 use crate::frame::LENGTH_BYTES;
 use crate::{Frames, Truncated};
@@ -66,39 +65,23 @@ pub(crate) fn count_runs(bytes: &[u8], target: u64) -> Result<u64, Truncated>
     Ok(count)
 }
 
-/// Whether some bytes begin with a whole run, and where it ends, or otherwise how many bytes of
-/// whole frames they begin with.
-#[derive(Clone, Copy, Debug, PartialEq, Eq)]
-pub(crate) struct Head {
-    pub(crate) is_run: bool,
-    pub(crate) end: usize,
-}
-
-/// What these bytes begin with, of which the first `whole` are known to be whole frames: only what
-/// comes after those is looked at.
-pub(crate) fn head_of(bytes: &[u8], whole: usize, target: u64) -> Head
+/// Where the run that these bytes begin with ends, or otherwise how many bytes of whole frames they
+/// begin with. The first `whole` are known to be whole frames: only what comes after those is looked at.
+pub(crate) fn head_of(bytes: &[u8], whole: usize, target: u64) -> Result<usize, usize>
     requires limit { length bytes.now ≤ LONGEST_FILE }
     requires below { whole < target }
     requires within { whole ≤ length bytes.now }
     requires front { IsWhole (take whole bytes.now) }
-    ensures run { IsTrue result.is_run → IsFirstRun target result.end bytes.now × (target ≤ result.end) }
-    ensures open { result.is_run ≡ false → IsWhole (take result.end bytes.now) × (result.end < target)
-        × ((result.end ≡ length bytes.now) ⊎ IsTruncatedAt bytes.now result.end) }
+    ensures run { IfOk result (λ end. IsFirstRun target end bytes.now × (target ≤ end)) }
+    ensures open { IfErr result (λ end. IsWhole (take end bytes.now) × (end < target)
+        × ((end ≡ length bytes.now) ⊎ IsTruncatedAt bytes.now end)) }
 {
     if whole == bytes.len() {
-        return Head {
-            is_run: false,
-            end: whole,
-        };
+        return Err(whole);
     }
     match first_run(bytes, whole, target) {
-        Ok(end) => Head {
-            is_run: end as u64 >= target,
-            end,
-        },
-        Err(fault) => Head {
-            is_run: false,
-            end: fault.place as usize,
-        },
+        Ok(end) if end as u64 >= target => Ok(end),
+        Ok(end) => Err(end),
+        Err(fault) => Err(fault.place as usize),
     }
 }

@@ -14,7 +14,7 @@ use Rattle.lists.proofs.Order.{sorted-filter_map}
 use Rattle.row_types.specs.declared.trade.Execution.{Execution}
 use Rattle.row_types.specs.declared.trade.Sale.{Sale}
 use Rattle.probe.specs.Pricing.{priced}
-use Rattle.probe.specs.Trades.{is_kept, kept}
+use Rattle.probe.specs.Selection.{is_kept, kept}
 use Rattle.row_types.specs.SalesByPlace.{place_cmp}
 use Rattle.itch_messages.specs.Body.{message_of}
 use Rattle.day_file.specs.Frames.{PlacedBody}

@@ -1,10 +1,10 @@
 -- The times of the messages of a file fit six bytes and their locates two, since they are read from so many.
 use Rattle.std.proofs.Common.{◌≡◌, ℕ, List, Option, Some, sym, ap, subst, arith}
 use Rattle.std.proofs.lemmas.List.Elements.{All-filter, All-from_recursion}
-use Rattle.itch_messages.specs.Body.{FitsMessage, message_of}
-use Rattle.itch_messages.specs.Fields.{AreBytes}
+use Rattle.itch_messages.specs.Body.{message_of}
+use Rattle.lists.specs.Among.{AreBytes}
 use Rattle.itch_messages.specs.declared.message.Message.{Message}
-use Rattle.itch_messages.proofs.Laws.{FitsMessage-message_of}
+use Rattle.itch_messages.proofs.Laws.{FitsMessage, FitsMessage-message_of}
 use Rattle.day_file.specs.Frames.{PlacedBody, StandsFor}
 use Rattle.day_file.proofs.BodyBytes.{bodies_are_bytes}
 use Rattle.row_types.specs.declared.trade.Execution.{Execution}

@@ -7,7 +7,7 @@ use Rattle.row_types.specs.declared.order.OrderRow.{OrderRow}
 use Rattle.row_types.specs.declared.trade.Execution.{Execution}
 use Rattle.row_types.specs.declared.trade.Sale.{Sale}
 use Rattle.probe.specs.Pricing.{sale_of, priced}
-use Rattle.probe.specs.Trades.{is_kept, kept}
+use Rattle.probe.specs.Selection.{is_kept, kept}
 use Rattle.day_rows.specs.DayRows.{IsStamped}
 
 -- what is made of items that have a property

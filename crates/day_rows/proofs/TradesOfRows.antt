@@ -10,7 +10,7 @@ use Rattle.lists.proofs.Lists.{filter_map_as_flat_map, filter_map-flat_map, IsPe
 use Rattle.lists.proofs.Order.{same_from_permutation, sorted-filter_map}
 use Rattle.row_types.specs.declared.trade.Sale.{Sale}
 use Rattle.probe.specs.Pricing.{sale_of, priced}
-use Rattle.probe.specs.Trades.{is_kept, kept}
+use Rattle.probe.specs.Selection.{is_kept, kept}
 use Rattle.row_types.specs.SalesByPlace.{place_cmp}
 use Rattle.day_rows.specs.Messages.{Placed, execution_at, own_priced_at, order_rows, executions, own_priced_sales, break_numbers, trade_at, trades}
 use Rattle.day_rows.specs.DayRows.{AreByPlace}

@@ -12,20 +12,8 @@ use Rattle.row_types.specs.declared.directory.DirectoryRow.{DirectoryRow}
 use Rattle.lists.specs.declared.limits.TheConstants.{TIME_LIMIT}
 use Rattle.day_rows.specs.declared.row.Row.{Row}
 use Rattle.day_rows.specs.declared.row.Row.TheVariants as one
-use Rattle.day_rows.specs.Messages.{
-  Placed,
-  is_counted,
-  order_row_at,
-  execution_at,
-  own_priced_at,
-  break_of,
-  directory_row_at,
-  order_rows,
-  executions,
-  own_priced_sales,
-  break_numbers,
-  directory_rows,
-}
+use Rattle.day_rows.specs.Messages.{Placed, is_counted, order_row_at, execution_at, own_priced_at, break_of, directory_row_at}
+use Rattle.day_rows.specs.Messages.{order_rows, executions, own_priced_sales, break_numbers, directory_rows}
 
 -- what some messages give, each list in their order
 pub record DayRows : Type 0 where
@@ -39,34 +27,14 @@ pub record DayRows : Type 0 where
 abbrev pub no_rows : DayRows
 no_rows = record { orders = []; executions = []; own_priced = []; breaks = []; directory = [] }
 
--- the row of one order and no other rows
-abbrev pub only_order : OrderRow → DayRows
-only_order row = record { orders = row ∷ []; executions = []; own_priced = []; breaks = []; directory = [] }
-
--- the row of one execution and no other rows
-abbrev pub only_execution : Execution → DayRows
-only_execution row = record { orders = []; executions = row ∷ []; own_priced = []; breaks = []; directory = [] }
-
--- one sale with a price of its own and no other rows
-abbrev pub only_sale : Sale → DayRows
-only_sale row = record { orders = []; executions = []; own_priced = row ∷ []; breaks = []; directory = [] }
-
--- one break and no other rows
-abbrev pub only_break : ℕ → DayRows
-only_break trade_no = record { orders = []; executions = []; own_priced = []; breaks = trade_no ∷ []; directory = [] }
-
--- one row of the stock directory and no other rows
-abbrev pub only_directory_row : DirectoryRow → DayRows
-only_directory_row row = record { orders = []; executions = []; own_priced = []; breaks = []; directory = row ∷ [] }
-
 -- the rows that one row makes, if there is one
 abbrev pub told : Option Row → DayRows
 told None = no_rows
-told (Some (one.Order row)) = only_order row
-told (Some (one.Execution row)) = only_execution row
-told (Some (one.Sale row)) = only_sale row
-told (Some (one.Break trade_no)) = only_break trade_no
-told (Some (one.Directory row)) = only_directory_row row
+told (Some (one.Order row)) = record no_rows { orders = row ∷ [] }
+told (Some (one.Execution row)) = record no_rows { executions = row ∷ [] }
+told (Some (one.Sale row)) = record no_rows { own_priced = row ∷ [] }
+told (Some (one.Break trade_no)) = record no_rows { breaks = trade_no ∷ [] }
+told (Some (one.Directory row)) = record no_rows { directory = row ∷ [] }
 
 -- what a list of messages gives
 abbrev pub rows_of : List Placed → DayRows

@@ -3,6 +3,7 @@
 use Rattle.std.specs.Prelude.{ℕ, nat_le, ◌*◌, Bool, true, List, Option, Some, None, filter, filter_map, ◌==◌, if◌then◌else◌}
 use Rattle.std.specs.Option.{option_map_or, option_and_then}
 use Rattle.itch_messages.specs.Body.{message_of, has_wrong_length, time_of_message}
+use Rattle.itch_messages.specs.Layout.{HeaderFields}
 use Rattle.itch_messages.specs.declared.message.Message.{Message}
 use Rattle.itch_messages.specs.declared.message.Message.TheVariants.{Add, Executed, ExecutedAt, Replace, Trade, Cross, Broken, Directory, Skipped}
 use Rattle.day_file.specs.Frames.{PlacedBody}
@@ -12,6 +13,7 @@ use Rattle.row_types.specs.declared.order.OrderRow.{OrderRow}
 use Rattle.row_types.specs.declared.trade.Execution.{Execution}
 use Rattle.row_types.specs.declared.trade.Sale.{Sale}
 use Rattle.probe.specs.Pricing.{sale_of}
+use Rattle.row_types.specs.declared.trade.Kind.{Kind}
 use Rattle.row_types.specs.declared.trade.Kind.TheVariants.{C, P, Q}
 use Rattle.row_types.specs.declared.directory.DirectoryRow.{DirectoryRow}
 
@@ -64,35 +66,24 @@ execution_at place (Executed executed) = Some (record {
 })
 execution_at place _ = None
 
+-- the sale at this place, with the time and the locate of its header
+abbrev pub sale_with : ℕ → HeaderFields → Kind → ℕ → ℕ → ℕ → Sale
+sale_with place header kind price shares trade_no = record {
+  place = place;
+  time = header.time;
+  locate = header.locate;
+  kind = kind;
+  price = price;
+  shares = shares;
+  trade_no = trade_no;
+}
+
 -- a sale with a price of its own: a printable execution with price (89 is the letter Y), a trade, a cross
 abbrev pub own_priced_at : ℕ → Message → Option Sale
-own_priced_at place (ExecutedAt executed) = if executed.printable == 89 then Some (record {
-  place = place;
-  time = executed.header.time;
-  locate = executed.header.locate;
-  kind = C;
-  price = executed.price;
-  shares = executed.shares;
-  trade_no = executed.trade_no;
-}) else None
-own_priced_at place (Trade trade) = Some (record {
-  place = place;
-  time = trade.header.time;
-  locate = trade.header.locate;
-  kind = P;
-  price = trade.price;
-  shares = trade.shares;
-  trade_no = trade.trade_no;
-})
-own_priced_at place (Cross cross) = Some (record {
-  place = place;
-  time = cross.header.time;
-  locate = cross.header.locate;
-  kind = Q;
-  price = cross.price;
-  shares = cross.shares;
-  trade_no = cross.trade_no;
-})
+own_priced_at place (ExecutedAt m) =
+    if m.printable == 89 then Some (sale_with place m.header C m.price m.shares m.trade_no) else None
+own_priced_at place (Trade m) = Some (sale_with place m.header P m.price m.shares m.trade_no)
+own_priced_at place (Cross m) = Some (sale_with place m.header Q m.price m.shares m.trade_no)
 own_priced_at place _ = None
 
 -- a break names a match number: each trade that has it is removed

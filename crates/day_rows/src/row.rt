@@ -1,8 +1,9 @@
 //! The row that a message gives.
 ghost use Rattle.std.specs.Prelude.{◌≡◌, Some};
 ghost use Rattle.day_rows.specs.DayRows.{AreStamped, IsStamped, rows_at, told};
+ghost use Rattle.day_rows.specs.Messages.{sale_with};
 
-use itch_messages::{Add, Cross, Directory, Executed, ExecutedAt, Header, Message, Replace, Trade};
+use itch_messages::{Directory, ExecutedAt, Header, Message};
 use row_types::{DirectoryRow, Execution, Kind, OrderRow, Sale};
 
 /// The byte of an execution that is printable.
@@ -31,57 +32,71 @@ pub fn row_of(place: u64, message: &Message) -> Option<Row>
     ensures stamped { AreStamped (told result) }
 {
     match message {
-        Message::Add(add) => Some(add_row(place, add)),
-        Message::Replace(replace) => Some(replace_row(place, replace)),
-        Message::Executed(executed) => Some(executed_row(place, executed)),
+        Message::Add(add) => Some(order_row(place, add.order_no, add.price)),
+        Message::Replace(replace) => Some(order_row(place, replace.new_no, replace.price)),
+        Message::Executed(executed) => Some(execution_row(
+            place,
+            executed.header,
+            executed.order_no,
+            executed.shares,
+            executed.trade_no,
+        )),
         Message::ExecutedAt(executed) => executed_at_row(place, executed),
-        Message::Trade(trade) => Some(trade_row(place, trade)),
-        Message::Cross(cross) => Some(cross_row(place, cross)),
+        Message::Trade(trade) => Some(sale_row(
+            place,
+            trade.header,
+            Kind::P,
+            trade.price,
+            trade.shares.into(),
+            trade.trade_no,
+        )),
+        Message::Cross(cross) => Some(sale_row(
+            place,
+            cross.header,
+            Kind::Q,
+            cross.price,
+            cross.shares,
+            cross.trade_no,
+        )),
         Message::Broken(broken) => Some(Row::Break(broken.trade_no)),
         Message::Directory(directory) => Some(directory_row(place, directory)),
         Message::Skipped => None,
     }
 }
 
-/// The reference of an order, with or without attribution.
+/// An order reference and its price.
 #[inline(always)]
-fn add_row(place: u64, add: &Add) -> Row
-    ensures row { told (Some result) ≡ rows_at place (Message.Add add.now) }
-    ensures stamped { AreStamped (told (Some result)) }
+fn order_row(place: u64, order_no: u64, price: u32) -> Row
+    ensures { result ≡ Row.Order (record { place = place; order_no = order_no; price = price }) }
 {
     Row::Order(OrderRow {
         place,
-        order_no: add.order_no,
-        price: add.price,
+        order_no,
+        price,
     })
 }
 
-/// The new reference of an order that replaces another.
+/// The execution with this header, which its order prices.
 #[inline(always)]
-fn replace_row(place: u64, replace: &Replace) -> Row
-    ensures row { told (Some result) ≡ rows_at place (Message.Replace replace.now) }
-    ensures stamped { AreStamped (told (Some result)) }
+fn execution_row(place: u64, header: Header, order_no: u64, shares: u32, trade_no: u64) -> Row
+    ensures row { result ≡ Row.Execution (record {
+      place = place;
+      time = header.time;
+      locate = header.locate;
+      order_no = order_no;
+      shares = shares;
+      trade_no = trade_no;
+    }) }
+    ensures stamped { IsStamped header.time header.locate }
 {
-    Row::Order(OrderRow {
+    Row::Execution(Execution {
         place,
-        order_no: replace.new_no,
-        price: replace.price,
+        time: header.time,
+        locate: header.locate,
+        order_no,
+        shares,
+        trade_no,
     })
-}
-
-/// An execution that its order prices.
-#[inline(always)]
-fn executed_row(place: u64, executed: &Executed) -> Row
-    ensures row { told (Some result) ≡ rows_at place (Message.Executed executed.now) }
-    ensures stamped { AreStamped (told (Some result)) }
-{
-    Row::Execution(execution(
-        place,
-        executed.header,
-        executed.order_no,
-        executed.shares,
-        executed.trade_no,
-    ))
 }
 
 /// An execution with a price, where it is printable.
@@ -93,45 +108,13 @@ fn executed_at_row(place: u64, executed: &ExecutedAt) -> Option<Row>
     if executed.printable != PRINTABLE {
         return None;
     }
-    Some(Row::Sale(sale(
+    Some(sale_row(
         place,
         executed.header,
         Kind::C,
         executed.price,
         executed.shares.into(),
         executed.trade_no,
-    )))
-}
-
-/// A trade.
-#[inline(always)]
-fn trade_row(place: u64, trade: &Trade) -> Row
-    ensures row { told (Some result) ≡ rows_at place (Message.Trade trade.now) }
-    ensures stamped { AreStamped (told (Some result)) }
-{
-    Row::Sale(sale(
-        place,
-        trade.header,
-        Kind::P,
-        trade.price,
-        trade.shares.into(),
-        trade.trade_no,
-    ))
-}
-
-/// A cross.
-#[inline(always)]
-fn cross_row(place: u64, cross: &Cross) -> Row
-    ensures row { told (Some result) ≡ rows_at place (Message.Cross cross.now) }
-    ensures stamped { AreStamped (told (Some result)) }
-{
-    Row::Sale(sale(
-        place,
-        cross.header,
-        Kind::Q,
-        cross.price,
-        cross.shares,
-        cross.trade_no,
     ))
 }
 
@@ -149,44 +132,13 @@ fn directory_row(place: u64, directory: &Directory) -> Row
     })
 }
 
-/// The execution with this header.
-#[inline(always)]
-fn execution(place: u64, header: Header, order_no: u64, shares: u32, trade_no: u64) -> Execution
-    ensures row { result ≡ record {
-      place = place;
-      time = header.time;
-      locate = header.locate;
-      order_no = order_no;
-      shares = shares;
-      trade_no = trade_no;
-    } }
-    ensures stamped { IsStamped result.time result.locate }
-{
-    Execution {
-        place,
-        time: header.time,
-        locate: header.locate,
-        order_no,
-        shares,
-        trade_no,
-    }
-}
-
 /// The sale with this header.
 #[inline(always)]
-fn sale(place: u64, header: Header, kind: Kind, price: u32, shares: u64, trade_no: u64) -> Sale
-    ensures row { result ≡ record {
-      place = place;
-      time = header.time;
-      locate = header.locate;
-      kind = kind;
-      price = price;
-      shares = shares;
-      trade_no = trade_no;
-    } }
-    ensures stamped { IsStamped result.time result.locate }
+fn sale_row(place: u64, header: Header, kind: Kind, price: u32, shares: u64, trade_no: u64) -> Row
+    ensures row { result ≡ Row.Sale (sale_with place header kind price shares trade_no) }
+    ensures stamped { IsStamped header.time header.locate }
 {
-    Sale {
+    Row::Sale(Sale {
         place,
         time: header.time,
         locate: header.locate,
@@ -194,5 +146,5 @@ fn sale(place: u64, header: Header, kind: Kind, price: u32, shares: u64, trade_n
         price,
         shares,
         trade_no,
-    }
+    })
 }

@@ -1,18 +1,5 @@
 ghost use Rattle.std.specs.Prelude.{◌≡◌, All, OnErr, OnOk, Some};
-ghost use Rattle.day_rows.specs.DayRows.{
-  AreStamped,
-  IsStamped,
-  counted_rows_at,
-  joined,
-  no_rows,
-  only_break,
-  only_directory_row,
-  only_execution,
-  only_order,
-  only_sale,
-  rows_at,
-  told,
-};
+ghost use Rattle.day_rows.specs.DayRows.{AreStamped, IsStamped, counted_rows_at, joined, no_rows, rows_at, told};
 
 use crate::OutOfMemory;
 use crate::moment::counts;
@@ -151,58 +138,11 @@ impl<A: Allocator> Rows<A> {
         ensures unchanged { OnErr result (self.new ≡ self.old) }
     {
         match row {
-            Row::Order(row) => self.push_order(row),
-            Row::Execution(row) => self.push_execution(row),
-            Row::Sale(row) => self.push_sale(row),
-            Row::Break(trade_no) => self.push_break(trade_no),
-            Row::Directory(row) => self.push_directory_row(row),
+            Row::Order(row) => Ok(self.orders.push(row)?),
+            Row::Execution(row) => Ok(self.executions.push(row)?),
+            Row::Sale(row) => Ok(self.own_priced.push(row)?),
+            Row::Break(trade_no) => Ok(self.breaks.push(trade_no)?),
+            Row::Directory(row) => Ok(self.directory.push(row)?),
         }
-    }
-
-    #[inline(always)]
-    fn push_order(&mut self, row: OrderRow) -> Result<(), OutOfMemory>
-        ensures added { OnOk result (self.new ≡ joined self.old (only_order row)) }
-        ensures unchanged { OnErr result (self.new ≡ self.old) }
-    {
-        self.orders.push(row)?;
-        Ok(())
-    }
-
-    #[inline(always)]
-    fn push_execution(&mut self, row: Execution) -> Result<(), OutOfMemory>
-        requires { IsStamped row.time row.locate }
-        ensures added { OnOk result (self.new ≡ joined self.old (only_execution row)) }
-        ensures unchanged { OnErr result (self.new ≡ self.old) }
-    {
-        self.executions.push(row)?;
-        Ok(())
-    }
-
-    #[inline(always)]
-    fn push_sale(&mut self, row: Sale) -> Result<(), OutOfMemory>
-        requires { IsStamped row.time row.locate }
-        ensures added { OnOk result (self.new ≡ joined self.old (only_sale row)) }
-        ensures unchanged { OnErr result (self.new ≡ self.old) }
-    {
-        self.own_priced.push(row)?;
-        Ok(())
-    }
-
-    #[inline(always)]
-    fn push_break(&mut self, trade_no: u64) -> Result<(), OutOfMemory>
-        ensures added { OnOk result (self.new ≡ joined self.old (only_break trade_no)) }
-        ensures unchanged { OnErr result (self.new ≡ self.old) }
-    {
-        self.breaks.push(trade_no)?;
-        Ok(())
-    }
-
-    #[inline(always)]
-    fn push_directory_row(&mut self, row: DirectoryRow) -> Result<(), OutOfMemory>
-        ensures added { OnOk result (self.new ≡ joined self.old (only_directory_row row)) }
-        ensures unchanged { OnErr result (self.new ≡ self.old) }
-    {
-        self.directory.push(row)?;
-        Ok(())
     }
 }

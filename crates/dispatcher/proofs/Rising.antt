@@ -1,6 +1,10 @@
 -- A seat's claims rise, so a worker that claims until it finds no task ends: 2 * tasks - above claims falls at each claim that gives a task.
 use Rattle.std.proofs.Common.{◌≡◌, ℕ, suc, ◌+◌, ◌-◌, ◌*◌, ◌<◌, ◌≤◌, List, [], ◌∷◌, ◌++◌, All, refl, arith}
-use Rattle.dispatcher.specs.Claims.{above}
+
+-- one more than the last claim, or 0 before the first
+abbrev pub above : List ℕ → ℕ
+above [] = 0
+above (c ∷ cs) = elim cs [ [] ↦ c + 1 | _ ∷ _ ↦ above cs ]
 
 pub above_snoc : (xs : List ℕ) (c : ℕ) → above (xs ++ c ∷ []) ≡ c + 1
 above_snoc [] c = refl

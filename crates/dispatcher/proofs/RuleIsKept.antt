@@ -5,7 +5,7 @@ use mathlib.Core.Option.{none, some}
 use mathlib.Core.Logic.{dite}
 use native.Mathlib.Decide.{ℕ_discrete}
 use lib.ListN.{get_elem?}
-use Rattle.std.specs.List.{range_with_len}
+use Rattle.std.specs.List.{flat_map, range_with_len}
 use Rattle.std.proofs.lemmas.Bool.Decides.{nat_tests}
 use Rattle.std.proofs.lemmas.Grind.{common_steps}
 use Rattle.std.proofs.lemmas.List.{length-replicate, set-get_or}
@@ -18,8 +18,8 @@ use Rattle.lists.proofs.Lists.{get_or-replicate_itself}
 use Rattle.lists.specs.declared.limits.TheConstants.{MOST_TASKS, MOST_SEATS}
 use Rattle.dispatcher.specs.declared.rule.View.{View}
 use Rattle.dispatcher.specs.declared.rule.Size.{Size}
-use Rattle.dispatcher.specs.Rule.{IsConsistent, IsFair, IsMarkWord, occurrences, once_below, late_count, unused_view, everyone, others, first_seat, joined_view}
-use Rattle.dispatcher.specs.Seats.{all_claims, claims as claims_of, marked_tasks, seen_tasks, HasAllBut}
+use Rattle.dispatcher.specs.Rule.{IsConsistent, IsFair, IsMarkWord, occurrences, once_below, late_count, unused_view, joined_view}
+use Rattle.dispatcher.specs.Seats.{claims as claims_of, marked_tasks, seen_tasks}
 use Rattle.dispatcher.specs.declared.seat.Seat.{Seat}
 use Rattle.dispatcher.specs.Rule.{TellsClaim, TellsMark, TellsLook}
 use Rattle.dispatcher.proofs.Occurrences.{at_read, sum_set, part_le_sum, sum_le, occurs_contained, occurs_range, occurrences_flat}
@@ -68,7 +68,7 @@ unused_is_fair : (size : Size) (numbers : List ℕ) → IsFair size (unused_view
 unused_is_fair size numbers = record { late_claims = omega arith; spent = λ _. (refl, refl, refl) }
 
 pub opens : (size : Size) (words : List ℕ) → size.tasks ≤ MOST_TASKS → size.seats ≤ MOST_SEATS → words ≡ replicate (size.tasks + 1) 0
-    → IsConsistent size (opening words [] (everyone size))
+    → IsConsistent size (opening words [] (unused_view (range_with_len 0 size.seats)))
 opens size words tasks seats zeros = let zero_at : (i : ℕ) → slice_index words i ≡ 0 =
     λ i. ap (λ l. slice_index l i) zeros ∙ get_or-replicate_itself (size.tasks + 1) i 0 in record {
       wide = ap length zeros ∙ length-replicate (size.tasks + 1) 0;
@@ -78,7 +78,7 @@ opens size words tasks seats zeros = let zero_at : (i : ℕ) → slice_index wor
       all_seats = omega (arith, length-range_with_len 0 size.seats);
       late = omega (arith, zero_at 0);
       marks = λ t. (zero_at (t + 1), λ none. absurd (omega arith));
-      each = All-push (IsFair size) [] (everyone size) (λ k d h. absurd (omega arith)) (unused_is_fair size (range_with_len 0 size.seats));
+      each = All-push (IsFair size) [] _ (λ k d h. absurd (omega arith)) (unused_is_fair size (range_with_len 0 size.seats));
     }
 
 module _ (size : Size) (id : ℕ) (me : Sat) (one : length me.0.numbers ≡ 1) where
@@ -159,8 +159,8 @@ module _ (size : Size) (id : ℕ) (me : Sat) (one : length me.0.numbers ≡ 1) w
         ))
 
 pub splits : (size : Size) (id : ℕ) (numbers : List ℕ)
-    → Splits (IsConsistent size) id (unused_view numbers) (others (unused_view numbers)) (first_seat (unused_view numbers))
-splits size id numbers s r at = let v : View = unused_view numbers in let l : View = others v in let w : View = first_seat v in
+    → Splits (IsConsistent size) id (unused_view numbers) (unused_view (drop 1 numbers)) (unused_view (take 1 numbers))
+splits size id numbers s r at = let v : View = unused_view numbers in let l : View = unused_view (drop 1 numbers) in let w = unused_view (take 1 numbers) in
     regrouped size s (set s.views id l ++ w ∷ []) r
     (λ f adds. let cut = rw take-append-drop at (adds w l) in omega (arith, sum_by_push f (set s.views id l) w, sum_set f s.views id v l at))
     (All-push (IsFair size) (set s.views id l) w (All-set (IsFair size) s.views id l (unused_is_fair size (drop 1 numbers)) r.each)
@@ -179,17 +179,24 @@ joins size id v other w s r at apart there = let u : View = joined_view v w in l
     (All-set (IsFair size) _ other e (unused_is_fair size []) (All-set (IsFair size) s.views id u
     (joined_is_fair size v w (fair_at size s r id v at) (fair_at size s r other w (sym (set_else s.views id other u apart) ∙ there))) r.each))
 
+-- of whatever adds up when views are joined the view has what the seats of `whole` have, without those of `rest`
+pub record HasAllBut (v : View) (rest whole : List Seat) : Type 0 where
+  pub seats : length v.numbers + length rest ≡ length whole
+  pub sums : (f : View → ℕ) → ((a b : View) → f (joined_view a b) ≡ f a + f b)
+      → f v + sum_by (λ s. f s.inner.me.0) rest ≡ sum_by (λ s. f s.inner.me.0) whole
+
 -- what the words say of the seats that one view stands for
 pub record IsSettled (size : Size) (seats : List Seat) (count : ℕ) (words : List ℕ) : Type 0 where
   pub wide : length words ≡ size.tasks + 1
-  pub claims_once : (x : ℕ) → occurrences x (all_claims seats) ≡ once_below count x
+  pub claims_once : (x : ℕ) → occurrences x (flat_map claims_of seats) ≡ once_below count x
   pub few : count ≤ 2 * size.tasks + size.seats
   pub marks : (t : ℕ) → IsMarkWord (slice_index words (t + 1)) (sum_by (λ s. occurrences t (marked_tasks s)) seats)
       (sum_by (λ s. occurrences t (seen_tasks s)) seats)
 
-pub settles : (size : Size) (s : St) (id : ℕ) (v : View) (seats : List Seat) → IsConsistent size s → get_elem? s.views id ≡ some v → HasAllBut v [] seats
+pub settles : (size : Size) (s : St) (id : ℕ) (v : View) (seats : List Seat) → IsConsistent size s → get_elem? s.views id ≡ some v
+    → length v.numbers ≡ length seats → ((f : View → ℕ) → ((a b : View) → f (joined_view a b) ≡ f a + f b) → f v ≡ sum_by (λ s. f s.inner.me.0) seats)
     → length seats ≡ size.seats → IsSettled size seats (slice_index s.words 0) s.words
-settles size s id v seats r at all count = record {
+settles size s id v seats r at has_all sums count = record {
   wide = r.wide;
   claims_once = λ x. let same = whole (λ u. occurrences x u.claims) (λ a b. grind (arith, sum_by-append {X = ℕ})) (λ u idle. ap (occurrences x) idle.0) in
       omega (arith, r.claims_once x, occurrences_flat claims_of seats x);
@@ -204,7 +211,7 @@ settles size s id v seats r at all count = record {
     whole : (f : View → ℕ) → ((a b : View) → f (joined_view a b) ≡ f a + f b) → ((u : View) → (u.claims ≡ []) × (u.marked ≡ []) × (u.seen ≡ []) → f u ≡ 0)
         → sum_by f s.views ≡ sum_by (λ seat. f seat.inner.me.0) seats
     whole f adds idle = let e : View = unused_view [] in let others : List View = set s.views id e in let no_more = adds e e in
-        let rest = sum_set (λ u. length u.numbers) s.views id v e at in let as_many = r.all_seats in let has_all = all.seats in
+        let rest = sum_set (λ u. length u.numbers) s.views id v e at in let as_many = r.all_seats in
         let none = sum_by-le f 0 others (λ k d h. let part = get_or-le-sum_by (λ u. length u.numbers) others k d h in
         let done = idle (get_or others k d) ((All-set (IsFair size) s.views id e (unused_is_fair size []) r.each k d h).spent (omega arith)) in omega arith) in
-        omega (arith, sum_set f s.views id v e at, all.sums f adds)
+        omega (arith, sum_set f s.views id v e at, sums f adds)

@@ -1,4 +1,3 @@
 -- What the contracts speak of, and the rule that they follow from.
-pub mod Claims
 pub mod Rule
 pub mod Seats

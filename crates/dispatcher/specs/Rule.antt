@@ -3,9 +3,7 @@
 --
 -- Word 0 is the number of claims that were made. Word t + 1 is 1 if task t is marked, else 0.
 use Rattle.std.specs.Prelude.{◌≡◌, ◌⊎◌, ℕ, ◌+◌, ◌-◌, ◌*◌, ◌<◌, ◌≤◌, ◌==◌, min, nat_lt, nat_le}
-use Rattle.std.specs.Prelude.{if◌then◌else◌, List, [], ◌∷◌, ◌++◌, take, drop, length, slice_index}
-use Rattle.std.specs.Prelude.{All, Contains, sum_by, count_by}
-use Rattle.std.specs.List.{range_with_len}
+use Rattle.std.specs.Prelude.{if◌then◌else◌, List, [], ◌∷◌, ◌++◌, length, slice_index, All, Contains, sum_by, count_by}
 use Rattle.lists.specs.declared.limits.TheConstants.{MOST_TASKS, MOST_SEATS}
 use Rattle.atomic_table.specs.Table.{State, Me, Step}
 use Rattle.dispatcher.specs.declared.rule.View.{View}
@@ -26,14 +24,6 @@ late_count tasks claims = count_by (λ c. nat_le (2 * tasks) c) claims
 -- the view of a seat that has done nothing
 abbrev pub unused_view : List ℕ → View
 unused_view numbers = record { numbers = numbers; claims = []; marked = []; seen = [] }
-
--- the view of the first seat, which has all numbers of seats
-abbrev pub everyone : Size → View
-everyone size = unused_view (range_with_len 0 size.seats)
-
--- the view of the seat that has the numbers from k on
-abbrev pub view_from : ℕ → ℕ → View
-view_from k seats = unused_view (range_with_len k (seats - k))
 
 -- the word of a task, how often seats marked the task, and how often seats saw it marked
 abbrev pub IsMarkWord : ℕ → ℕ → ℕ → Type 0
@@ -60,32 +50,24 @@ pub record IsConsistent (size : Size) (s : State (Unit {0}) View) : Type 0 where
       (sum_by (λ v. occurrences t v.marked) s.views) (sum_by (λ v. occurrences t v.seen) s.views)
   pub each : All (IsFair size) s.views
 
-abbrev Sat : Type 0
-Sat = Me (Unit {0}) View
+-- what a seat knows before and after a step that finds this in its word
+module _ (st : Step (Unit {0})) (m : Me (Unit {0}) View) (word : ℕ) (m' : Me (Unit {0}) View) where
+  -- a claim is greater than all that the seat made before
+  abbrev pub TellsClaim : Type 0
+  TellsClaim = (m' ≡ (record m.0 { claims = m.0.claims ++ word ∷ [] }, m.1)) × All (λ x. x < word) m.0.claims
 
--- a claim is greater than all that the seat made before
-abbrev pub TellsClaim : Step (Unit {0}) → Sat → ℕ → Sat → Type 0
-TellsClaim st m c m' =
-    (m' ≡ (record m.0 { claims = m.0.claims ++ c ∷ [] }, m.1)) × All (λ x. x < c) m.0.claims
+  -- the word t + 1 is that of task t
+  abbrev pub TellsMark : Type 0
+  TellsMark = let task = st.word - 1 in
+      m' ≡ (record m.0 { marked = m.0.marked ++ task ∷ []; seen = m.0.seen ++ task ∷ [] }, m.1)
 
--- the word t + 1 is that of task t
-abbrev pub TellsMark : Step (Unit {0}) → Sat → ℕ → Sat → Type 0
-TellsMark st m was m' = let task = st.word - 1 in
-    m' ≡ (record m.0 { marked = m.0.marked ++ task ∷ []; seen = m.0.seen ++ task ∷ [] }, m.1)
+  -- a task that is not marked was not seen marked before
+  abbrev pub TellsLook : Type 0
+  TellsLook = let task = st.word - 1 in
+      ((word ≡ 0) × (¬ Contains m.0.seen task) × (m' ≡ m))
+      ⊎ ((word ≡ 1) × (m' ≡ (record m.0 { seen = m.0.seen ++ task ∷ [] }, m.1)))
 
--- a task that is not marked was not seen marked before
-abbrev pub TellsLook : Step (Unit {0}) → Sat → ℕ → Sat → Type 0
-TellsLook st m word m' = let task = st.word - 1 in
-    ((word ≡ 0) × (¬ Contains m.0.seen task) × (m' ≡ m))
-    ⊎ ((word ≡ 1) × (m' ≡ (record m.0 { seen = m.0.seen ++ task ∷ [] }, m.1)))
-
--- the first number of a view goes to a seat of its own
-abbrev pub others : View → View
-others v = record v { numbers = drop 1 v.numbers }
-
-abbrev pub first_seat : View → View
-first_seat v = unused_view (take 1 v.numbers)
-
+-- one seat that has what two had
 abbrev pub joined_view : View → View → View
 joined_view v w = record {
   numbers = v.numbers ++ w.numbers;

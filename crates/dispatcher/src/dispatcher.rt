@@ -10,8 +10,7 @@ mod make;
 mod settle;
 mod steps;
 
-/// Deals each task at most twice, and notes which tasks are done. Contracts see its numbers of
-/// tasks and of seats.
+/// Deals each task at most twice, and notes which tasks are done. Contracts see its numbers of tasks and of seats.
 #[derive(Drop)]
 pub struct Dispatcher<A: Allocator = Global> {
     pub(crate) table: Table<(), View, Size, EachOnce, A>,

@@ -1,10 +1,8 @@
-//! Deals the tasks of a pipeline to workers, each task at most twice, and notes which tasks are
-//! done.
+//! Deals the tasks of a pipeline to workers, each task at most twice, and notes which tasks are done.
 //!
-//! Workers on any number of threads share a `Dispatcher`, and each owns a `Seat`. A claim takes the
-//! next number of all seats together: with n tasks, the numbers below 2 * n go through the tasks
-//! twice, and later ones find no task. `claim`, `mark` and `is_marked` are one atomic step each:
-//! they take no memory and wait for nobody.
+//! Workers on any number of threads share a `Dispatcher`, and each owns a `Seat`. A claim takes the next number of all
+//! seats together: with n tasks, the numbers below 2 * n go through the tasks twice, and later ones find no task.
+//! `claim`, `mark` and `is_marked` are one atomic step each: they take no memory and wait for nobody.
 #![tactic(auto)]
 
 mod claim;

@@ -1,7 +1,7 @@
 //! What a seat knows, and the rule that ties it to the words.
-ghost use Rattle.dispatcher.specs.Rule.{IsConsistent, everyone, unused_view, TellsClaim, TellsMark};
-ghost use Rattle.dispatcher.specs.Rule.{TellsLook, others, first_seat, joined_view};
-ghost use Rattle.std.specs.Prelude.{◌≡◌, ◌+◌, []};
+ghost use Rattle.std.specs.Prelude.{◌≡◌, ◌+◌, [], drop, take};
+ghost use Rattle.std.specs.List.{range_with_len};
+ghost use Rattle.dispatcher.specs.Rule.{IsConsistent, TellsClaim, TellsMark, TellsLook, joined_view, unused_view};
 
 use atomic_table::{Join, Play, Split, TableRule};
 use std::collections::LinkedList;
@@ -32,13 +32,14 @@ pub struct Size {
     pub seats: u32,
 }
 
-/// Each number is claimed once, and a task's word is 1 if and only if a seat marked the task.
+/// Each number is claimed once, and a task's word is 1 if and only if a seat marked the task. The first seat has all
+/// numbers of seats.
 pub struct EachOnce;
 
 impl TableRule<(), View, Size> for EachOnce {
     ghost holds = { IsConsistent };
 
-    ghost first = { everyone };
+    ghost first = { λ size. unused_view (range_with_len 0 size.seats) };
 }
 
 /// A claim adds 1 to the count.
@@ -66,9 +67,9 @@ impl Play<(), View> for LookStep {
 pub(crate) struct SeatSplit;
 
 impl Split<View> for SeatSplit {
-    ghost left = { others };
+    ghost left = { λ v. record v { numbers = drop 1 v.numbers } };
 
-    ghost right = { first_seat };
+    ghost right = { λ v. unused_view (take 1 v.numbers) };
 }
 
 /// One seat takes the place of both from now on.

@@ -1,9 +1,7 @@
 //! What a dispatcher leaves when it ends.
-ghost use Rattle.std.specs.Prelude.{◌≡◌, count_by};
-ghost use Rattle.dispatcher.specs.Seats.{flag_of};
+ghost use Rattle.std.specs.Prelude.{◌≡◌, count_by, false, slice_index_or};
 
-use crate::dispatcher::Dispatcher;
-use crate::seat::Seat;
+use crate::{Dispatcher, Seat};
 use std::alloc::{Allocator, Global};
 use std::marker::Model;
 
@@ -24,12 +22,9 @@ impl<A: Allocator> Model for Marks<A> {
 impl<A: Allocator> Marks<A> {
     /// Whether some seat marked the task. It is false of a number past the last task.
     pub fn holds(&self, task: u32) -> bool
-        ensures { result ≡ flag_of self.now task }
+        ensures { result ≡ slice_index_or self.now task false }
     {
-        match self.flags.get(task as usize) {
-            Some(flag) => *flag,
-            None => false,
-        }
+        self.flags.get(task as usize).copied().unwrap_or(false)
     }
 
     /// How many tasks are marked, at most `MOST_TASKS`.
@@ -48,8 +43,7 @@ pub struct Tally<A: Allocator = Global> {
     pub marks: Marks<A>,
 }
 
-/// There was no memory for the marks. The dispatcher and its seats come back, and can be settled
-/// again.
+/// There was no memory for the marks. The dispatcher and its seats come back, and can be settled again.
 #[derive(Drop)]
 pub struct SettleRefused<A: Allocator = Global> {
     pub dispatcher: Dispatcher<A>,

@@ -1,7 +1,6 @@
 -- How a gathering keeps its pieces: a total of the first inputs, and from there on one place a task.
 -- Derived: it follows the code, and contracts see the set of the covered tasks, which begins empty.
-use Rattle.std.specs.Prelude.{◌≡◌, ℕ, ◌≤◌, List, Bool, true, ◌||◌, nat_lt, Option, Some, None}
-use Rattle.std.specs.Prelude.{length, take, get_or, is_some}
+use Rattle.std.specs.Prelude.{◌≡◌, ℕ, ◌≤◌, List, Bool, true, ◌||◌, nat_lt, Option, Some, None, length, take, get_or, is_some}
 use Rattle.std.specs.List.{range_with_len}
 use Rattle.std.specs.Ordering.{nat_cmp}
 use Rattle.std.specs.FinSet as set

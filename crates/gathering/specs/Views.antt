@@ -6,6 +6,7 @@ use Rattle.std.specs.Ordering.{nat_cmp}
 use Rattle.std.specs.FinSet.{FinSet, contains}
 use Rattle.std.specs.FinSet as set
 use Rattle.std.specs.Coded.{Coded, code_by, coded×, coded_ℕ, coded_list}
+use Rattle.gathering.specs.Adding.{same_inputs}
 
 -- the number of a task, and the input that it was run on
 pub record PieceView (A : Type 0) : Type 0 where
@@ -20,13 +21,8 @@ pub record GatheringView (A : Type 0) : Type 0 where
 module _ {A : Type 0} where
   -- gatherings can be told apart by their inputs and sets (for the model alone)
   abbrev pub gathering_code : Coded A → Coded (GatheringView A)
-  gathering_code a =
-      code_by
-      (List A × FinSet nat_cmp)
-      (coded× (coded_list a) (set.code coded_ℕ))
-      (λ g. (g.inputs, g.covered))
-      (λ q. record { inputs = q.0; covered = q.1 })
-      (λ _. refl)
+  gathering_code a = code_by (List A × FinSet nat_cmp) (coded× (coded_list a) (set.code coded_ℕ))
+      (λ g. (g.inputs, g.covered)) (λ q. record { inputs = q.0; covered = q.1 }) (λ _. refl)
 
   -- the piece was run on an input that is equal to the one at its number in the list
   abbrev pub belongs : (A → A → Bool) → List A → PieceView A → Bool
@@ -44,8 +40,9 @@ module _ {A : Type 0} where
 
   -- what merging leaves: the inputs of the first, and the tasks that either covers
   abbrev pub merged : GatheringView A → GatheringView A → GatheringView A
-  merged a b = record { inputs = a.inputs; covered = set.union a.covered b.covered }
+  merged a b = record a { covered = set.union a.covered b.covered }
 
-  -- what filing a piece leaves: its task is covered as well
-  abbrev pub with_task : GatheringView A → ℕ → GatheringView A
-  with_task g task = record { inputs = g.inputs; covered = set.insert g.covered task }
+  -- the inputs of both are equal one by one, and both cover the same tasks
+  pub record AreAlike (eq : A → A → Bool) (a b : GatheringView A) : Type 0 where
+    pub inputs : same_inputs eq a.inputs b.inputs ≡ true
+    pub covered : a.covered ≡ b.covered

@@ -4,27 +4,21 @@ ghost use Rattle.std.specs.Prelude.{OnOk, OnErr, MatchOption, length, max, nat_l
 ghost use Rattle.std.specs.Arc.{arc_value};
 ghost use Rattle.std.specs.FinSet as set;
 ghost use Rattle.gathering.specs.Adding.{same_inputs};
-ghost use Rattle.gathering.specs.Refused.{IsRefusedFor, handed_back};
+ghost use Rattle.gathering.specs.Refused.{IsRefusedFor};
 ghost use Rattle.gathering.specs.Views.{belongs, merged, IsComplete, IsFirstMissing};
 
-use crate::OutOfMemory;
-use crate::inputs::Inputs;
-use crate::piece::Piece;
 use crate::places::{empty_places, merge_places};
-use crate::work::Work;
+use crate::{Inputs, OutOfMemory, Piece, Work};
 use std::alloc::{Allocator, Global};
 use std::marker::Model;
 use std::sync::Arc;
 
-/// The pieces of some tasks of a list of inputs, in whatever order they came.
+/// The pieces of some tasks of a list of inputs, in whatever order they came. The room for them is taken of an
+/// allocator, which is `Global` if none is named. Contracts see the inputs and the set of the tasks that are covered.
 ///
-/// Contracts see the inputs and the set of the tasks that are covered. The room for the pieces is
-/// taken of an allocator, which is `Global` if none is named.
-///
-/// The pieces below the first gap are folded: added to one total and dropped. If an addition is
-/// refused, its piece stays, and is added at a later `file`, `merge` or `total`. Folding saves a
-/// piece and its share in the input. If totals keep what outputs hold, that is little memory; but
-/// once all tasks are covered, `total` has nothing left to add.
+/// The pieces below the first gap are folded: added to one total and dropped. If an addition is refused, its piece
+/// stays, and is added at a later `file`, `merge` or `total`. So once all tasks are covered, `total` has nothing left
+/// to add.
 #[derive(Drop)]
 pub struct Gathering<W: Work, A: Allocator = Global> {
     inputs: Arc<Inputs<W>, Global>,
@@ -47,8 +41,7 @@ impl<W: Work, A: Allocator> Model for Gathering<W, A> {
       covered = covered_tasks a.folded a.places.items;
     } };
 
-    ghost invariant = { λ a.
-        IsFolded W.Input.eq W.IsTotalOf (arc_value a.inputs) a.folded a.total a.places.items };
+    ghost invariant = { λ a. IsFolded W.Input.eq W.IsTotalOf (arc_value a.inputs) a.folded a.total a.places.items };
 }
 
 /// How a piece was filed.
@@ -94,8 +87,8 @@ impl<W: Work> Gathering<W> {
 impl<W: Work, A: Allocator> Gathering<W, A> {
     /// No task is covered, and there is room for each piece: filing and merging need no memory.
     ///
-    /// The room for the pieces is taken of `memory`, and the work's own growths of `alloc`. It is
-    /// refused if `memory` has no room for a place for each task.
+    /// The room for the pieces is taken of `memory`, and the work's own growths of `alloc`. It is refused if `memory`
+    /// has no room for a place for each task.
     #[tactic(auto, using(crate::proofs::CoveredTasks::gathered))]
     pub fn new_in(
         alloc: Global,
@@ -105,8 +98,7 @@ impl<W: Work, A: Allocator> Gathering<W, A> {
         ensures inputs { IfOk result (λ made. made.inputs ≡ arc_value inputs) }
         ensures covered { IfOk result (λ made. made.covered ≡ set.empty) }
     {
-        let count = inputs.count();
-        let places = empty_places(memory, count)?;
+        let places = empty_places(memory, inputs.count())?;
         Ok(Gathering {
             inputs,
             folded: 0,
@@ -115,18 +107,15 @@ impl<W: Work, A: Allocator> Gathering<W, A> {
         })
     }
 
-    /// Keeps a piece whose task is not covered yet, and drops one whose task is.
-    ///
-    /// A piece is refused if its number is not below the count of inputs, or if the input that it
-    /// was run on is not equal to the one of that number. It is handed back.
+    /// Keeps a piece whose task is not covered yet, and drops one whose task is. A piece is refused if its number is
+    /// not below the count of inputs, or if the input that it was run on is not equal to the one of that number.
     #[tactic(auto, using(crate::proofs::CoveredTasks::insert_member))]
     pub fn file(&mut self, piece: Piece<W>) -> Result<Filed, Stranger<W>>
         ensures stranger { IsErr result ↔ (belongs W.Input.eq self.old.inputs piece ≡ false) }
         ensures handed_back { IfErr result (λ stranger. stranger.piece ≡ piece) }
         ensures filed { IfOk result (λ filed. filed
             ≡ (if set.contains self.old.covered piece.number then Filed.Again else Filed.New)) }
-        ensures again { set.contains self.old.covered piece.number ≡ true
-            → self.new.covered ≡ self.old.covered }
+        ensures again { set.contains self.old.covered piece.number ≡ true → self.new.covered ≡ self.old.covered }
         ensures covered { OnOk result (self.new.covered ≡ set.insert self.old.covered piece.number) }
         ensures inputs { self.new.inputs ≡ self.old.inputs }
         ensures err { OnErr result (self.new ≡ self.old) }
@@ -144,13 +133,10 @@ impl<W: Work, A: Allocator> Gathering<W, A> {
         Ok(Filed::New)
     }
 
-    /// Covers from now on what either covers.
-    ///
-    /// The other is refused if its inputs are not as many as these and equal to them, one by one.
-    /// It is handed back.
+    /// Covers from now on what either covers. The other is refused if its inputs are not as many as these and equal to
+    /// them, one by one.
     pub fn merge(&mut self, other: Gathering<W, A>) -> Result<(), OtherInputs<W, A>>
-        ensures other_inputs { IsErr result
-            ↔ (same_inputs W.Input.eq self.old.inputs other.inputs ≡ false) }
+        ensures other_inputs { IsErr result ↔ (same_inputs W.Input.eq self.old.inputs other.inputs ≡ false) }
         ensures handed_back { IfErr result (λ refused. refused.other ≡ other) }
         ensures merged { OnOk result (self.new ≡ merged self.old other) }
         ensures inputs { self.new.inputs ≡ self.old.inputs }
@@ -160,12 +146,11 @@ impl<W: Work, A: Allocator> Gathering<W, A> {
             return Err(OtherInputs { other });
         }
         let Gathering {
-            inputs,
             folded,
             total,
             places,
+            ..
         } = other;
-        drop(inputs);
         keep_longer(&mut self.folded, &mut self.total, folded, total);
         merge_places(&mut self.places, places, self.folded);
         self.fold_more();
@@ -195,16 +180,13 @@ impl<W: Work, A: Allocator> Gathering<W, A> {
         None
     }
 
-    /// The total of all inputs, in order. It adds what is not folded yet, and runs no task.
-    ///
-    /// It is refused if a task is missing, and otherwise if a growth was refused. The gathering is
-    /// handed back.
+    /// The total of all inputs, in order. It adds what is not folded yet, and runs no task. It is refused if a task is
+    /// missing, and otherwise if a growth was refused.
     pub fn total(self) -> Result<W::Total, TotalRefused<W, A>>
         ensures complete { OnOk result (IsComplete self) }
         ensures total { IfOk result (λ total. W.IsTotalOf self.inputs total) }
         ensures admissible { OnOk result (W.IsAdmissible self.inputs) }
         ensures refused { IfErr result (λ refused. IsRefusedFor self refused) }
-        ensures handed_back { IfErr result (λ refused. handed_back refused ≡ self) }
     {
         if let Some(_) = self.first_missing() {
             return Err(TotalRefused::Missing { gathering: self });

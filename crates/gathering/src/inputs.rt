@@ -5,17 +5,13 @@ ghost use Rattle.lists.specs.declared.limits.TheConstants.{MOST_TASKS};
 ghost use Rattle.gathering.specs.Adding.{same_inputs};
 ghost use Rattle.gathering.specs.Kept.{covered_tasks, IsFolded};
 
-use crate::OutOfMemory;
-use crate::piece::Piece;
-use crate::work::Work;
+use crate::{OutOfMemory, Piece, Work};
 use std::alloc::{Allocator, Global};
 use std::marker::Model;
 use std::sync::Arc;
 
-/// The inputs of all tasks, in order: an admissible list of at most `MOST_TASKS`. Task n works on input
-/// n.
-///
-/// Contracts see the list.
+/// The inputs of all tasks, in order: an admissible list of at most `MOST_TASKS`. Task n works on input n. Contracts
+/// see the list.
 #[derive(Drop)]
 pub struct Inputs<W: Work> {
     items: Vec<Arc<W::Input, Global>>,
@@ -26,8 +22,7 @@ impl<W: Work> Model for Inputs<W> {
 
     ghost view = { λ a. map arc_value a.items.items };
 
-    ghost invariant = { λ a. W.IsAdmissible (map arc_value a.items.items)
-        × (length a.items.items ≤ MOST_TASKS) };
+    ghost invariant = { λ a. W.IsAdmissible (map arc_value a.items.items) × (length a.items.items ≤ MOST_TASKS) };
 }
 
 impl<W: Work> Inputs<W> {
@@ -64,8 +59,8 @@ impl<W: Work> Inputs<W> {
         self.items == other.items
     }
 
-    /// Adds the outputs of the pieces below the first gap to the total of the first `folded` inputs, in
-    /// order, and drops the pieces. A refused addition leaves its piece and those after it.
+    /// Adds the outputs of the pieces below the first gap to the total of the first `folded` inputs, in order, and
+    /// drops the pieces. A refused addition leaves its piece and those after it.
     pub(crate) fn fold<A: Allocator>(
         &self,
         folded: &mut u32,
@@ -74,8 +69,7 @@ impl<W: Work> Inputs<W> {
     ) -> Result<(), OutOfMemory>
         requires { IsFolded W.Input.eq W.IsTotalOf self.now folded.old total.old places.old.items }
         ensures folded { IsFolded W.Input.eq W.IsTotalOf self.now folded.new total.new places.new.items }
-        ensures covered { covered_tasks folded.new places.new.items
-            ≡ covered_tasks folded.old places.old.items }
+        ensures covered { covered_tasks folded.new places.new.items ≡ covered_tasks folded.old places.old.items }
         ensures gap { OnOk result (get_or places.new.items folded.new None ≡ None) }
         ensures admissible { W.IsAdmissible self.now }
     {

@@ -1,9 +1,8 @@
 //! Pieces of work, gathered in any order into one total.
 //!
-//! A task is run on one input, and gives a piece. A gathering takes pieces as they come, repeated
-//! or not, and is merged with others over the same inputs. Once each task is covered it gives the
-//! total of all inputs, in order. It refuses a piece of other work, a gathering over other inputs,
-//! and a total if a task is missing or memory runs out.
+//! A task is run on one input, and gives a piece. A gathering takes pieces as they come, repeated or not, and is merged
+//! with others over the same inputs. Once each task is covered it gives the total of all inputs, in order. It refuses a
+//! piece of other work, a gathering over other inputs, and a total if a task is missing or memory runs out.
 #![tactic(auto)]
 
 mod gather;

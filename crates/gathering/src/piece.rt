@@ -3,16 +3,13 @@ ghost use Rattle.std.specs.Prelude.{◌≡◌, IfOk};
 ghost use Rattle.std.specs.Arc.{arc_value};
 ghost use Rattle.gathering.specs.Views.{PieceView};
 
-use crate::OutOfMemory;
-use crate::work::Work;
+use crate::{OutOfMemory, Work};
 use std::alloc::Global;
 use std::marker::Model;
 use std::sync::Arc;
 
-/// What one task gave: its number, the input that it was run on, and a value of that input.
-///
-/// That its output is one is kept by the type, so a piece that crossed a channel proves it.
-/// Contracts see the number and the input.
+/// What one task gave: its number, the input that it was run on, and a value of that input. That its output is one is
+/// kept by the type, so a piece that crossed a channel proves it. Contracts see the number and the input.
 #[derive(Drop)]
 pub struct Piece<W: Work> {
     number: u32,

@@ -1,6 +1,5 @@
 //! Places that hold something or nothing.
-ghost use Rattle.std.specs.Prelude.{◌≡◌, ℕ, IfOk, length, get_or, nat_lt, replicate, None};
-ghost use Rattle.std.specs.Prelude.{if◌then◌else◌};
+ghost use Rattle.std.specs.Prelude.{◌≡◌, ℕ, IfOk, length, get_or, if◌then◌else◌, nat_lt, replicate, None};
 ghost use Rattle.std.specs.Option.{option_or};
 
 use crate::OutOfMemory;
@@ -28,8 +27,7 @@ pub(crate) fn merge_places<T: Drop, A: Allocator>(
 )
     requires { length own.old.items ≡ length others.items }
     ensures count { length own.new.items ≡ length own.old.items }
-    ensures places { (k : ℕ) → get_or own.new.items k None
-        ≡ (if nat_lt k from then None
+    ensures places { (k : ℕ) → get_or own.new.items k None ≡ (if nat_lt k from then None
         else option_or (get_or own.old.items k None) (get_or others.items k None)) }
 {
     while let Some(other) = others.pop() {

@@ -38,10 +38,8 @@ pub trait Work: Drop + Send {
     fn empty(alloc: Global) -> Self::Total
         ensures { IsTotalOf [] result };
 
-    /// Makes a total of a list into one of the list with one input more; without memory it
-    /// leaves it.
-    ///
-    /// The longer list has to begin some admissible list.
+    /// Makes a total of a list into one of the list with one input more, which has to begin some admissible list;
+    /// without memory it leaves it.
     fn add(total: &mut Self::Total, output: &Self::Output) -> Result<(), OutOfMemory>
         requires { CanAdd Gives IsTotalOf IsAdmissible total.old output.now }
         ensures ok { OnOk result (AddsOutput Gives IsTotalOf IsAdmissible total.old output.now total.new) }

@@ -1,13 +1,14 @@
 -- The fields of a body: what was written is read, and what was read is written as it stood.
-use Rattle.std.proofs.Common.{◌≡◌, ℕ, zero, suc, ◌+◌, ◌-◌, ◌^◌, ◌<◌, ◌≤◌, leb, true, List, [], ◌∷◌, ◌++◌, length, take, drop, refl, sym, ap, ◌∙◌, arith}
+use Rattle.std.proofs.Common.{◌≡◌, ℕ, ◌+◌, ◌-◌, ◌^◌, ◌<◌, ◌≤◌, leb, true, List, [], ◌∷◌, ◌++◌, length, take, drop, sym, ap, ◌∙◌, arith}
 use Rattle.std.proofs.Math.Seq.{drop-append-add}
 use Rattle.std.proofs.lemmas.Bool.{leb-true}
 use Rattle.std.proofs.lemmas.List.{length-drop, drop_all, drop-drop, length-take-le, take_at, take-append-drop}
-use Rattle.std.proofs.lemmas.List.Elements.{All-drop, All-take}
+use Rattle.std.proofs.lemmas.List.Elements.{All-drop}
 use Rattle.byteorder.specs.Endian.{big_number}
 use Rattle.byteorder.specs.Numbers.{big_from-lt, big_number-reads_back, length-bytes_high_first}
-use Rattle.itch_messages.specs.Fields.{number_at, bytes_at, number_bytes, AreBytes}
-use Rattle.itch_messages.specs.Body.{IsText, kind_of}
+use Rattle.lists.specs.Among.{AreBytes}
+use Rattle.itch_messages.specs.Layout.{number_at, bytes_at, number_bytes}
+use Rattle.itch_messages.specs.Body.{kind_of}
 use Rattle.itch_messages.proofs.Numbers.{AreBytes-of_slice, byte_in, bytes_high_first-big_from}
 
 -- ---- what is read of what was written
@@ -85,11 +86,8 @@ unfolding number_at
 number_at-lt offset width body are =
     big_from-lt 0 width (drop offset body) (λ k. byte_in (drop offset body) k (All-drop (λ byte. byte < 256) offset body are))
 
-pub IsText-bytes_at : (offset width : ℕ) (body : List ℕ) → AreBytes body → offset + width ≤ length body → IsText width (bytes_at offset width body)
+pub length-bytes_at : (offset width : ℕ) (body : List ℕ) → offset + width ≤ length body → length (bytes_at offset width body) ≡ width
 unfolding bytes_at
-IsText-bytes_at offset width body are within = (
-  length-take-le width (drop offset body) (rw length-drop (omega arith)),
-  All-take (λ byte. byte < 256) width (drop offset body) (All-drop (λ byte. byte < 256) offset body are),
-)
+length-bytes_at offset width body within = length-take-le width (drop offset body) (rw length-drop (omega arith))
 
-pub ruleset fitting = (arith, number_at-lt, IsText-bytes_at, AreBytes-of_slice)
+pub ruleset fitting = (arith, number_at-lt, length-bytes_at, AreBytes-of_slice)

@@ -1,5 +1,5 @@
 -- That n bytes are the bytes of their number, and a number in n bytes is below 256 ^ n.
-use Rattle.std.proofs.Common.{◌≡◌, ℕ, zero, suc, ◌+◌, ◌*◌, ◌/◌, ◌^◌, ◌<◌, ◌≤◌, List, [], ◌∷◌, ◌++◌, length, take, get_or, refl, sym, ◌∙◌, Fits, w8, arith}
+use Rattle.std.proofs.Common.{◌≡◌, ℕ, zero, suc, ◌+◌, ◌-◌, ◌*◌, ◌/◌, ◌^◌, ◌<◌, ◌≤◌, List, [], ◌∷◌, ◌++◌, length, take, drop, get_or, refl, sym, ap, subst, ◌∙◌, Fits, w8, arith}
 use Rattle.std.proofs.Math.Nat.{mod-lt}
 use Rattle.std.proofs.lemmas.Nat.{same_from_place}
 use Rattle.std.proofs.lemmas.List.{append-nil, get_or_default, get_or_past, length-take-le}
@@ -8,7 +8,7 @@ use Rattle.std.specs.Prelude.{slice_index}
 use Rattle.std.specs.Int.{byte_at, bytes_high_first}
 use Rattle.byteorder.specs.Endian.{big_from}
 use Rattle.byteorder.specs.Numbers.{big_from-cons, big_from-lt, big_from-take, big_number-reads_back, length-bytes_high_first}
-use Rattle.itch_messages.specs.Fields.{AreBytes}
+use Rattle.lists.specs.Among.{AreBytes}
 
 -- each number of the list is a byte, and so is the 0 past its end
 pub byte_in : (xs : List ℕ) (k : ℕ) → AreBytes xs → slice_index xs k < 256
@@ -52,3 +52,13 @@ bytes_high_first-big_from n xs are within =
     let front : big_from 0 n (take n xs) ≡ number = big_from-take 0 n n xs (omega arith) in
     big_from-tells_apart n (bytes_high_first n number) (take n xs) (length-bytes_high_first n number)
     (length-take-le n xs within) (AreBytes-bytes_high_first n number) (All-take (λ byte. byte < 256) n xs are) (back ∙ sym front)
+
+-- the last bytes of a number are the bytes of so many
+drop_bytes : (k width x : ℕ) → drop k (bytes_high_first (k + width) x) ≡ bytes_high_first width x
+drop_bytes zero width x = ap (λ n. bytes_high_first n x) (omega arith)
+drop_bytes (suc k) width x = let more : suc k + width ≡ suc (k + width) = omega arith in
+    subst (λ n. drop (suc k) (bytes_high_first n x) ≡ bytes_high_first width x) (sym more) (drop_bytes k width x)
+
+pub low_bytes : (width x : ℕ) → width ≤ 8 → drop (8 - width) (bytes_high_first 8 x) ≡ bytes_high_first width x
+low_bytes width x h = let all : (8 - width) + width ≡ 8 = omega arith in
+    subst (λ n. drop (8 - width) (bytes_high_first n x) ≡ bytes_high_first width x) all (drop_bytes (8 - width) width x)

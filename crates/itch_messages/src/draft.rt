@@ -1,8 +1,7 @@
 //! A body while it is written.
-#![tactic(auto, unfolding(crate::specs::Fields::number_bytes))]
 
 ghost use Rattle.std.specs.Prelude.{◌≡◌, ◌+◌, ◌≤◌, [], ◌++◌, length};
-ghost use Rattle.itch_messages.specs.Fields.{number_bytes};
+ghost use Rattle.itch_messages.specs.Layout.{number_bytes};
 
 use std::marker::Model;
 
@@ -48,58 +47,15 @@ impl Draft {
         self.len = end;
     }
 
-    /// Writes an alpha field.
-    pub fn put_text<const N: usize>(&mut self, text: &[u8; N])
-        requires { length self.old + N ≤ 44 }
-        ensures items { self.new ≡ self.old ++ text.now }
-        ensures len { length self.new ≡ length self.old + N }
+    /// Writes the low `width` bytes of a number, the highest first.
+    #[tactic(auto, using(crate::proofs::Numbers::low_bytes), unfolding(crate::specs::Layout::number_bytes))]
+    pub fn put_number(&mut self, width: usize, number: u64)
+        requires width { width ≤ 8 }
+        requires room { length self.old + width ≤ 44 }
+        ensures items { self.new ≡ self.old ++ number_bytes width number }
+        ensures len { length self.new ≡ length self.old + width }
     {
-        self.put(text);
-    }
-
-    /// Writes one byte.
-    pub fn put_u8(&mut self, number: u8)
-        requires { length self.old + 1 ≤ 44 }
-        ensures items { self.new ≡ self.old ++ number_bytes 1 number }
-        ensures len { length self.new ≡ length self.old + 1 }
-    {
-        self.put(&number.to_be_bytes());
-    }
-
-    /// Writes a number in 2 bytes.
-    pub fn put_u16(&mut self, number: u16)
-        requires { length self.old + 2 ≤ 44 }
-        ensures items { self.new ≡ self.old ++ number_bytes 2 number }
-        ensures len { length self.new ≡ length self.old + 2 }
-    {
-        self.put(&number.to_be_bytes());
-    }
-
-    /// Writes a number in 4 bytes.
-    pub fn put_u32(&mut self, number: u32)
-        requires { length self.old + 4 ≤ 44 }
-        ensures items { self.new ≡ self.old ++ number_bytes 4 number }
-        ensures len { length self.new ≡ length self.old + 4 }
-    {
-        self.put(&number.to_be_bytes());
-    }
-
-    /// Writes the low 6 bytes of a number.
-    pub fn put_u48(&mut self, number: u64)
-        requires { length self.old + 6 ≤ 44 }
-        ensures items { self.new ≡ self.old ++ number_bytes 6 number }
-        ensures len { length self.new ≡ length self.old + 6 }
-    {
-        self.put(&number.to_be_bytes()[2..]);
-    }
-
-    /// Writes a number in 8 bytes.
-    pub fn put_u64(&mut self, number: u64)
-        requires { length self.old + 8 ≤ 44 }
-        ensures items { self.new ≡ self.old ++ number_bytes 8 number }
-        ensures len { length self.new ≡ length self.old + 8 }
-    {
-        self.put(&number.to_be_bytes());
+        self.put(&number.to_be_bytes()[8 - width..]);
     }
 
     /// The bytes that are written.

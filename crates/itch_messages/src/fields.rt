@@ -1,8 +1,8 @@
 //! The fields of a body, by their offsets in bytes.
-#![tactic(auto, unfolding(crate::specs::Fields::number_at, crate::specs::Fields::bytes_at))]
+#![tactic(auto, unfolding(crate::specs::Layout::number_at, crate::specs::Layout::bytes_at))]
 
 ghost use Rattle.std.specs.Prelude.{◌≡◌, ◌+◌, ◌≤◌, length};
-ghost use Rattle.itch_messages.specs.Fields.{bytes_at, number_at};
+ghost use Rattle.itch_messages.specs.Layout.{bytes_at, number_at};
 
 use byteorder::{BigEndian, ByteOrder};
 

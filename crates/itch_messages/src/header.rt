@@ -15,7 +15,7 @@ pub struct Header {
 
 impl Model for Header {
     ghost use Rattle.std.specs.Prelude.{◌<◌, ◌^◌};
-    ghost use Rattle.itch_messages.specs.HeaderFields.{HeaderFields};
+    ghost use Rattle.itch_messages.specs.Layout.{HeaderFields};
 
     ghost Value = { HeaderFields };
 

@@ -1,15 +1,13 @@
 //! The law that joins reading and writing.
 ghost use Rattle.std.specs.Prelude.{◌≡◌, ℕ, List, false};
-ghost use Rattle.itch_messages.specs.Body.{FitsMessage, body_of, has_wrong_length, is_skipped, message_of};
-ghost use Rattle.itch_messages.specs.Fields.{AreBytes};
-ghost use Rattle.itch_messages.specs.declared.message.Message.{Message};
+ghost use Rattle.lists.specs.Among.{AreBytes};
+ghost use Rattle.itch_messages.specs.Body.{has_wrong_length, is_skipped, message_of};
 
-/// A body is read as a message other than `Skipped` if and only if it is the one that `append`
-/// writes for that message: the law is this function's contract, and it does nothing.
-#[tactic(auto, using(crate::proofs::Laws::reads_back, crate::proofs::Laws::writes_back))]
+/// A message other than `Skipped` has one body, which is the one that `append` writes, and that has
+/// its type's length: the law is this function's contract, and it does nothing.
+#[tactic(auto, using(crate::proofs::Laws::one_body, crate::proofs::Laws::read_is_whole))]
 pub fn one_body_each()
-    ensures read_back { (message : Message) → FitsMessage message → is_skipped message ≡ false
-        → (message_of (body_of message) ≡ message) × (has_wrong_length (body_of message) ≡ false) }
-    ensures written_back { (body : List ℕ) → AreBytes body → is_skipped (message_of body) ≡ false
-        → body ≡ body_of (message_of body) }
+    ensures one { (one other : List ℕ) → AreBytes one → AreBytes other
+        → is_skipped (message_of one) ≡ false → message_of one ≡ message_of other → one ≡ other }
+    ensures whole { (body : List ℕ) → is_skipped (message_of body) ≡ false → has_wrong_length body ≡ false }
 {}

@@ -1,7 +1,8 @@
 //! Reading a body.
+#![tactic(auto, unfolding(crate::specs::Body::message_of_kind))]
+
 ghost use Rattle.std.specs.Prelude.{◌≡◌, ◌≤◌, ◌↔◌, Some, true, length, is_some, IsErr, IfErr, IfOk};
-ghost use Rattle.itch_messages.specs.Body.{add_of, broken_of, cross_of, directory_of, executed_at_of, executed_of, header_of, replace_of, trade_of};
-ghost use Rattle.itch_messages.specs.Body.{FitsMessage, has_wrong_length, kind_of, length_fault_of, message_of, message_of_kind};
+ghost use Rattle.itch_messages.specs.Body.{add_of, has_wrong_length, header_of, kind_of, length_fault_of, message_of, message_of_kind};
 ghost use Rattle.itch_messages.specs.Layout.{length_of};
 
 use crate::fields::{text_at, u8_at, u16_at, u32_at, u48_at, u64_at};
@@ -42,7 +43,7 @@ fn add(body: &[u8], attribution: Option<[u8; 4]>) -> Add
 #[inline(always)]
 fn executed(body: &[u8]) -> Executed
     requires { length body.now ≡ 31 }
-    ensures { result ≡ executed_of body.now }
+    ensures { Message.Executed result ≡ message_of_kind 69 body.now }
 {
     Executed {
         header: header(body),
@@ -56,7 +57,7 @@ fn executed(body: &[u8]) -> Executed
 #[inline(always)]
 fn executed_at(body: &[u8]) -> ExecutedAt
     requires { length body.now ≡ 36 }
-    ensures { result ≡ executed_at_of body.now }
+    ensures { Message.ExecutedAt result ≡ message_of_kind 67 body.now }
 {
     ExecutedAt {
         header: header(body),
@@ -72,7 +73,7 @@ fn executed_at(body: &[u8]) -> ExecutedAt
 #[inline(always)]
 fn replace(body: &[u8]) -> Replace
     requires { length body.now ≡ 35 }
-    ensures { result ≡ replace_of body.now }
+    ensures { Message.Replace result ≡ message_of_kind 85 body.now }
 {
     Replace {
         header: header(body),
@@ -87,7 +88,7 @@ fn replace(body: &[u8]) -> Replace
 #[inline(always)]
 fn trade(body: &[u8]) -> Trade
     requires { length body.now ≡ 44 }
-    ensures { result ≡ trade_of body.now }
+    ensures { Message.Trade result ≡ message_of_kind 80 body.now }
 {
     Trade {
         header: header(body),
@@ -104,7 +105,7 @@ fn trade(body: &[u8]) -> Trade
 #[inline(always)]
 fn cross(body: &[u8]) -> Cross
     requires { length body.now ≡ 40 }
-    ensures { result ≡ cross_of body.now }
+    ensures { Message.Cross result ≡ message_of_kind 81 body.now }
 {
     Cross {
         header: header(body),
@@ -120,7 +121,7 @@ fn cross(body: &[u8]) -> Cross
 #[inline(always)]
 fn broken(body: &[u8]) -> Broken
     requires { length body.now ≡ 19 }
-    ensures { result ≡ broken_of body.now }
+    ensures { Message.Broken result ≡ message_of_kind 66 body.now }
 {
     Broken {
         header: header(body),
@@ -132,7 +133,7 @@ fn broken(body: &[u8]) -> Broken
 #[inline(always)]
 fn directory(body: &[u8]) -> Directory
     requires { length body.now ≡ 39 }
-    ensures { result ≡ directory_of body.now }
+    ensures { Message.Directory result ≡ message_of_kind 82 body.now }
 {
     Directory {
         header: header(body),
@@ -190,7 +191,6 @@ pub fn read(body: &[u8]) -> Result<Message, LengthFault>
     ensures fault { IsErr result ↔ (has_wrong_length body.now ≡ true) }
     ensures told { IfErr result (λ fault. fault ≡ length_fault_of body.now) }
     ensures message { IfOk result (λ message. message ≡ message_of body.now) }
-    ensures fits { IfOk result FitsMessage }
 {
     read_of_kind(kind_of(body), body)
 }
@@ -198,13 +198,11 @@ pub fn read(body: &[u8]) -> Result<Message, LengthFault>
 /// The same of a body whose type is known. Where it is one of a few types that a caller tests first,
 /// each has code of its own, with no further test of the type.
 #[inline(always)]
-#[tactic(auto, using(crate::proofs::Laws::of_slices))]
 pub fn read_of_kind(kind: u8, body: &[u8]) -> Result<Message, LengthFault>
     requires { kind ≡ kind_of body.now }
     ensures fault { IsErr result ↔ (has_wrong_length body.now ≡ true) }
     ensures told { IfErr result (λ fault. fault ≡ length_fault_of body.now) }
     ensures message { IfOk result (λ message. message ≡ message_of body.now) }
-    ensures fits { IfOk result FitsMessage }
 {
     let length = body.len();
     match wanted_length(kind) {

@@ -9,7 +9,7 @@ use Rattle.lists.proofs.Least.{TellsApart-permutation}
 use Rattle.lists.proofs.Order.{TellsApart-from_distinct}
 use Rattle.order_table.specs.Orders.{OrderRow, first_repeated, repeated_of}
 use Rattle.probe.specs.Pricing.{Execution, Sale, first_unknown, priced, unknown_of}
-use Rattle.probe.specs.Trades.{kept}
+use Rattle.probe.specs.Selection.{kept}
 use Rattle.time_and_sales.specs.Names.{DirectoryRow, IsNamesOf, last_row, name_of, name_text}
 use Rattle.time_and_sales.specs.declared.directory.Names.{Names}
 use Rattle.time_and_sales.specs.Texts.{listing_text}

@@ -17,7 +17,7 @@ use Rattle.order_table.specs.declared.table.Repeated.{Repeated}
 use Rattle.order_table.proofs.PartRows.{repeated_of_parts}
 use Rattle.probe.specs.Pricing.{Execution, Sale, Unknown, first_unknown, priced, sale_of, unknown_of}
 use Rattle.probe.specs.Selection.{admits}
-use Rattle.probe.specs.Trades.{is_kept, kept}
+use Rattle.probe.specs.Selection.{is_kept, kept}
 use Rattle.probe.proofs.KeptSales.{length-kept, length-priced}
 use Rattle.probe.proofs.PartSales.{first_unknown_of_parts, priced_in_part}
 use Rattle.time_and_sales.proofs.SortedByPlace.{differ_in_order}
@@ -32,7 +32,7 @@ use Rattle.day_rows.proofs.StampedSales.{fits_all}
 use Rattle.morsel_rows.specs.Partitions.{partition_of}
 use Rattle.buckets.specs.FoundRows.{FoundView, sales_in}
 use Rattle.buckets.specs.Products.{product_of}
-use Rattle.joining.specs.Gathered.{AreListable, found_in}
+use Rattle.joining.specs.Gathered.{AreProductsOf, Product, found_in}
 use Rattle.buckets.specs.Plans.{rising, selection_of}
 use Rattle.buckets.proofs.RisingNumbers.{rising_among}
 use Rattle.joining.proofs.Selecting.{selection_agrees}
@@ -117,9 +117,10 @@ lists_are n query messages some stamped =
     (sales_of_parts n (rising (break_numbers messages)) asked (rows_of messages) some)
 
 -- and they can be listed together
-pub lists_listable : (n : ℕ) (query : Meaning) (messages : List Placed) → 0 < n → AreByPlace messages → AreStamped (rows_of messages)
-    → length (executions messages) + length (own_priced_sales messages) < TRADE_LIMIT → AreListable (lists_in n query messages)
-lists_listable n query messages some up stamped few =
+pub lists_listed : (n : ℕ) (query : Meaning) (messages : List Placed) (products : List Product) → 0 < n → AreByPlace messages
+    → AreStamped (rows_of messages) → length (executions messages) + length (own_priced_sales messages) < TRADE_LIMIT
+    → products ≡ (found_in n query messages).products → AreProductsOf query.what (lists_in n query messages) products
+lists_listed n query messages products some up stamped few is =
     let asked = asks_for query (directory_rows messages) in
     let all = kept (break_numbers messages) asked (every messages) in
     let are = lists_are n query messages some stamped in
@@ -129,4 +130,5 @@ lists_listable n query messages some up stamped few =
       few = grind (arith, length_permutation _ _ are, length-kept (break_numbers messages) asked (every messages), length-append, length-priced);
       stamped = All-permutation (λ (s : Sale). IsStamped s.time s.locate) _ _ back
           (All-filter (is_kept (break_numbers messages) asked) (λ (s : Sale). IsStamped s.time s.locate) (every messages) (every_fits messages stamped));
+      are = is ∙ products_found n query messages;
     }

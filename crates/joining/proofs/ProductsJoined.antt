@@ -22,7 +22,7 @@ use Rattle.buckets.specs.FoundRows.{TotalView}
 use Rattle.buckets.specs.Products.{by_place, product_of}
 use Rattle.buckets.proofs.ProductsOfSales.{by_place_is}
 use Rattle.joining.specs.Gathered.{AreGatheredOf, AreProductsOf, Product, listing_of, table_of}
-use Rattle.joining.proofs.BucketsOfMessages.{lists_in, lists_listable, products_found}
+use Rattle.joining.proofs.BucketsOfMessages.{lists_in, lists_listed}
 
 -- what each product gives
 given : {Y : Type 0} (f : Product → Option Y) (what : What) (g : List Sale → Y) → ((sales : List Sale) → f (product_of what sales) ≡ Some (g sales))
@@ -44,11 +44,11 @@ module _ (width : ℕ) (lists : List (List Sale)) (products : List Product) (tab
       (sym (same ∙ ap (filter_map table_of) of.are ∙ given table_of (Bars width) (bars_of width) (λ sales. refl) lists)) (each_bars width lists)
 
   pub tables_sums : All IsTraded (all_bars tables) → AllSumsFit (all_bars tables)
-  tables_sums traded = all_sums_fit width lists tables tables_are traded (omega (arith, of.listable.few))
+  tables_sums traded = all_sums_fit width lists tables tables_are traded (omega (arith, of.few))
 
   pub tables_starts : All (λ bar. bar.start < TIME_LIMIT) (all_bars tables)
   tables_starts =
-      starts_of_sales width (all_sales lists) (all_bars tables) (each_alike width lists tables tables_are) (times_fit (all_sales lists) of.listable.stamped)
+      starts_of_sales width (all_sales lists) (all_bars tables) (each_alike width lists tables tables_are) (times_fit (all_sales lists) of.stamped)
 
   -- the table of all sales is the union of the tables of each list
   pub tables_union : IsUnionOf (all_bars tables) (bars_of width (all_sales lists))
@@ -68,10 +68,10 @@ module _ (lists : List (List Sale)) (products : List Product) (listings : List (
       (sym (same ∙ ap (filter_map listing_of) of.are ∙ given listing_of Sales by_place (λ sales. refl) lists)) (all_by_place lists)
 
   pub listings_apart : IsDistinct nat_eq (map (λ sale. sale.place) (all_sales listings))
-  listings_apart = differ_in_order _ _ listings_are of.listable.apart
+  listings_apart = differ_in_order _ _ listings_are of.apart
 
   pub listings_times : All (λ sale. sale.time < TIME_LIMIT) (all_sales listings)
-  listings_times = All-permutation (λ (s : Sale). s.time < TIME_LIMIT) _ _ listings_are (times_fit (all_sales lists) of.listable.stamped)
+  listings_times = All-permutation (λ (s : Sale). s.time < TIME_LIMIT) _ _ listings_are (times_fit (all_sales lists) of.stamped)
 
   pub listing_of_all : IsPermutation (all_sales listings) (by_place (all_sales lists))
   listing_of_all = IsPermutation-trans _ _ _ (IsPermutation-sym _ _ listings_are) (by_place_is (all_sales lists))
@@ -81,8 +81,6 @@ module _ (lists : List (List Sale)) (products : List Product) (listings : List (
 pub gathered_products : (query : Meaning) (total : TotalView) (names : List DirectoryRow) (messages : List Placed) (what : What) (products : List Product)
     → (of : AreGatheredOf query total names messages) → query.what ≡ what → products ≡ total.products
     → AreProductsOf what (lists_in of.parts query messages) products
-gathered_products query total names messages what products of is same = record {
-  listable = lists_listable of.parts query messages of.some of.by_place of.stamped of.few;
-  are = same ∙ ap (λ (t : TotalView). t.products) of.total_is ∙ products_found of.parts query messages
-      ∙ ap (λ w. map (product_of w) (lists_in of.parts query messages)) is;
-}
+gathered_products query total names messages what products of is same =
+    subst (λ w. AreProductsOf w (lists_in of.parts query messages) products) is
+    (lists_listed of.parts query messages products of.some of.by_place of.stamped of.few (same ∙ ap (λ (t : TotalView). t.products) of.total_is))

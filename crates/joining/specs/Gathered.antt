@@ -63,16 +63,12 @@ abbrev pub table_of : Product → Option (List Bar)
 table_of (Listed sales) = None
 table_of (Tabled bars) = Some bars
 
--- lists of sales that can be listed together: no place occurs twice, they are fewer than a file has room for, and
--- times and locates fit
-pub record AreListable (lists : List (List Sale)) : Type 0 where
+-- what a query lists of each of some lists of sales, which can be listed together: no place occurs twice, they are
+-- fewer than a file has room for, and times and locates fit
+pub record AreProductsOf (what : What) (lists : List (List Sale)) (products : List Product) : Type 0 where
   pub apart : IsDistinct nat_eq (map (λ sale. sale.place) (all_sales lists))
   pub few : length (all_sales lists) < TRADE_LIMIT
   pub stamped : All (λ sale. IsStamped sale.time sale.locate) (all_sales lists)
-
--- what a query lists of each of some lists of sales, which can be listed together
-pub record AreProductsOf (what : What) (lists : List (List Sale)) (products : List Product) : Type 0 where
-  pub listable : AreListable lists
   pub are : products ≡ map (product_of what) lists
 
 -- the text of sales in any order: each is listed once, by place, or they have these bars

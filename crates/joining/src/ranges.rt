@@ -4,7 +4,6 @@ ghost use Rattle.std.specs.Arc.{arc_value};
 ghost use Rattle.row_types.specs.declared.trade.Sale.{Sale};
 ghost use Rattle.time_and_sales.specs.Names.{last_row, name_text};
 ghost use Rattle.bars.specs.Bars.{all_sales};
-ghost use Rattle.meaning.specs.declared.query.What.TheVariants.{Bars, Sales};
 ghost use Rattle.answers.specs.Answers.{IsAnswerToMessages, told_by};
 ghost use Rattle.day_rows.specs.Messages.{Placed};
 ghost use Rattle.joining.specs.Gathered.{AreGatheredOf, AreProductsOf, IsTextOfAll, listing_of};
@@ -59,44 +58,15 @@ fn text_of<R: Threads + Sync>(
         IsTextOfAll what (λ locate. name_text locate (last_row names.now locate)) (all_sales lists) text) }
 {
     match what {
-        What::Sales => text_of_sales(rt, alloc, products, names, ranges),
-        What::Bars { width } => text_of_bars(rt, alloc, products, width, names, ranges),
+        What::Sales => {
+            let listings = listings(alloc, products)?;
+            text_of_listings(rt, alloc, &listings, names, ranges)
+        }
+        What::Bars { width: _ } => {
+            let tables = tables(alloc, products)?;
+            text_of_tables(rt, alloc, &tables, names, ranges)
+        }
     }
-}
-
-/// The text of all listings.
-fn text_of_sales<R: Threads + Sync>(
-    rt: &R,
-    alloc: Global,
-    products: &[Arc<Product, Global>],
-    names: &Names,
-    ranges: u32,
-) -> Result<Text, OutOfMemory>
-    requires products { (lists : List (List Sale)) × AreProductsOf Sales lists (map arc_value products.now) }
-    ensures { IfOk result (λ text. (lists : List (List Sale)) →
-        AreProductsOf Sales lists (map arc_value products.now) →
-        IsTextOfAll Sales (λ locate. name_text locate (last_row names.now locate)) (all_sales lists) text) }
-{
-    let listings = listings(alloc, products)?;
-    text_of_listings(rt, alloc, &listings, names, ranges)
-}
-
-/// The text of all tables, which are of bars of this width.
-fn text_of_bars<R: Threads + Sync>(
-    rt: &R,
-    alloc: Global,
-    products: &[Arc<Product, Global>],
-    width: u32,
-    names: &Names,
-    ranges: u32,
-) -> Result<Text, OutOfMemory>
-    requires products { (lists : List (List Sale)) × AreProductsOf (Bars width) lists (map arc_value products.now) }
-    ensures { IfOk result (λ text. (lists : List (List Sale)) →
-        AreProductsOf (Bars width) lists (map arc_value products.now) →
-        IsTextOfAll (Bars width) (λ locate. name_text locate (last_row names.now locate)) (all_sales lists) text) }
-{
-    let tables = tables(alloc, products)?;
-    text_of_tables(rt, alloc, &tables, names, ranges)
 }
 
 /// The listings among what is listed.

@@ -48,11 +48,6 @@ pub cons_nil : {X : Type 0} (o : Option X) → cons_option o [] ≡ option_to_li
 cons_nil None = refl
 cons_nil (Some x) = refl
 
--- one more item
-pub map_more : {X Y : Type 0} (f : X → Y) (xs : List X) (x : X) → map f (xs ++ x ∷ []) ≡ map f xs ++ f x ∷ []
-map_more f [] x = refl
-map_more f (y ∷ ys) x = ap (λ l. f y ∷ l) (map_more f ys x)
-
 pub length-filter_map : {X Y : Type 0} (h : X → Option Y) (xs : List X) → length (filter_map h xs) ≤ length xs
 length-filter_map h [] = omega arith
 length-filter_map h (x ∷ xs) = let more = length-filter_map h xs in grind arith

@@ -1,6 +1,6 @@
 -- Which numbers a list has.
 -- To be believed.
-use Rattle.std.specs.Prelude.{◌≡◌, ℕ, ◌==◌, Bool, ◌||◌, List}
+use Rattle.std.specs.Prelude.{◌≡◌, ◌<◌, ℕ, ◌==◌, Bool, ◌||◌, List, All}
 use Rattle.std.specs.List.{list_any}
 
 -- whether the number is one of the list's
@@ -15,3 +15,7 @@ HasNumbersOf rows numbers = (number : ℕ) → is_among numbers number ≡ is_am
 abbrev pub IsUnion : List ℕ → List ℕ → List ℕ → Type 0
 IsUnion one other both =
     (number : ℕ) → is_among both number ≡ (is_among one number || is_among other number)
+
+-- each number of a list is a byte
+abbrev pub AreBytes : List ℕ → Type 0
+AreBytes bytes = All (λ byte. byte < 256) bytes

@@ -39,19 +39,9 @@ impl<A: Allocator> Model for Query<A> {
 
     ghost Value = { Meaning };
 
-    ghost view = { λ query. record {
-      what = query.what;
-      as_of = query.as_of;
-      symbols = query.symbols;
-      span = query.span;
-      kinds = query.kinds;
-    } };
+    ghost view = { λ q.
+        record { what = q.what; as_of = q.as_of; symbols = q.symbols; span = q.span; kinds = q.kinds } };
 
-    ghost invariant = { λ query. CanBeSpelled (record {
-      what = query.what;
-      as_of = query.as_of;
-      symbols = query.symbols;
-      span = query.span;
-      kinds = query.kinds;
-    }) };
+    ghost invariant = { λ q. CanBeSpelled (
+        record { what = q.what; as_of = q.as_of; symbols = q.symbols; span = q.span; kinds = q.kinds }) };
 }

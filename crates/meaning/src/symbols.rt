@@ -1,8 +1,7 @@
 //! The symbols that a query lists.
 ghost use Rattle.std.specs.Prelude.{◌≡◌, true, false, MatchOption};
 ghost use Rattle.std.specs.List.{list_all};
-ghost use Rattle.meaning.specs.Meaning.{are_symbols};
-ghost use Rattle.meaning.specs.Symbols.{is_symbol, is_symbol_byte};
+ghost use Rattle.meaning.specs.Meaning.{are_symbols, is_symbol, is_symbol_byte};
 
 use arrayvec::ArrayVec;
 use std::alloc::{Allocator, Global};
@@ -20,7 +19,7 @@ pub struct Symbol {
 
 impl Model for Symbol {
     ghost use Rattle.std.specs.Prelude.{◌≡◌, List, true, ℕ};
-    ghost use Rattle.meaning.specs.Symbols.{is_symbol};
+    ghost use Rattle.meaning.specs.Meaning.{is_symbol};
 
     ghost Value = { List ℕ };
 
@@ -61,7 +60,7 @@ fn all_symbol_bytes(bytes: &[u8]) -> bool
 
 impl Symbol {
     /// The symbol of these bytes, if they are one.
-    #[tactic(auto, unfolding(crate::specs::Symbols::is_symbol))]
+    #[tactic(auto, unfolding(crate::specs::Meaning::is_symbol))]
     pub fn of(part: &[u8]) -> Option<Symbol>
         ensures { MatchOption result (is_symbol part.now ≡ false)
             (λ symbol. (symbol ≡ part.now) × (is_symbol part.now ≡ true)) }

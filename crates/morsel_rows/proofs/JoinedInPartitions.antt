@@ -12,7 +12,7 @@ use Rattle.row_types.specs.declared.order.OrderRow.{OrderRow}
 use Rattle.row_types.specs.declared.trade.Execution.{Execution}
 use Rattle.row_types.specs.declared.trade.Sale.{Sale}
 use Rattle.row_types.specs.declared.directory.DirectoryRow.{DirectoryRow}
-use Rattle.day_rows.specs.DayRows.{DayRows, joined, only_execution, only_order, only_sale}
+use Rattle.day_rows.specs.DayRows.{DayRows, joined, no_rows}
 use Rattle.morsel_rows.specs.MoreRows.{BecomesJoined, with_execution, with_order, with_sale}
 use Rattle.morsel_rows.specs.Partitions.{PartitionView, partition_of}
 
@@ -63,7 +63,7 @@ module _ (key : ℕ) (more : DayRows) (change : PartitionView → PartitionView)
     (others : (n : ℕ) (rows : DayRows) (b : ℕ) → (b ≡ key % n → ⊥) → partition_of n rows b ≡ partition_of n (joined rows more) b)
     (breaks_same : more.breaks ≡ []) (directory_same : more.directory ≡ []) where
   joins : Joins key more change
-  joins items breaks directory number old next number_is old_is next_is n rows some most same =
+  joins items breaks directory number old next number_is old_is next_is n rows some same =
       let all : items ≡ map (partition_of n rows) (numbers_below n) = ap (λ v. v.partitions) same in
       let long : length items ≡ n = ap length all ∙ length-map-range_with_len (partition_of n rows) 0 n in
       let at : number ≡ key % n = number_is ∙ ap (λ k. key % k) long in
@@ -81,6 +81,16 @@ module _ (key : ℕ) (more : DayRows) (change : PartitionView → PartitionView)
       let directory_is : directory ≡ rows.directory ++ more.directory =
       ap (λ v. v.directory) same ∙ sym (append-nil rows.directory) ∙ ap (λ l. rows.directory ++ l) (sym directory_same) in
       λ i. record { partitions = partitions i; breaks = breaks_are i; directory = directory_is i }
+
+-- one row and no other rows
+abbrev pub only_order : OrderRow → DayRows
+only_order row = record no_rows { orders = row ∷ [] }
+
+abbrev pub only_execution : Execution → DayRows
+only_execution row = record no_rows { executions = row ∷ [] }
+
+abbrev pub only_sale : Sale → DayRows
+only_sale row = record no_rows { own_priced = row ∷ [] }
 
 -- an order reference more
 pub order_joins : (row : OrderRow) → Joins row.order_no (only_order row) (with_order row)

@@ -1,7 +1,8 @@
 pub mod JoinedPartitions
 pub mod MessagesOfPartition
 pub mod JoinedInPartitions
-pub mod ClassesOfRows
+pub mod DividedRows
+mod Remainders
 mod SearchedRows
 mod TakenRows
 mod Masks

@@ -16,7 +16,7 @@ use Rattle.day_rows.specs.DayRows.{AreByPlace, rows_of}
 use Rattle.day_rows.specs.Messages.{Placed, order_row_at, execution_at, own_priced_at, executions, own_priced_sales}
 use Rattle.day_rows.proofs.TradesOfRows.{own_keeps_place}
 use Rattle.day_rows.proofs.CountedMessages.{fewer_of_filter}
-use Rattle.morsel_rows.specs.Partitions.{AreRowsByPlace, PartitionView, class_of, no_rows_in, partition_of}
+use Rattle.morsel_rows.specs.Partitions.{AreRowsByPlace, no_rows_in, partition_of}
 
 -- the number by which a message's rows go to a partition: the order reference, or the place
 abbrev number_at : ℕ → Message → ℕ
@@ -98,41 +98,29 @@ own_number place (Broken broken) sale e = absurd (cc)
 own_number place (Directory directory) sale e = absurd (cc)
 own_number place Skipped sale e = absurd (cc)
 
--- a class of rows of messages has the rows of some of the messages
-pub class_by_place : (n b : ℕ) (rows : PartitionView) → AreRowsByPlace rows → AreRowsByPlace (class_of n rows b)
-class_by_place n b rows are =
-    let orders = part_of_given n b (λ (row : OrderRow). row.order_no) order_row_at order_number are.messages in
-    let executed = part_of_given n b (λ (row : Execution). row.order_no) execution_at execution_number are.messages in
-    let own = part_of_given n b (λ (sale : Sale). sale.place) own_priced_at own_number are.messages in
-    let executed_are = ap (λ l. part n (λ (row : Execution). row.order_no) l b) are.executions ∙ executed in
-    let own_are = ap (λ l. part n (λ (sale : Sale). sale.place) l b) are.own_priced ∙ own in
+-- a partition of messages has the rows of some of them
+pub partition_by_place : (n b : ℕ) (messages : List Placed) → AreByPlace messages
+    → length (executions messages) + length (own_priced_sales messages) < TRADE_LIMIT → AreRowsByPlace (partition_of n (rows_of messages) b)
+partition_by_place n b messages up few =
+    let executed_are = part_of_given n b (λ (row : Execution). row.order_no) execution_at execution_number messages in
+    let own_are = part_of_given n b (λ (sale : Sale). sale.place) own_priced_at own_number messages in
     record {
-      messages = filter (goes_to n b) are.messages;
-      by_place = IsStrictlySortedBy-filter (λ (x y : Placed). nat_cmp x.place y.place) (goes_to n b) are.messages are.by_place;
-      orders = ap (λ l. part n (λ (row : OrderRow). row.order_no) l b) are.orders ∙ orders;
+      messages = filter (goes_to n b) messages;
+      by_place = IsStrictlySortedBy-filter (λ (x y : Placed). nat_cmp x.place y.place) (goes_to n b) messages up;
+      orders = part_of_given n b (λ (row : OrderRow). row.order_no) order_row_at order_number messages;
       executions = executed_are;
       own_priced = own_are;
       few = omega (
         arith,
-        are.few,
-        ap length are.executions,
-        ap length are.own_priced,
+        few,
         ap length executed_are,
         ap length own_are,
-        fewer_of_filter (λ (m : Placed). execution_at m.place m.message) (goes_to n b) are.messages,
-        fewer_of_filter (λ (m : Placed). own_priced_at m.place m.message) (goes_to n b) are.messages,
+        fewer_of_filter (λ (m : Placed). execution_at m.place m.message) (goes_to n b) messages,
+        fewer_of_filter (λ (m : Placed). own_priced_at m.place m.message) (goes_to n b) messages,
       );
     }
 
--- so has each partition of messages
-pub partition_by_place : (n b : ℕ) (messages : List Placed) → AreByPlace messages
-    → length (executions messages) + length (own_priced_sales messages) < TRADE_LIMIT → AreRowsByPlace (partition_of n (rows_of messages) b)
-partition_by_place n b messages up few =
-    let rows = rows_of messages in
-    class_by_place n b (record { orders = rows.orders; executions = rows.executions; own_priced = rows.own_priced })
-    (record { messages = messages; by_place = up; orders = refl; executions = refl; own_priced = refl; few = few })
-
--- so has no row at all
+-- and so has no row at all
 pub no_rows_by_place : AreRowsByPlace no_rows_in
 unfolding IsStrictlySortedBy
 no_rows_by_place = record { messages = []; by_place = tt; orders = refl; executions = refl; own_priced = refl; few = omega arith }

@@ -1,37 +1,28 @@
 -- One row more.
 -- Derived: the answer isn't defined by partitions.
-use Rattle.std.specs.Prelude.{◌≡◌, ℕ, ◌<◌, ◌≤◌, [], ◌∷◌, ◌++◌}
-use Rattle.lists.specs.declared.limits.TheConstants.{MOST_PARTITIONS}
+use Rattle.std.specs.Prelude.{◌≡◌, ℕ, ◌<◌, [], ◌∷◌, ◌++◌}
 use Rattle.row_types.specs.declared.order.OrderRow.{OrderRow}
 use Rattle.row_types.specs.declared.trade.Execution.{Execution}
 use Rattle.row_types.specs.declared.trade.Sale.{Sale}
-use Rattle.day_rows.specs.DayRows.{DayRows, joined}
+use Rattle.day_rows.specs.DayRows.{DayRows, joined, no_rows}
 use Rattle.morsel_rows.specs.Partitions.{MorselRowsView, PartitionView, in_partitions}
 
 -- a partition with one row more at its end, of each kind
 abbrev pub with_order : OrderRow → PartitionView → PartitionView
-with_order row rows = record {
-  orders = rows.orders ++ row ∷ [];
-  executions = rows.executions;
-  own_priced = rows.own_priced;
-}
+with_order row rows = record rows { orders = rows.orders ++ row ∷ [] }
 
 abbrev pub with_execution : Execution → PartitionView → PartitionView
-with_execution row rows = record {
-  orders = rows.orders;
-  executions = rows.executions ++ row ∷ [];
-  own_priced = rows.own_priced;
-}
+with_execution row rows = record rows { executions = rows.executions ++ row ∷ [] }
 
 abbrev pub with_sale : Sale → PartitionView → PartitionView
-with_sale row rows = record {
-  orders = rows.orders;
-  executions = rows.executions;
-  own_priced = rows.own_priced ++ row ∷ [];
-}
+with_sale row rows = record rows { own_priced = rows.own_priced ++ row ∷ [] }
 
 -- if the old rows are some rows in n partitions, the new ones are those and others after them, in n partitions
 abbrev pub BecomesJoined : DayRows → MorselRowsView → MorselRowsView → Type 0
 BecomesJoined more old new =
-    (n : ℕ) (rows : DayRows) → 0 < n → n ≤ MOST_PARTITIONS →
-    old ≡ in_partitions n rows → new ≡ in_partitions n (joined rows more)
+    (n : ℕ) (rows : DayRows) → 0 < n → old ≡ in_partitions n rows → new ≡ in_partitions n (joined rows more)
+
+-- the rows of a partition, or of several joined, as those of a day that has no breaks and no directory
+abbrev pub only_partition : PartitionView → DayRows
+only_partition rows =
+    record no_rows { orders = rows.orders; executions = rows.executions; own_priced = rows.own_priced }

@@ -29,15 +29,6 @@ partition_of n rows b = record {
   own_priced = part n (λ sale. sale.place) rows.own_priced b;
 }
 
--- class b of n of the rows of a partition: orders and executions by their references modulo n, sales by their places
--- modulo n
-abbrev pub class_of : ℕ → PartitionView → ℕ → PartitionView
-class_of n rows b = record {
-  orders = part n (λ row. row.order_no) rows.orders b;
-  executions = part n (λ execution. execution.order_no) rows.executions b;
-  own_priced = part n (λ sale. sale.place) rows.own_priced b;
-}
-
 -- the rows of a morsel: those of orders and trades in partitions, and all breaks and directory rows
 pub record MorselRowsView : Type 0 where
   pub partitions : List PartitionView

@@ -5,9 +5,8 @@
 #![tactic(auto)]
 
 mod behind;
-mod classes;
+mod dividing;
 mod lean;
-mod modulus;
 mod narrow;
 mod numbers;
 mod offsets;

@@ -1,13 +1,11 @@
 //! The rows of one partition.
-ghost use Rattle.std.specs.Prelude.{◌≡◌, ◌<◌, IfOk, OnErr, OnOk};
+ghost use Rattle.std.specs.Prelude.{◌≡◌, IfOk, OnErr, OnOk};
 ghost use Rattle.std.specs.Cmp.{partial_equiv_from_equiv};
 ghost use Rattle.morsel_rows.specs.MoreRows.{with_execution, with_order, with_sale};
-ghost use Rattle.morsel_rows.specs.Partitions.{class_of, no_rows_in};
+ghost use Rattle.morsel_rows.specs.Partitions.{no_rows_in};
 ghost use Rattle.morsel_rows.specs.SameRows.{is_same_partition, partition_equiv};
 
 use crate::OutOfMemory;
-use crate::classes::{executions_of_class, orders_of_class, sales_of_class};
-use crate::modulus::Modulus;
 use crate::orders::OrderList;
 use crate::pushing::push;
 use row_types::{Execution, OrderRow, Sale};
@@ -65,20 +63,6 @@ impl<A: Allocator + Copy> Partition<A> {
         ensures unchanged { OnErr result (self.new ≡ self.old) }
     {
         self.orders.push(row)
-    }
-
-    /// A partition of the rows of one class: the orders and executions whose reference, and the sales whose place,
-    /// leaves `number` if it is divided by `modulus`.
-    pub fn class(&self, alloc: A, modulus: u32, number: u32) -> Result<Self, OutOfMemory>
-        requires { 0 < modulus }
-        ensures { IfOk result (λ class. class ≡ class_of modulus self.now number) }
-    {
-        let modulus = Modulus::of(modulus);
-        Ok(Partition {
-            orders: orders_of_class(alloc, &self.orders, modulus, number)?,
-            executions: executions_of_class(alloc, &self.executions, modulus, number)?,
-            own_priced: sales_of_class(alloc, &self.own_priced, modulus, number)?,
-        })
     }
 }
 

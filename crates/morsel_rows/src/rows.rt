@@ -1,25 +1,13 @@
 //! The rows of one morsel.
 ghost use Rattle.std.specs.Prelude.{◌≡◌, ℕ, ◌<◌, ◌≤◌, IfOk, MatchOption, OnErr, OnOk, Some};
 ghost use Rattle.std.specs.Prelude.{length, slice_get, vec_len};
-ghost use Rattle.lists.specs.declared.limits.TheConstants.{MOST_PARTITIONS};
-ghost use Rattle.day_rows.specs.DayRows.{
-  DayRows,
-  counted_rows_at,
-  joined,
-  no_rows,
-  only_break,
-  only_directory_row,
-  only_execution,
-  only_order,
-  only_sale,
-  told,
-};
+ghost use Rattle.day_rows.specs.DayRows.{DayRows, counted_rows_at, joined, no_rows, told};
 ghost use Rattle.morsel_rows.specs.MoreRows.{BecomesJoined};
 ghost use Rattle.morsel_rows.specs.Partitions.{in_partitions, no_rows_in};
 ghost use Rattle.morsel_rows.specs.TakenPartitions.{HasTaken, rows_taken_at};
 
 use crate::OutOfMemory;
-use crate::numbers::number_of;
+use crate::numbers::{inverse_of, number_of};
 use crate::partition::Partition;
 use day_rows::{Row, counts, row_of};
 use itch_messages::Message;
@@ -38,18 +26,19 @@ type Taken<A> = Vec<Option<Box<Partition<A>, A>>, A>;
 #[derive(Drop)]
 pub struct MorselRows<A: Allocator = Global> {
     /// How many partitions there are.
-    parts: u32,
+    pub(crate) parts: u32,
+    /// By what the partition of a row is estimated.
+    inverse: u64,
     /// Each partition that has taken memory, at its number; empty as long as there is none.
     partitions: Taken<A>,
     /// What is lent of a partition that has taken none.
     no_rows: Partition<A>,
-    breaks: Vec<u64, A>,
-    directory: Vec<DirectoryRow, A>,
+    pub(crate) breaks: Vec<u64, A>,
+    pub(crate) directory: Vec<DirectoryRow, A>,
 }
 
 impl<A: Allocator> Model for MorselRows<A> {
-    ghost use Rattle.std.specs.Prelude.{◌≡◌, ◌<◌, ◌≤◌};
-    ghost use Rattle.lists.specs.declared.limits.TheConstants.{MOST_PARTITIONS};
+    ghost use Rattle.std.specs.Prelude.{◌≡◌, ◌<◌};
     ghost use Rattle.morsel_rows.specs.Partitions.{MorselRowsView, no_rows_in};
     ghost use Rattle.morsel_rows.specs.TakenPartitions.{partitions_seen};
 
@@ -61,20 +50,20 @@ impl<A: Allocator> Model for MorselRows<A> {
       directory = rows.directory.items;
     } };
 
-    ghost invariant = { λ rows. (0 < rows.parts) × (rows.parts ≤ MOST_PARTITIONS)
-        × (rows.no_rows ≡ no_rows_in) };
+    ghost invariant = { λ rows. (0 < rows.parts) × (rows.no_rows ≡ no_rows_in) };
 }
 
 impl<A: Allocator + Copy> MorselRows<A> {
     /// No rows, in this many partitions, each with room for `orders` order rows, which is taken at
     /// once. It is refused if there is no memory for them.
     pub fn new(alloc: A, parts: u32, orders: usize) -> Result<Self, OutOfMemory>
-        requires { (0 < parts) × (parts ≤ MOST_PARTITIONS) }
+        requires { 0 < parts }
         ensures { IfOk result (λ rows. rows ≡ in_partitions parts no_rows) }
     {
         let partitions = with_rooms(alloc, parts, orders)?;
         Ok(MorselRows {
             parts,
+            inverse: inverse_of(parts),
             partitions,
             no_rows: Partition::new(alloc),
             breaks: Vec::new(alloc),
@@ -161,7 +150,7 @@ impl<A: Allocator + Copy> MorselRows<A> {
         place: u64,
         message: &Message,
     ) -> Result<(), OutOfMemory>
-        ensures added { OnOk result ((n : ℕ) (rows : DayRows) → 0 < n → n ≤ MOST_PARTITIONS →
+        ensures added { OnOk result ((n : ℕ) (rows : DayRows) → 0 < n →
             self.old ≡ in_partitions n rows →
             self.new ≡ in_partitions n (joined rows (counted_rows_at as_of place message.now))) }
         ensures unchanged { OnErr result (self.new ≡ self.old) }
@@ -173,6 +162,17 @@ impl<A: Allocator + Copy> MorselRows<A> {
             Some(row) => self.push(row),
             None => Ok(()),
         }
+    }
+
+    /// Takes room for so many order rows in the partition of this number, if it has taken no memory before.
+    pub(crate) fn make_room(&mut self, number: u32, orders: usize) -> Result<(), OutOfMemory>
+        ensures { self.new ≡ self.old }
+    {
+        let at = number as usize;
+        if number >= self.parts || (at < self.partitions.len() && self.partitions[at].is_some()) {
+            return Ok(());
+        }
+        put_empty(&mut self.partitions, self.parts, at, orders)
     }
 
     /// Adds one row.
@@ -192,11 +192,11 @@ impl<A: Allocator + Copy> MorselRows<A> {
 
     /// Adds an order reference to its partition.
     #[inline(always)]
-    fn push_order(&mut self, row: OrderRow) -> Result<(), OutOfMemory>
-        ensures added { OnOk result (BecomesJoined (only_order row) self.old self.new) }
+    pub(crate) fn push_order(&mut self, row: OrderRow) -> Result<(), OutOfMemory>
+        ensures added { OnOk result (BecomesJoined (told (Some (Row.Order row))) self.old self.new) }
         ensures unchanged { OnErr result (self.new ≡ self.old) }
     {
-        let number = number_of(row.order_no, self.parts);
+        let number = number_of(row.order_no, self.parts, self.inverse);
         begin(&mut self.partitions, self.parts, number)?;
         match &mut self.partitions[number] {
             Some(part) => part.push_order(row),
@@ -206,11 +206,11 @@ impl<A: Allocator + Copy> MorselRows<A> {
 
     /// Adds an execution to the partition of its order reference.
     #[inline(always)]
-    fn push_execution(&mut self, row: Execution) -> Result<(), OutOfMemory>
-        ensures added { OnOk result (BecomesJoined (only_execution row) self.old self.new) }
+    pub(crate) fn push_execution(&mut self, row: Execution) -> Result<(), OutOfMemory>
+        ensures added { OnOk result (BecomesJoined (told (Some (Row.Execution row))) self.old self.new) }
         ensures unchanged { OnErr result (self.new ≡ self.old) }
     {
-        let number = number_of(row.order_no, self.parts);
+        let number = number_of(row.order_no, self.parts, self.inverse);
         begin(&mut self.partitions, self.parts, number)?;
         match &mut self.partitions[number] {
             Some(part) => part.push_execution(row),
@@ -220,11 +220,11 @@ impl<A: Allocator + Copy> MorselRows<A> {
 
     /// Adds a sale to the partition of its place.
     #[inline(always)]
-    fn push_sale(&mut self, row: Sale) -> Result<(), OutOfMemory>
-        ensures added { OnOk result (BecomesJoined (only_sale row) self.old self.new) }
+    pub(crate) fn push_sale(&mut self, row: Sale) -> Result<(), OutOfMemory>
+        ensures added { OnOk result (BecomesJoined (told (Some (Row.Sale row))) self.old self.new) }
         ensures unchanged { OnErr result (self.new ≡ self.old) }
     {
-        let number = number_of(row.place, self.parts);
+        let number = number_of(row.place, self.parts, self.inverse);
         begin(&mut self.partitions, self.parts, number)?;
         match &mut self.partitions[number] {
             Some(part) => part.push_sale(row),
@@ -234,7 +234,7 @@ impl<A: Allocator + Copy> MorselRows<A> {
 
     #[inline(always)]
     fn push_break(&mut self, trade_no: u64) -> Result<(), OutOfMemory>
-        ensures added { OnOk result (BecomesJoined (only_break trade_no) self.old self.new) }
+        ensures added { OnOk result (BecomesJoined (told (Some (Row.Break trade_no))) self.old self.new) }
         ensures unchanged { OnErr result (self.new ≡ self.old) }
     {
         self.breaks.push(trade_no)?;
@@ -243,7 +243,7 @@ impl<A: Allocator + Copy> MorselRows<A> {
 
     #[inline(always)]
     fn push_directory_row(&mut self, row: DirectoryRow) -> Result<(), OutOfMemory>
-        ensures added { OnOk result (BecomesJoined (only_directory_row row) self.old self.new) }
+        ensures added { OnOk result (BecomesJoined (told (Some (Row.Directory row))) self.old self.new) }
         ensures unchanged { OnErr result (self.new ≡ self.old) }
     {
         self.directory.push(row)?;
@@ -265,16 +265,17 @@ fn begin<A: Allocator + Copy>(
     if number < partitions.len() && partitions[number].is_some() {
         return Ok(());
     }
-    put_empty(partitions, parts, number)
+    put_empty(partitions, parts, number, 0)
 }
 
-/// Puts a partition without rows at this number.
+/// Puts a partition without rows at this number, with room for `orders` order rows.
 #[cold]
 #[inline(never)]
 fn put_empty<A: Allocator + Copy>(
     partitions: &mut Taken<A>,
     parts: u32,
     number: usize,
+    orders: usize,
 ) -> Result<(), OutOfMemory>
     requires below { number < parts }
     requires none { rows_taken_at partitions.old.items number ≡ no_rows_in }
@@ -282,7 +283,7 @@ fn put_empty<A: Allocator + Copy>(
     ensures begun { OnOk result (HasTaken partitions.new.items number) }
 {
     let alloc = *partitions.allocator();
-    let empty = Box::new(alloc, Partition::new(alloc))?;
+    let empty = Box::new(alloc, Partition::with_room(alloc, orders)?)?;
     lengthen(partitions, parts as usize)?;
     partitions[number] = Some(empty);
     Ok(())

@@ -14,7 +14,8 @@ use Rattle.lists.specs.Least.{least_by}
 use Rattle.order_table.specs.Orders.{OrderRow, is_repeated, first_repeated}
 use Rattle.order_table.specs.RowsInOrder.{MayFollow, IsInOrder}
 use Rattle.lists.proofs.Lists.{IsPermutation-filter}
-use Rattle.lists.proofs.Least.{best_by-append, better_option, least_by-permutation, lesser_ranks}
+use Rattle.std.proofs.lemmas.List.MinMax.{IsStrictWeakOrder-by_number}
+use Rattle.lists.proofs.Least.{best_by-append, better_option, least_by-permutation}
 use Rattle.lists.proofs.Order.{TellsApart-filter, TellsApart-from_distinct}
 use Rattle.order_table.proofs.RowsInOrder.{place_of, in_order_from_rising, not_above}
 
@@ -86,10 +87,10 @@ module _ (rows : List OrderRow) (i : ℕ) (d : OrderRow) (within : i < length ro
   pub one_again : is_repeated rows (get_or rows i d) ≡ true → so_far rows (i + 1) ≡ least_by place_of (option_to_list (so_far rows i) ++ get_or rows i d ∷ [])
   one_again again =
       ap (least_by place_of) (filter_more (is_repeated rows) rows i d within ∙ ap with_it again)
-      ∙ best_by-append _ (lesser_ranks place_of) _ (get_or rows i d ∷ []) ∙ with_one (so_far rows i)
+      ∙ best_by-append _ (IsStrictWeakOrder-by_number place_of) _ (get_or rows i d ∷ []) ∙ with_one (so_far rows i)
     where
       with_one : (o : Option OrderRow)
-          → better_option _ (lesser_ranks place_of) o (Some (get_or rows i d)) ≡ least_by place_of (option_to_list o ++ get_or rows i d ∷ [])
+          → better_option _ (IsStrictWeakOrder-by_number place_of) o (Some (get_or rows i d)) ≡ least_by place_of (option_to_list o ++ get_or rows i d ∷ [])
       with_one None = refl
       with_one (Some row) = refl
 

@@ -1,2 +1,1 @@
--- What the contracts speak of: what a pair of pipelines gives.
 pub mod Outcomes

@@ -10,21 +10,11 @@ use gathering::{Inputs, OutOfMemory, Work};
 use links::{Link, Linked};
 use std::alloc::Global;
 use std::sync::{Arc, Wait};
-use std::thread;
-use std::thread::{Scope, Threads};
+use std::thread::{self, Scope, Threads};
 
-/// Runs the first pipeline, links its total, and runs the second pipeline, each with the crew's
-/// workers on threads of their own. The crew's gatherers gather: the caller's thread, and if there are
-/// more each on a thread of its own. A worker sends its pieces to the gatherer of its number modulo
-/// theirs. The caller's thread runs itself the tasks whose pieces no worker brought.
-///
-/// With one gatherer it goes on as soon as all tasks of a pipeline are covered, whatever a slow worker
-/// still holds. With several it waits until all workers of the pipeline have ended, and then merges
-/// what was gathered.
-///
-/// It waits for the pieces, and at the end for all workers. A thread, a seat or a channel that
-/// can't be had is done without, and a piece that can't be made or sent is run again by the caller.
-/// It is refused if memory was refused to the caller's thread.
+/// Runs the first pipeline, links its total, and runs the second pipeline, each as `run_pipeline` does. It
+/// waits for the pieces, and at the end for all workers. It is refused if memory was refused to the caller's
+/// thread.
 pub fn run_pair<A: Work, B: Work, L: Link<A, B>, G: Gate, R: Threads + Wait + Sync>(
     rt: &R,
     alloc: Global,

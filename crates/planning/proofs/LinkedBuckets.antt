@@ -1,19 +1,17 @@
 -- The buckets that a plan has are those that the total is linked to.
-use Rattle.std.proofs.Common.{◌≡◌, ℕ, ◌<◌, ◌≤◌, ◌*◌, ◌%◌, arith, List, Option, Some, None, flat_map, length, map, refl, sym, ap}
-use Rattle.std.proofs.Common.{◌∙◌, subst, ⊎_elim}
+use Rattle.std.proofs.Common.{◌≡◌, ℕ, ◌<◌, ◌≤◌, ◌*◌, arith, List, Option, flat_map, map, refl, sym, ap}
+use Rattle.std.proofs.Common.{MatchOption, None, Some, ◌∙◌, subst, ⊎_elim}
 use Rattle.std.specs.Arc.{arc_value}
 use Rattle.std.specs.List.{concat}
-use Rattle.std.specs.Option.{IfSome}
 use Rattle.std.proofs.lemmas.Bool.{cases_lt}
 use Rattle.std.proofs.lemmas.List.{map-id}
 use Rattle.std.proofs.lemmas.List.Elements.{All-map}
 use Rattle.std.proofs.lemmas.List.Folds.{flat_map-map}
 use Rattle.std.proofs.lemmas.Simd.{map-map}
 use Rattle.std.proofs.lemmas.List.FromFn.{length-map-range_with_len}
-use Rattle.std.proofs.lemmas.Nat.{mul-le}
 use Rattle.lists.proofs.Lists.{flat_map_none}
 use Rattle.lists.specs.Least.{numbers_below}
-use Rattle.lists.specs.declared.limits.TheConstants.{MOST_PARTITIONS, MOST_TASKS}
+use Rattle.row_types.specs.declared.directory.DirectoryRow.{DirectoryRow}
 use Rattle.day_file.specs.Cuts.{MorselView}
 use Rattle.day_file.specs.Frames.{StandsFrom}
 use Rattle.day_file.specs.Kept.{numbered}
@@ -29,14 +27,15 @@ use Rattle.morsel_rows.specs.Partitions.{AreRowsByPlace, MorselRowsView, joined_
 use Rattle.morsel_rows.proofs.JoinedPartitions.{partition_past}
 use Rattle.morsel_rows.proofs.MessagesOfPartition.{no_rows_by_place, partition_by_place}
 use Rattle.scanning.specs.Scans.{AreOfOneCut, ScanTotalView, total_of}
+use Rattle.scanning.specs.declared.wrong.WrongLength.{WrongLength}
 use Rattle.links.specs.Totals.{IsTotal}
+use Rattle.links.specs.declared.linked.Linked.TheVariants.{Next, Halt}
 use Rattle.buckets.specs.BucketRows.{BucketView, bucket_of, planned_rows}
 use Rattle.buckets.specs.Buckets.{AreNumbered}
 use Rattle.buckets.specs.declared.plan.Plan.{Plan}
-use Rattle.planning.specs.Planned.{all_breaks, all_directory, each_bucket, planned_bucket, planned_buckets}
-use Rattle.planning.specs.declared.pieces.TheConstants.{MOST_PIECES}
+use Rattle.planning.specs.Planned.{AreDivided, IsNext, LinkView, ToBuckets, all_breaks, all_directory, planned_bucket, planned_buckets}
 use Rattle.buckets.specs.Plans.{rising, selection_of}
-use Rattle.planning.proofs.MorselsOfCuts.{counted_in, input_of, partition_is, partitions_are}
+use Rattle.planning.proofs.MorselsOfCuts.{counted_in, divided_rows, input_of, partition_is, partitions_are}
 
 -- ---- a plan's buckets
 
@@ -51,38 +50,20 @@ pub planned_rows_are : (query : Meaning) (morsels : List MorselRowsView) (plan :
     → planned_rows number plan ≡ map (partition_at number) morsels
 planned_rows_are query morsels plan number is = grind (arith, map-map)
 
-pub buckets_are : (query : Meaning) (morsels : List MorselRowsView) (plan : Plan) (parts : ℕ) (pieces : Option ℕ) → IsPlanOf query morsels plan
-    → each_bucket (bucket_of plan) parts pieces ≡ planned_buckets query morsels parts pieces
-buckets_are query morsels plan parts pieces is = go pieces
+pub buckets_are : (query : Meaning) (morsels : List MorselRowsView) (plan : Plan) (parts : ℕ) → IsPlanOf query morsels plan
+    → map (bucket_of plan) (numbers_below parts) ≡ planned_buckets query morsels parts
+buckets_are query morsels plan parts is = λ i. map (λ number. one number i) (numbers_below parts)
   where
-    one : (partition : ℕ) (modulus : Option ℕ) (number : ℕ) → bucket_of plan partition modulus number ≡ planned_bucket query morsels partition modulus number
-    one partition modulus number = let rows = planned_rows_are query morsels plan partition is in grind arith
+    one : (number : ℕ) → bucket_of plan number ≡ planned_bucket query morsels number
+    one number = let rows = planned_rows_are query morsels plan number is in grind arith
 
-    go : (pieces : Option ℕ) → each_bucket (bucket_of plan) parts pieces ≡ planned_buckets query morsels parts pieces
-    go None = λ i. map (λ number. one number None number i) (numbers_below parts)
-    go (Some pieces) = λ i. map (λ number. one (number % parts) (Some (parts * pieces)) number i) (numbers_below (parts * pieces))
-
-module _ (plan : Plan) (partition : ℕ → ℕ) (modulus : Option ℕ) where
-  abbrev made : ℕ → BucketView
-  made number = bucket_of plan (partition number) modulus number
-
-  numbered_below : (n : ℕ) → AreNumbered (map made (numbers_below n))
-  numbered_below n = record {
-    numbers = map-map (λ (bucket : BucketView). bucket.number) made (numbers_below n) ∙ map-id (numbers_below n)
-        ∙ ap numbers_below (sym (length-map-range_with_len made 0 n));
-    what = plan.what;
-    one = All-map (λ (bucket : BucketView). bucket.what ≡ plan.what) made (numbers_below n) (λ k d h. refl);
-  }
-
-pub buckets_numbered : (plan : Plan) (parts : ℕ) (pieces : Option ℕ) → AreNumbered (each_bucket (bucket_of plan) parts pieces)
-buckets_numbered plan parts None = numbered_below plan (λ number. number) None parts
-buckets_numbered plan parts (Some pieces) = numbered_below plan (λ number. number % parts) (Some (parts * pieces)) (parts * pieces)
-
--- there are no more of them than a pipeline may have tasks
-pub few_buckets : {X : Type 0} (make : ℕ → Option ℕ → ℕ → X) (parts : ℕ) (pieces : Option ℕ) → parts ≤ MOST_PARTITIONS
-    → IfSome pieces (λ pieces. (0 < parts) × (0 < pieces) × (pieces ≤ MOST_PIECES)) → length (each_bucket make parts pieces) ≤ MOST_TASKS
-few_buckets make parts None few some = omega (arith, few, length-map-range_with_len (λ number. make number None number) 0 parts)
-few_buckets make parts (Some pieces) few some = grind (arith, mul-le, length-map-range_with_len)
+pub buckets_numbered : (plan : Plan) (parts : ℕ) → AreNumbered (map (bucket_of plan) (numbers_below parts))
+buckets_numbered plan parts = record {
+  numbers = map-map (λ (bucket : BucketView). bucket.number) (bucket_of plan) (numbers_below parts) ∙ map-id (numbers_below parts)
+      ∙ ap numbers_below (sym (length-map-range_with_len (bucket_of plan) 0 parts));
+  what = plan.what;
+  one = All-map (λ (bucket : BucketView). bucket.what ≡ plan.what) (bucket_of plan) (numbers_below parts) (λ k d h. refl);
+}
 
 -- ---- the rows of one cut are by place
 
@@ -91,17 +72,47 @@ no_rows : (as_of : Option ℕ) (n number : ℕ) → n ≤ number → (morsels : 
 no_rows as_of n number past morsels =
     partitions_are as_of n number (λ rows. no_rows_in) (λ rows. partition_past n rows number past) morsels ∙ simp (flat_map-map, flat_map_none)
 
--- each partition of the total of morsels of a cut that follow each other has its rows by place
-pub rows_by_place : (total : ScanTotalView) (number : ℕ) → IsTotal (λ inputs total. total ≡ total_of inputs) AreOfOneCut total
-    → AreRowsByPlace (joined_partitions (map (partition_at number) total.morsels))
-rows_by_place total number (inputs, cut, is) =
+-- each partition of the total of morsels of a cut that follow each other has its rows by place, also if it is divided
+pub rows_by_place : (total : ScanTotalView) → IsTotal (λ inputs total. total ≡ total_of inputs) AreOfOneCut total
+    → (pieces : ℕ) (divided : List MorselRowsView) → 0 < pieces → AreDivided pieces total.morsels divided
+    → (number : ℕ) → AreRowsByPlace (joined_partitions (map (partition_at number) divided))
+rows_by_place total (inputs, cut, is) pieces divided some are number =
     let morsels = numbered cut.first cut.start cut.runs in
+    let n = cut.parts * pieces in
     let frames = flat_map frames_of morsels in
     let stands : StandsFrom cut.start frames (concat cut.runs) = frames_of_runs cut.first cut.start cut.runs cut.each in
     let by_place = counted_by_place cut.as_of (messages_of frames) (messages_by_place frames (places_rise cut.start frames stands.places)) in
     let few = few_trades cut.as_of (concat cut.runs) frames stands (omega (arith, cut.within)) in
-    subst (λ (t : ScanTotalView). AreRowsByPlace (joined_partitions (map (partition_at number) t.morsels))) (sym (is ∙ ap total_of cut.are))
+    let rows = divided_rows cut.as_of cut.parts pieces morsels divided cut.some
+    (subst (λ (t : ScanTotalView). AreDivided pieces t.morsels divided) (is ∙ ap total_of cut.are) are) in
+    subst (λ (l : List MorselRowsView). AreRowsByPlace (joined_partitions (map (partition_at number) l))) (sym rows)
     (⊎_elim
-    (λ below. subst AreRowsByPlace (sym (partition_is cut.as_of cut.parts number below morsels))
-    (partition_by_place cut.parts number (counted_in cut.as_of cut.parts morsels) by_place few))
-    (λ past. subst AreRowsByPlace (sym (no_rows cut.as_of cut.parts number past morsels)) no_rows_by_place) (cases_lt number cut.parts))
+    (λ below. subst AreRowsByPlace (sym (partition_is cut.as_of n number below morsels))
+    (partition_by_place n number (counted_in cut.as_of n morsels) by_place few))
+    (λ past. subst AreRowsByPlace (sym (no_rows cut.as_of n number past morsels)) no_rows_by_place) (cases_lt number n))
+
+-- ---- what is linked
+
+-- buckets only if no length is wrong
+pub next_of : {link : LinkView} {morsels : List MorselRowsView} {inputs : List BucketView} {kept : List DirectoryRow} (wrong : Option WrongLength)
+    → MatchOption wrong (IsNext link morsels (Next inputs kept)) (λ w. Next inputs kept ≡ Halt w) → (wrong ≡ None) × IsNext link morsels (Next inputs kept)
+next_of None next = (refl, next)
+next_of (Some w) e = absurd (cc)
+
+-- and a wrong length only if it is that of the total
+pub halt_of : (link : LinkView) (morsels : List MorselRowsView) {stop : WrongLength} (wrong : Option WrongLength)
+    → MatchOption wrong (IsNext link morsels (Halt stop)) (λ w. ◌≡◌ {A = ToBuckets} (Halt stop) (Halt w)) → wrong ≡ Some stop
+halt_of link morsels None next = let no = next.is in absurd (cc)
+halt_of link morsels {stop = stop} (Some w) e = let same : stop ≡ w = cc in ap Some (sym same)
+
+-- the buckets of divided partitions are those of as many partitions
+pub next_is : (as_of : Option ℕ) (n : ℕ) (morsels : List MorselView) {link : LinkView} {inputs : List BucketView} {kept : List DirectoryRow} → 0 < n
+    → (next : IsNext link (total_of (map (input_of as_of n) morsels)).morsels (Next inputs kept))
+    → (inputs ≡ planned_buckets link.query (total_of (map (input_of as_of (n * next.pieces)) morsels)).morsels (link.parts * next.pieces))
+    × (kept ≡ all_directory (total_of (map (input_of as_of (n * next.pieces)) morsels)).morsels)
+next_is as_of n morsels {link} {inputs} {kept} some next =
+    let rows = divided_rows as_of n next.pieces morsels next.divided some next.are in
+    let same = next.is in
+    let buckets : inputs ≡ planned_buckets link.query next.divided (link.parts * next.pieces) = cc in
+    let names : kept ≡ all_directory next.divided = cc in
+    (buckets ∙ ap (λ l. planned_buckets link.query l (link.parts * next.pieces)) rows, names ∙ ap all_directory rows)

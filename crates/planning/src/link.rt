@@ -1,16 +1,16 @@
 //! From the total of all morsels to the buckets.
-ghost use Rattle.std.specs.Prelude.{◌≡◌, ℕ, ◌<◌, ◌≤◌, false, true, IfOk, map};
+ghost use Rattle.std.specs.Prelude.{◌≡◌, ℕ, ◌<◌, ◌≤◌, false, true, IfOk, List, map};
 ghost use Rattle.std.specs.Option.{IfSome};
 ghost use Rattle.std.specs.Arc.{arc_value};
 ghost use Rattle.lists.specs.declared.limits.TheConstants.{MOST_PARTITIONS};
-ghost use Rattle.morsel_rows.specs.Partitions.{AreRowsByPlace, joined_partitions, partition_at};
+ghost use Rattle.morsel_rows.specs.Partitions.{AreRowsByPlace, MorselRowsView, joined_partitions, partition_at};
 ghost use Rattle.planning.specs.declared.pieces.TheConstants.{MOST_PIECES};
-ghost use Rattle.planning.specs.Planned.{IsLinkedTo, IsNext, MayDivide};
+ghost use Rattle.planning.specs.Planned.{AreDivided, IsLinkedTo, IsNext};
 
 use crate::OutOfMemory;
 use crate::kept::DayPlan;
 use crate::pieces::pieces_of;
-use crate::plan::{buckets_of, directory_of, plan};
+use crate::plan::{buckets_of, directory_of, divided, plan};
 use buckets::{BucketWork, DayNames};
 use gathering::Inputs;
 use links::{Link, Linked};
@@ -21,13 +21,13 @@ use std::alloc::Global;
 use std::marker::Model;
 use std::sync::Arc;
 
-/// Halts at a wrong length, and otherwise makes `parts` buckets of the rows of all morsels, or several times as
-/// many, which share them. The names, the breaks and the selection of the query are made here, once.
+/// Halts at a wrong length, and otherwise makes a bucket of each partition of the rows of all morsels, which they
+/// share. The names, the breaks and the selection of the query are made here, once.
 #[derive(Drop)]
 pub struct PlanLink<'a> {
     query: &'a Query,
     parts: u32,
-    /// Whether several buckets may have a partition's rows among them.
+    /// Whether partitions may be divided first.
     divides: bool,
 }
 
@@ -70,38 +70,41 @@ impl<'a> PlanLink<'a> {
         }
     }
 
-    /// Into how many pieces each partition of these rows is divided, if it is.
-    fn pieces(
+    /// The rows, of which each partition may be divided into pieces, and into how many it is.
+    fn divided(
         &self,
         alloc: Global,
-        morsels: &[Arc<MorselRows, Global>],
-    ) -> Result<Option<u32>, OutOfMemory>
-        ensures may { IfOk result (MayDivide self.now) }
-        ensures few { IfOk result (λ pieces. IfSome pieces (λ pieces.
-            (0 < self.now.parts) × (0 < pieces) × (pieces ≤ MOST_PIECES))) }
+        morsels: Vec<Arc<MorselRows, Global>>,
+    ) -> Result<(Vec<Arc<MorselRows, Global>>, u32), OutOfMemory>
+        ensures rows { IfOk result (λ (rows, pieces).
+            AreDivided pieces (map arc_value morsels.items) (map arc_value rows.items)) }
+        ensures whole { IfOk result (λ (rows, pieces). self.now.divides ≡ false → pieces ≡ 1) }
+        ensures few { IfOk result (λ (rows, pieces). (0 < pieces) × (pieces ≤ MOST_PIECES)) }
     {
-        if self.divides {
-            pieces_of(alloc, morsels, self.parts)
-        } else {
-            Ok(None)
+        if !self.divides {
+            return Ok((morsels, 1));
+        }
+        match pieces_of(alloc, &morsels, self.parts)? {
+            Some(pieces) => Ok((divided(alloc, morsels, pieces)?, pieces)),
+            None => Ok((morsels, 1)),
         }
     }
 
     /// The buckets of the rows of all morsels, and the names and the plan.
-    #[tactic(auto, using(crate::proofs::LinkedBuckets::few_buckets))]
     fn go_on(
         &self,
         alloc: Global,
         morsels: Vec<Arc<MorselRows, Global>>,
     ) -> Result<Linked<Inputs<BucketWork>, DayPlan, WrongLength>, OutOfMemory>
-        requires { (number : ℕ) → AreRowsByPlace
-            (joined_partitions (map (partition_at number) (map arc_value morsels.items))) }
+        requires { (pieces : ℕ) (divided : List MorselRowsView) → 0 < pieces →
+            AreDivided pieces (map arc_value morsels.items) divided →
+            (number : ℕ) → AreRowsByPlace (joined_partitions (map (partition_at number) divided)) }
         ensures { IfOk result (IsNext self.now (map arc_value morsels.items)) }
     {
-        let pieces = self.pieces(alloc, &morsels)?;
-        let names = DayNames::build(alloc, directory_of(alloc, &morsels)?)?;
-        let plan = Arc::new(alloc, plan(alloc, morsels, &names, self.query)?)?;
-        let inputs = Inputs::of(buckets_of(alloc, &plan, self.parts, pieces)?);
+        let (rows, pieces) = self.divided(alloc, morsels)?;
+        let names = DayNames::build(alloc, directory_of(alloc, &rows)?)?;
+        let plan = Arc::new(alloc, plan(alloc, rows, &names, self.query)?)?;
+        let inputs = Inputs::of(buckets_of(alloc, &plan, self.parts * pieces)?);
         Ok(Linked::Next {
             inputs,
             kept: DayPlan { names, plan },
@@ -116,7 +119,6 @@ impl<'a> Link<ScanWork, BucketWork> for PlanLink<'a> {
 
     ghost Links = { IsLinkedTo };
 
-    #[tactic(auto, using(crate::proofs::LinkedBuckets::rows_by_place))]
     fn link(
         &self,
         alloc: Global,

@@ -9,7 +9,7 @@ use std::alloc::Global;
 use std::sync::Arc;
 
 /// The fewest pieces, so that four threads have nearly equal shares.
-const FEWEST_PIECES: u32 = 7;
+const FEWEST_PIECES: u32 = 11;
 
 /// The most pieces. Among the numbers up to it are primes whose product is above 2^59, so of the references in a
 /// partition no more than a handful can be in one class by each of them.
@@ -24,7 +24,7 @@ const SAMPLE: usize = 512;
 /// The most partitions of morsels whose rows are counted: more are of morsels so small that counting costs too much.
 const MOST_COUNTED: usize = 1 << 22;
 
-/// A partition that has many order rows, and most.
+/// A partition that has many order rows, and most of all.
 #[derive(Clone, Copy)]
 struct Large {
     number: u32,
@@ -32,14 +32,14 @@ struct Large {
 }
 
 /// Into how many pieces each of `parts` partitions is to be divided: none, unless one has many order rows, more than
-/// four times as many as all have on average, and can be divided.
+/// an eighth of all and than four times as many as all have on average, and can be divided.
 pub(crate) fn pieces_of(
     alloc: Global,
     morsels: &[Arc<MorselRows, Global>],
     parts: u32,
 ) -> Result<Option<u32>, OutOfMemory>
     ensures { IfOk result (λ pieces. IfSome pieces (λ pieces.
-        (0 < parts) × (0 < pieces) × (pieces ≤ MOST_PIECES))) }
+        (0 < pieces) × (pieces ≤ MOST_PIECES))) }
 {
     if parts == 0 || morsels.len().saturating_mul(parts as usize) > MOST_COUNTED {
         return Ok(None);
@@ -48,12 +48,13 @@ pub(crate) fn pieces_of(
         return Ok(None);
     };
     let sample = sample_of(alloc, morsels, large)?;
-    // A bucket looks at each morsel once.
+    // Each morsel has a place for each partition.
     let most = large.rows.saturating_mul(8) / morsels.len().saturating_mul(parts as usize).max(1);
     Ok(best_pieces(&sample, parts, most))
 }
 
-/// The partition that has most order rows, if they are many, and more than four times as many as all have on average.
+/// The partition that has most order rows, if they are many, more than an eighth of all, and more than four times as
+/// many as all have on average.
 fn large_partition(morsels: &[Arc<MorselRows, Global>], parts: u32) -> Option<Large> {
     let mut largest = Large { number: 0, rows: 0 };
     let mut all = 0usize;
@@ -65,6 +66,7 @@ fn large_partition(morsels: &[Arc<MorselRows, Global>], parts: u32) -> Option<La
         }
     }
     let is_large = largest.rows >= MANY_ROWS
+        && largest.rows > all / 8
         && largest.rows.saturating_mul(parts as usize) > all.saturating_mul(4);
     if is_large { Some(largest) } else { None }
 }
@@ -120,7 +122,7 @@ fn take_sample(
 /// none, those of which the largest is smallest, unless it has more than half.
 fn best_pieces(sample: &[u64], parts: u32, most: usize) -> Option<u32>
     requires { 0 < parts }
-    ensures { IfSome result (λ pieces. (0 < parts) × (0 < pieces) × (pieces ≤ MOST_PIECES)) }
+    ensures { IfSome result (λ pieces. (0 < pieces) × (pieces ≤ MOST_PIECES)) }
 {
     let mut best = None;
     let mut least = sample.len() / 2 + 1;

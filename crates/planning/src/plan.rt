@@ -1,14 +1,11 @@
 //! What all buckets share, and the buckets.
-ghost use Rattle.std.specs.Prelude.{◌≡◌, ℕ, ◌<◌, ◌≤◌, ◌%◌, IfOk, None, Some, map};
-ghost use Rattle.std.specs.Option.{IfSome};
+ghost use Rattle.std.specs.Prelude.{◌≡◌, ℕ, ◌<◌, IfOk, map};
 ghost use Rattle.std.specs.Arc.{arc_value};
 ghost use Rattle.lists.specs.Least.{numbers_below};
-ghost use Rattle.lists.specs.declared.limits.TheConstants.{MOST_PARTITIONS};
 ghost use Rattle.meaning.specs.Meaning.{HasWidth};
 ghost use Rattle.morsel_rows.specs.Partitions.{AreRowsByPlace, joined_partitions};
 ghost use Rattle.buckets.specs.BucketRows.{bucket_of, planned_rows};
-ghost use Rattle.planning.specs.Planned.{all_breaks, all_directory, each_bucket};
-ghost use Rattle.planning.specs.declared.pieces.TheConstants.{MOST_PIECES};
+ghost use Rattle.planning.specs.Planned.{AreDivided, all_breaks, all_directory};
 ghost use Rattle.buckets.specs.Plans.{rising, selection_of};
 
 use crate::OutOfMemory;
@@ -70,60 +67,34 @@ pub(crate) fn plan(
     })
 }
 
-/// The buckets of a plan, in order: one of each partition, or one of each piece.
+/// The rows of each morsel in `pieces` times as many partitions. Each morsel is freed once it is divided, if nobody
+/// else has it.
+pub(crate) fn divided(
+    alloc: Global,
+    morsels: Vec<Arc<MorselRows, Global>>,
+    pieces: u32,
+) -> Result<Vec<Arc<MorselRows, Global>>, OutOfMemory>
+    requires { 0 < pieces }
+    ensures { IfOk result (λ rows. AreDivided pieces (map arc_value morsels.items) (map arc_value rows.items)) }
+{
+    let mut rows = Vec::with_capacity(alloc, morsels.len())?;
+    for morsel in morsels {
+        rows.push(Arc::new(alloc, morsel.divided(alloc, pieces)?)?)?;
+    }
+    Ok(rows)
+}
+
+/// The buckets of a plan, in order: one of each partition.
+#[tactic(auto, using(crate::proofs::Gathered::numbering))]
 pub(crate) fn buckets_of(
     alloc: Global,
     plan: &Arc<Plan, Global>,
     parts: u32,
-    pieces: Option<u32>,
-) -> Result<Vec<Arc<Bucket, Global>>, OutOfMemory>
-    requires rows { (number : ℕ) → AreRowsByPlace (joined_partitions (planned_rows number (arc_value plan.now))) }
-    requires width { HasWidth (arc_value plan.now).what }
-    requires few { parts ≤ MOST_PARTITIONS }
-    requires pieces { IfSome pieces (λ pieces. (0 < parts) × (0 < pieces) × (pieces ≤ MOST_PIECES)) }
-    ensures { IfOk result (λ buckets. map arc_value buckets.items
-        ≡ each_bucket (bucket_of (arc_value plan.now)) parts pieces) }
-{
-    match pieces {
-        Some(pieces) => pieces_in_order(alloc, plan, parts, parts * pieces),
-        None => partitions_in_order(alloc, plan, parts),
-    }
-}
-
-/// The buckets of a plan that have classes of partitions by this modulus, in order.
-#[tactic(auto, using(crate::proofs::Gathered::numbering))]
-fn pieces_in_order(
-    alloc: Global,
-    plan: &Arc<Plan, Global>,
-    parts: u32,
-    modulus: u32,
-) -> Result<Vec<Arc<Bucket, Global>>, OutOfMemory>
-    requires rows { (number : ℕ) → AreRowsByPlace (joined_partitions (planned_rows number (arc_value plan.now))) }
-    requires width { HasWidth (arc_value plan.now).what }
-    requires some { 0 < parts }
-    ensures { IfOk result (λ buckets. map arc_value buckets.items
-        ≡ map (λ number. bucket_of (arc_value plan.now) (number % parts) (Some modulus) number)
-        (numbers_below modulus)) }
-{
-    let mut buckets = Vec::with_capacity(alloc, modulus as usize)?;
-    for number in 0..modulus {
-        let bucket = Bucket::of_class(number, number % parts, modulus, Arc::try_clone(plan)?);
-        buckets.push(Arc::new(alloc, bucket)?)?;
-    }
-    Ok(buckets)
-}
-
-/// The buckets of a plan that have whole partitions, in order.
-#[tactic(auto, using(crate::proofs::Gathered::numbering))]
-fn partitions_in_order(
-    alloc: Global,
-    plan: &Arc<Plan, Global>,
-    parts: u32,
 ) -> Result<Vec<Arc<Bucket, Global>>, OutOfMemory>
     requires rows { (number : ℕ) → AreRowsByPlace (joined_partitions (planned_rows number (arc_value plan.now))) }
     requires width { HasWidth (arc_value plan.now).what }
     ensures { IfOk result (λ buckets. map arc_value buckets.items
-        ≡ map (λ number. bucket_of (arc_value plan.now) number None number) (numbers_below parts)) }
+        ≡ map (bucket_of (arc_value plan.now)) (numbers_below parts)) }
 {
     let mut buckets = Vec::with_capacity(alloc, parts as usize)?;
     for number in 0..parts {

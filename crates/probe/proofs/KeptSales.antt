@@ -7,7 +7,7 @@ use Rattle.std.proofs.lemmas.List.Sums.{count_by-le-length, length-filter}
 use Rattle.order_table.specs.declared.OrderRow.{OrderRow}
 use Rattle.lists.proofs.Lists.{length-filter_map}
 use Rattle.probe.specs.Pricing.{Execution, Sale, priced, sale_of}
-use Rattle.probe.specs.Trades.{is_kept, kept}
+use Rattle.probe.specs.Selection.{is_kept, kept}
 
 pub length-priced : (rows : List OrderRow) (executions : List Execution) → length (priced rows executions) ≤ length executions
 length-priced rows = length-filter_map (sale_of rows)

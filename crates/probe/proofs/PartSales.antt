@@ -1,14 +1,17 @@
 -- The executions of a part, by their references modulo a number, are priced by the rows of the part as by all rows.
 use Rattle.std.proofs.Common.{◌≡◌, ℕ, ◌<◌, ◌%◌, eqb, List, is_none, option_map, filter, filter_map, ap, ◌∙◌}
 use Rattle.order_table.specs.declared.OrderRow.{OrderRow}
-use Rattle.lists.specs.Least.{least_by, TellsApart, numbers_below}
+use Rattle.lists.specs.Least.{least_by, numbers_below, part}
 use Rattle.lists.proofs.Lists.{filters_commute, filter_map_on_filter}
-use Rattle.lists.proofs.Order.{TellsApart-filter}
+use Rattle.lists.proofs.Order.{TellsApart, TellsApart-filter}
 use Rattle.lists.proofs.Parts.{least_of_parts}
 use Rattle.order_table.specs.Parts.{part_rows}
 use Rattle.order_table.proofs.PartRows.{price_where}
-use Rattle.probe.specs.Parts.{part_executions}
 use Rattle.probe.specs.Pricing.{Execution, first_unknown, is_unknown, priced, sale_at, sale_of}
+
+-- the executions whose reference modulo n is b
+abbrev part_executions : ℕ → List Execution → ℕ → List Execution
+part_executions n executions b = part n (λ execution. execution.order_no) executions b
 
 -- so a part has the sales of its executions
 pub priced_in_part : (n b : ℕ) (rows : List OrderRow) (executions : List Execution)

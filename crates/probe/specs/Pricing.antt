@@ -1,6 +1,6 @@
 -- The price of an execution, and the sales of a list of executions.
 -- To be believed.
-use Rattle.std.specs.Prelude.{ℕ, Bool, is_none, List, Option, filter, filter_map, option_map}
+use Rattle.std.specs.Prelude.{◌≡◌, ℕ, Bool, is_none, List, Option, filter, filter_map, option_map}
 use Rattle.lists.specs.Least.{least_by}
 use Rattle.order_table.specs.declared.OrderRow.{OrderRow}
 use Rattle.order_table.specs.Orders.{price_before}
@@ -9,6 +9,7 @@ pub use Rattle.row_types.specs.declared.trade.Kind.{Kind}
 pub use Rattle.row_types.specs.declared.trade.Sale.{Sale}
 pub use Rattle.row_types.specs.declared.trade.Unknown.{Unknown}
 use Rattle.row_types.specs.declared.trade.Kind.TheVariants.{E}
+use Rattle.probe.specs.declared.pricing.Priced.{Priced}
 
 -- the price of the first row that gives the execution's reference, if that row comes before the execution
 abbrev pub price_of : List OrderRow → Execution → Option ℕ
@@ -47,3 +48,9 @@ sale_of rows execution = option_map (sale_at execution) (price_of rows execution
 -- the sales of the executions that have a price, in the list's order
 abbrev pub priced : List OrderRow → List Execution → List Sale
 priced rows executions = filter_map (sale_of rows) executions
+
+-- the sales and the first execution without a price are those of these executions, priced by these rows
+pub record IsPricingOf {A : Type 0} (rows : List OrderRow) (executions : List Execution) (outcome : Priced A)
+    : Type 0 where
+  pub sales : outcome.sales.items ≡ priced rows executions
+  pub unknown : outcome.unknown ≡ option_map unknown_of (first_unknown rows executions)

@@ -1,7 +1,7 @@
 //! Takes away what isn't asked for.
 ghost use Rattle.std.specs.Prelude.{◌≡◌};
 ghost use Rattle.probe.specs.Selection.{admits};
-ghost use Rattle.probe.specs.Trades.{kept};
+ghost use Rattle.probe.specs.Selection.{kept};
 
 use crate::selection::Selection;
 use broken_trades::Breaks;

@@ -5,7 +5,7 @@ ghost use Rattle.std.specs.List.{IsDistinct};
 ghost use Rattle.lists.specs.Least.{least_by};
 ghost use Rattle.order_table.specs.declared.OrderRow.{OrderRow};
 ghost use Rattle.order_table.specs.Orders.{IsTableOf};
-ghost use Rattle.probe.specs.PricedBefore.{IsPricingOf};
+ghost use Rattle.probe.specs.Pricing.{IsPricingOf};
 ghost use Rattle.probe.specs.Pricing.{Execution as TheExecution, first_unknown, priced, sale_at, unknown_of};
 
 use order_table::{OrderTable, OutOfMemory, PricesExecutions};

@@ -1,6 +1,6 @@
 //! Which sales a query asks for.
-ghost use Rattle.std.specs.Prelude.{◌≡◌, true};
-ghost use Rattle.probe.specs.Selection.{admits, has_kind, has_locate, is_within};
+ghost use Rattle.std.specs.Prelude.{◌≡◌, Some, true};
+ghost use Rattle.probe.specs.Selection.{admits, has_kind, has_locate, has_time};
 ghost use Rattle.row_types.specs.declared.trade.Sale.{Sale};
 
 use crate::locates::LocateList;
@@ -41,7 +41,7 @@ pub struct Span {
 impl Span {
     /// Whether a time, in nanoseconds since midnight, is in the span.
     fn holds(self, time: u64) -> bool
-        ensures { result ≡ is_within self time }
+        ensures { result ≡ has_time (Some self) time }
     {
         u64::from(self.since) * NANOSECONDS <= time && time < u64::from(self.until) * NANOSECONDS
     }

@@ -9,8 +9,20 @@ use Rattle.std.proofs.lemmas.Bool.{cond-true, cond-false, false_from_ne_true}
 use Rattle.std.proofs.lemmas.Bool.Decides.{nat_tests}
 use Rattle.std.proofs.lemmas.List.Sums.{fails_before_first}
 use borrow.Author.Tests.{ltb-true, ltb-false}
-use Rattle.query.specs.Words.{word, parts, words_from}
-use Rattle.query.specs.TextLeft.{after_part, words_left, IsInText}
+use Rattle.std.specs.Option.{option_map_or}
+use Rattle.query.specs.Words.{Word, word, parts, words_from}
+
+-- the parts of what comes after a separator, if there was one
+abbrev pub after_part : ℕ → Option (Bor (List ℕ)) → List (List ℕ)
+after_part separator rest = option_map_or (λ r. parts separator r.now) rest []
+
+-- the words of what is left of a text, which begins at byte `at`
+abbrev pub words_left : ℕ → Option (Bor (List ℕ)) → List Word
+words_left at rest = option_map_or (λ r. words_from at r.now) rest []
+
+-- what is left of a text lies in memory
+abbrev pub IsInText : ℕ → Option (Bor (List ℕ)) → Type 0
+IsInText at rest = MatchOption rest (Unit {0}) (λ r. at + length r.now < 2 ^ 63)
 
 pub parts_at : (separator : ℕ) (text : List ℕ) (end : ℕ) → position (λ byte. byte == separator) text ≡ Some end
     → parts separator text ≡ take end text ∷ parts separator (take (length text - (end + 1)) (drop (end + 1) text))

@@ -1,20 +1,18 @@
 -- The words of a query are read without a fault just where the grammar gives them a meaning, and that is what is read.
-use Rattle.std.proofs.Common.{◌≡◌, ℕ, ◌*◌, Bool, true, false, cond, List, [], ◌∷◌, Option, Some, None, refl, ap, subst, ◌⊎◌, inl, inr, nat_lt}
+use Rattle.std.proofs.Common.{◌≡◌, ℕ, zero, suc, ◌*◌, ◌<◌, Bool, true, false, cond, List, [], ◌∷◌, length, Option, Some, None, refl, sym, ap, ◌∙◌, subst}
+use Rattle.std.proofs.Common.{◌⊎◌, inl, inr, nat_lt, arith}
 use Rattle.std.specs.Prelude.{is_some, Result, Ok, Err, codes}
 use Rattle.std.specs.Result.{result_err}
+use Rattle.std.proofs.lemmas.Bool.{cases_Bool}
 use Rattle.std.proofs.lemmas.Slice.Eq.{bytes_eq-Decides}
 use Rattle.query.specs.Words.{Word, word, reads_as}
 use Rattle.query.specs.Values.{count_of, unit_of, time_of, symbols_of, kinds_of}
 use Rattle.meaning.specs.Meaning.{Meaning, is_width}
-use Rattle.query.specs.Said.{Said, meaning_of}
-use Rattle.query.specs.Taken.{IsRefused}
-use Rattle.query.specs.Grammar.{Conditions, Linked, Moment, Means}
+use Rattle.query.specs.Grammar.{Said, meaning_of, Conditions, Linked, Moment, Means}
 use Rattle.query.specs.Grammar.{symbol, time, kind, done, further, any_moment, up_to, sales, bars}
-use Rattle.query.specs.Faults.{Next, QueryFault, Step, continued, ended, expecting, opening, read_from, step, valued}
-use Rattle.query.specs.Faults.{first_query_fault}
-use Rattle.query.specs.Faults.{query, number, unit, moment, of_after_as, moment_time, condition, symbol_in, symbols, time_from, first_time}
-use Rattle.query.specs.Faults.{time_until, second_time, kind_in, kinds, linked}
-use Rattle.outcomes.specs.declared.query_fault.QueryFault.TheVariants.{UnknownWord, OutOfMemory}
+use Rattle.query.specs.Faults.{IsRefused, Next, QueryFault, OutOfMemory, first_query_fault, opened, read_from, step, text, valued}
+use Rattle.query.specs.Faults.{refused, needs, condition, linked, moment, query, width, symbol_list, time_span, kind_list}
+use Rattle.query.proofs.WordByWord.{reads, read_end, stays}
 
 -- ---- what the grammar gives a meaning is read
 
@@ -43,121 +41,129 @@ means_read (bars count seconds width rest) = rw (count, seconds, width) (moment_
 
 -- ---- what is read has that meaning
 
--- the words that come next complete those before them
-abbrev Completes : Next → List Word → Meaning → Type 0
-Completes query ws q = Means ws q
-Completes number ws q = (a : ℕ) → Means (word a (codes "bars") ∷ ws) q
-Completes (unit at count) ws q = (a : ℕ) (bytes : List ℕ) → count_of bytes ≡ Some count → Means (word a (codes "bars") ∷ word at bytes ∷ ws) q
-Completes (moment said) ws q = Moment said ws q
-Completes (of_after_as said) ws q = (a : ℕ) → Moment said (word a (codes "as") ∷ ws) q
-Completes (moment_time said) ws q = (a b : ℕ) → Moment said (word a (codes "as") ∷ word b (codes "of") ∷ ws) q
-Completes (condition said) ws q = Conditions said ws q
-Completes (symbol_in said) ws q = (a : ℕ) → said.symbols ≡ None → Conditions said (word a (codes "symbol") ∷ ws) q
-Completes (symbols said) ws q = (a b : ℕ) → said.symbols ≡ None → Conditions said (word a (codes "symbol") ∷ word b (codes "in") ∷ ws) q
-Completes (time_from said) ws q = (a : ℕ) → said.span ≡ None → Conditions said (word a (codes "time") ∷ ws) q
-Completes (first_time said) ws q = (a b : ℕ) → said.span ≡ None → Conditions said (word a (codes "time") ∷ word b (codes "from") ∷ ws) q
-Completes (time_until said since) ws q = (a b c : ℕ) (first : List ℕ) → said.span ≡ None → time_of first ≡ Some since
-    → Conditions said (word a (codes "time") ∷ word b (codes "from") ∷ word c first ∷ ws) q
-Completes (second_time said since) ws q = (a b c d : ℕ) (first : List ℕ) → said.span ≡ None → time_of first ≡ Some since
-    → Conditions said (word a (codes "time") ∷ word b (codes "from") ∷ word c first ∷ word d (codes "until") ∷ ws) q
-Completes (kind_in said) ws q = (a : ℕ) → said.kinds ≡ None → Conditions said (word a (codes "kind") ∷ ws) q
-Completes (kinds said) ws q = (a b : ℕ) → said.kinds ≡ None → Conditions said (word a (codes "kind") ∷ word b (codes "in") ∷ ws) q
-Completes (linked link said) ws q = Linked link said ws q
+module _ (q : Meaning) where
+  -- the words that come next lead to the query
+  abbrev Reads : Next → List Word → Type 0
+  Reads next ws = read_from next ws ≡ Ok q
 
--- the words that come after a step complete those before them
-abbrev Follows : Step → List Word → Meaning → Type 0
-Follows (Ok next) ws q = Completes next ws q
-Follows (Err fault) ws q = ⊥
+  no_fault_reads : (fault : QueryFault) (ws : List Word) → Reads (refused fault) ws → ⊥
+  no_fault_reads fault ws e = let failed = stays fault ws in absurd (cc)
 
-passed : (b : Bool) (s : Step) (fault : QueryFault) (ws : List Word) (q : Meaning) → Follows (cond b s (Err fault)) ws q → (b ≡ true) × Follows s ws q
-passed true s fault ws q h = (refl, h)
-passed false s fault ws q h = absurd h
+  passed : (b : Bool) (next : Next) (fault : QueryFault) (ws : List Word) → Reads (cond b next (refused fault)) ws → (b ≡ true) × Reads next ws
+  passed true next fault ws e = (refl, e)
+  passed false next fault ws e = absurd (no_fault_reads fault ws e)
 
-same_word : (text : List ℕ) (w : Word) → reads_as text w ≡ true → w ≡ word w.at text
-same_word text w e = ap (λ bytes. word w.at bytes) ((bytes_eq-Decides w.bytes text).0 e)
+  has_value : {A : Type 0} (o : Option A) (fault : QueryFault) (next : A → Next) (ws : List Word) → Reads (valued o fault next) ws
+      → (x : A) × (o ≡ Some x) × Reads (next x) ws
+  has_value None fault next ws e = absurd (no_fault_reads fault ws e)
+  has_value (Some x) fault next ws e = (x, refl, e)
 
-expected : (text : List ℕ) (next : Next) (w : Word) (ws : List Word) (q : Meaning) → Follows (expecting text next w) ws q
-    → (w ≡ word w.at text) × Completes next ws q
-expected text next w ws q h = let same = passed (reads_as text w) (Ok next) (UnknownWord w.at) ws q h in (same_word text w same.0, same.1)
+  is_new : {A : Type 0} (o : Option A) (w : Word) (next : Next) (ws : List Word) → Reads (opened w (is_some o) next) ws → (o ≡ None) × Reads next ws
+  is_new None w next ws e = (refl, e)
+  is_new (Some x) w next ws e = absurd (no_fault_reads _ ws e)
 
-has_value : {A : Type 0} (o : Option A) (fault : QueryFault) (next : A → Step) (ws : List Word) (q : Meaning) → Follows (valued o fault next) ws q
-    → (x : A) × (o ≡ Some x) × Follows (next x) ws q
-has_value None fault next ws q h = absurd h
-has_value (Some x) fault next ws q h = (x, refl, h)
+  same_word : (bytes : List ℕ) (w : Word) → reads_as bytes w ≡ true → w ≡ word w.at bytes
+  same_word bytes w e = ap (λ b. word w.at b) ((bytes_eq-Decides w.bytes bytes).0 e)
 
-is_new : {A : Type 0} (o : Option A) (w : Word) (next : Next) (ws : List Word) (q : Meaning) → Follows (opening w (is_some o) next) ws q
-    → (o ≡ None) × Completes next ws q
-is_new None w next ws q h = (refl, h)
-is_new (Some x) w next ws q h = absurd h
+  -- a choice by the word
+  either : (bytes : List ℕ) (w : Word) (one other : Next) (ws : List Word) → Reads (cond (reads_as bytes w) one other) ws
+      → ((w ≡ word w.at bytes) × Reads one ws) ⊎ Reads other ws
+  either bytes w one other ws e =
+      elim (cases_Bool (reads_as bytes w)) [ inl is ↦ inl (same_word bytes w is, rw is at e) | inr is ↦ inr (rw is at e) ]
 
--- a choice of two steps by the word
-either : (text : List ℕ) (w : Word) (s t : Step) (ws : List Word) (q : Meaning) → Follows (cond (reads_as text w) s t) ws q
-    → ((w ≡ word w.at text) × Follows s ws q) ⊎ Follows t ws q
-either text w s t ws q = go (reads_as text w) refl
-  where
-    go : (b : Bool) → reads_as text w ≡ b → Follows (cond b s t) ws q → ((w ≡ word w.at text) × Follows s ws q) ⊎ Follows t ws q
-    go true e h = inl (same_word text w e, h)
-    go false e h = inr h
+  -- there is one more word
+  one_word : (next : Word → Next) (ws : List Word) → Reads (needs next) ws → (w : Word) × (rest : List Word) × (ws ≡ w ∷ rest) × Reads (next w) rest
+  unfolding step
+  one_word next [] e = absurd (cc (read_end (needs next) [] refl))
+  one_word next (w ∷ rest) e = (w, rest, refl, sym (reads (needs next) w rest) ∙ e)
 
-completed : (next : Next) (w : Word) (ws : List Word) (q : Meaning) → Follows (step next w) ws q → Completes next (w ∷ ws) q
-unfolding step
-completed query w ws q h =
-    elim (either (codes "sales") w _ _ ws q h) [
-      | inl x ↦ rw x.0 (sales x.1)
-      | inr x ↦ let bars_word = expected (codes "bars") number w ws q x in rw bars_word.0 (bars_word.1 w.at)
-    ]
-completed number w ws q h = λ a. let x = has_value (count_of w.bytes) _ _ ws q h in x.2 a w.bytes x.1
-completed (unit at count) w ws q h = λ a bytes is_count.
-    let x = has_value (unit_of w.bytes) _ _ ws q h in
-    let fits = passed (is_width (count * x.0)) _ _ ws q x.2 in bars is_count x.1 fits.0 fits.1
-completed (moment said) w ws q h =
-    elim (either (codes "as") w _ _ ws q h) [
-      | inl x ↦ rw x.0 (x.1 w.at)
-      | inr x ↦ let where_word = expected (codes "where") (condition said) w ws q x in rw where_word.0 (any_moment (further where_word.1))
-    ]
-completed (of_after_as said) w ws q h = λ a. let x = expected (codes "of") (moment_time said) w ws q h in rw x.0 (x.1 a w.at)
-completed (moment_time said) w ws q h = λ a b. let x = has_value (time_of w.bytes) _ _ ws q h in up_to x.1 x.2
-completed (condition said) w ws q h =
-    elim (either (codes "symbol") w _ _ ws q h) [
-      | inl x ↦ let new = is_new said.symbols w (symbol_in said) ws q x.1 in rw x.0 (new.1 w.at new.0)
-      | inr other ↦ elim (either (codes "time") w _ _ ws q other) [
-        | inl x ↦ let new = is_new said.span w (time_from said) ws q x.1 in rw x.0 (new.1 w.at new.0)
-        | inr last ↦ let x = passed (reads_as (codes "kind") w) _ _ ws q last in
-            let new = is_new said.kinds w (kind_in said) ws q x.1 in rw (same_word (codes "kind") w x.0) (new.1 w.at new.0)
+  -- it is this text
+  text_word : (bytes : List ℕ) (next : Next) (ws : List Word) → Reads (text bytes next) ws
+      → (at : ℕ) × (rest : List Word) × (ws ≡ word at bytes ∷ rest) × Reads next rest
+  text_word bytes next ws e =
+      let x = one_word _ ws e in
+      let same = passed (reads_as bytes x.0) next _ x.1 x.3 in (x.0.at, x.1, x.2 ∙ ap (λ w. w ∷ x.1) (same_word bytes x.0 same.0), same.1)
+
+  -- it stands for a value
+  value_word : {A : Type 0} (o : Word → Option A) (fault : Word → QueryFault) (next : Word → A → Next) (ws : List Word)
+      → Reads (needs (λ w. valued (o w) (fault w) (next w))) ws
+      → (w : Word) × (x : A) × (rest : List Word) × (ws ≡ w ∷ rest) × (o w ≡ Some x) × Reads (next w x) rest
+  value_word o fault next ws e =
+      let x = one_word _ ws e in
+      let v = has_value (o x.0) (fault x.0) (next x.0) x.1 x.3 in (x.0, v.0, x.1, x.2, v.1, v.2)
+
+  mutual
+    unfolding step
+
+    conditions_mean : (n : ℕ) (said : Said) (ws : List Word) → length ws < n → Reads (condition said) ws → Conditions said ws q
+    conditions_mean zero said ws short e = absurd (omega arith)
+    conditions_mean (suc n) said [] short e = absurd (cc (read_end (condition said) [] refl))
+    conditions_mean (suc n) said (w ∷ ws) short e =
+        elim (either (codes "symbol") w _ _ ws (sym (reads (condition said) w ws) ∙ e)) [
+          | inl x ↦
+              let new = is_new said.symbols w (symbol_list said) ws x.1 in
+              let a = text_word (codes "in") _ ws new.1 in
+              let v = value_word (λ w. symbols_of w.bytes) _ _ a.1 a.3 in
+              let fewer : length v.2 < n = omega (arith, ap length a.2, ap length v.3) in
+              rw (x.0, a.2, v.3) (symbol new.0 v.4 (linked_means n (codes "and") _ v.2 fewer v.5))
+          | inr other ↦ elim (either (codes "time") w _ _ ws other) [
+            | inl x ↦
+                let new = is_new said.span w (time_span said) ws x.1 in
+                let a = text_word (codes "from") _ ws new.1 in
+                let v = value_word (λ w. time_of w.bytes) _ _ a.1 a.3 in
+                let b = text_word (codes "until") _ v.2 v.5 in
+                let u = value_word (λ w. time_of w.bytes) _ _ b.1 b.3 in
+                let rises = passed (nat_lt v.1 u.1) _ _ u.2 u.5 in
+                let fewer : length u.2 < n = omega (arith, ap length a.2, ap length v.3, ap length b.2, ap length u.3) in
+                rw (x.0, a.2, v.3, b.2, u.3) (time new.0 v.4 u.4 rises.0 (linked_means n (codes "and") _ u.2 fewer rises.1))
+            | inr last ↦
+                let x = passed (reads_as (codes "kind") w) _ _ ws last in
+                let new = is_new said.kinds w (kind_list said) ws x.1 in
+                let a = text_word (codes "in") _ ws new.1 in
+                let v = value_word (λ w. kinds_of w.bytes) _ _ a.1 a.3 in
+                let fewer : length v.2 < n = omega (arith, ap length a.2, ap length v.3) in
+                rw (same_word (codes "kind") w x.0, a.2, v.3) (kind new.0 v.4 (linked_means n (codes "and") _ v.2 fewer v.5))
+          ]
+        ]
+
+    linked_means : (n : ℕ) (link : List ℕ) (said : Said) (ws : List Word) → length ws < n → Reads (linked link said) ws → Linked link said ws q
+    linked_means n link said [] short e =
+        let same : meaning_of said ≡ q = cc (read_end (linked link said) [] refl) in subst (λ m. Linked link said [] m) same done
+    linked_means zero link said (w ∷ ws) short e = absurd (omega arith)
+    linked_means (suc n) link said (w ∷ ws) short e =
+        let x = passed (reads_as link w) (condition said) _ ws (sym (reads (linked link said) w ws) ∙ e) in
+        rw (same_word link w x.0) (further (conditions_mean n said ws (omega arith) x.1))
+
+  moment_means : (said : Said) (ws : List Word) → Reads (moment said) ws → Moment said ws q
+  unfolding step
+  moment_means said [] e =
+      let same : meaning_of said ≡ q = cc (read_end (moment said) [] refl) in subst (λ m. Moment said [] m) same (any_moment done)
+  moment_means said (w ∷ ws) e =
+      elim (either (codes "as") w _ _ ws (sym (reads (moment said) w ws) ∙ e)) [
+        | inl x ↦
+            let a = text_word (codes "of") _ ws x.1 in
+            let v = value_word (λ w. time_of w.bytes) _ _ a.1 a.3 in
+            rw (x.0, a.2, v.3) (up_to v.4 (linked_means (suc (length v.2)) (codes "where") _ v.2 (omega arith) v.5))
+        | inr other ↦
+            let x = passed (reads_as (codes "where") w) (condition said) _ ws other in
+            rw (same_word (codes "where") w x.0) (any_moment (further (conditions_mean (suc (length ws)) said ws (omega arith) x.1)))
       ]
-    ]
-completed (symbol_in said) w ws q h = λ a new. let x = expected (codes "in") (symbols said) w ws q h in rw x.0 (x.1 a w.at new)
-completed (symbols said) w ws q h = λ a b new. let x = has_value (symbols_of w.bytes) _ _ ws q h in symbol new x.1 x.2
-completed (time_from said) w ws q h = λ a new. let x = expected (codes "from") (first_time said) w ws q h in rw x.0 (x.1 a w.at new)
-completed (first_time said) w ws q h = λ a b new. let x = has_value (time_of w.bytes) _ _ ws q h in x.2 a b w.at w.bytes new x.1
-completed (time_until said since) w ws q h = λ a b c first new is_first.
-    let x = expected (codes "until") (second_time said since) w ws q h in rw x.0 (x.1 a b c w.at first new is_first)
-completed (second_time said since) w ws q h = λ a b c d first new is_first.
-    let x = has_value (time_of w.bytes) _ _ ws q h in
-    let rises = passed (nat_lt since x.0) _ _ ws q x.2 in time new is_first x.1 rises.0 rises.1
-completed (kind_in said) w ws q h = λ a new. let x = expected (codes "in") (kinds said) w ws q h in rw x.0 (x.1 a w.at new)
-completed (kinds said) w ws q h = λ a b new. let x = has_value (kinds_of w.bytes) _ _ ws q h in kind new x.1 x.2
-completed (linked link said) w ws q h = let x = expected link (condition said) w ws q h in rw x.0 (further x.1)
 
-ended_so : (next : Next) (q : Meaning) → ended next ≡ Ok q → Completes next [] q
-ended_so (moment said) q e = let same : meaning_of said ≡ q = cc in subst (λ m. Moment said [] m) same (any_moment done)
-ended_so (linked link said) q e = let same : meaning_of said ≡ q = cc in subst (λ m. Linked link said [] m) same done
-ended_so _ q e = absurd (cc)
-
-pub read_means : (ws : List Word) (next : Next) (q : Meaning) → read_from next ws ≡ Ok q → Completes next ws q
-unfolding read_from
-read_means [] next q e = ended_so next q e
-read_means (w ∷ ws) next q e = completed next w ws q (go (step next w) (λ t. read_means ws t q) e)
-  where
-    go : (s : Step) → ((t : Next) → read_from t ws ≡ Ok q → Completes t ws q) → continued s (λ t. read_from t ws) ≡ Ok q → Follows s ws q
-    go (Ok t) rest h = rest t h
-    go (Err fault) rest h = absurd (cc)
+  -- what is read to the end has that meaning
+  pub means_from_read : (ws : List Word) → Reads query ws → Means ws q
+  means_from_read ws e =
+      let x = one_word _ ws e in
+      elim (either (codes "sales") x.0 _ _ x.1 x.3) [
+        | inl s ↦ rw (x.2, s.0) (sales (moment_means _ x.1 s.1))
+        | inr other ↦
+            let b = passed (reads_as (codes "bars") x.0) width _ x.1 other in
+            let n = value_word (λ w. count_of w.bytes) _ _ x.1 b.1 in
+            let u = value_word (λ w. unit_of w.bytes) _ _ n.2 n.5 in
+            let fits = passed (is_width (n.1 * u.1)) _ _ u.2 u.5 in
+            rw (x.2, same_word (codes "bars") x.0 b.0, n.3, u.3) (bars n.4 u.4 fits.0 (moment_means _ u.2 fits.1))
+      ]
 
 -- ---- the laws
-
--- what is read to the end has that meaning
-pub means_from_read : (ws : List Word) (q : Meaning) → read_from query ws ≡ Ok q → Means ws q
-means_from_read ws q e = read_means ws query q e
 
 -- what is read to a fault has that first fault
 pub fault_from_read : (ws : List Word) (fault : QueryFault) → read_from query ws ≡ Err fault → first_query_fault ws ≡ Some fault
@@ -180,16 +186,17 @@ pub some_meaning : (ws : List Word) → first_query_fault ws ≡ None → (q : M
 some_meaning ws none =
     let go : (r : Result Meaning QueryFault) → read_from query ws ≡ r → result_err r ≡ None → (q : Meaning) × Means ws q =
     elim [
-      | Ok q ↦ λ e f. (q, means_from_read ws q e)
+      | Ok q ↦ λ e f. (q, means_from_read q ws e)
       | Err fault ↦ λ e f. absurd (cc)
     ] in
     go (read_from query ws) refl none
 
--- words that have a meaning are refused for want of memory alone
+-- words that have a meaning have no fault, and are refused for want of memory alone
+pub never_refused : (ws : List Word) (q : Meaning) (fault : QueryFault) → Means ws q → read_from query ws ≡ Err fault → fault ≡ OutOfMemory
+never_refused ws q fault m e = let read = means_read m in absurd (cc)
+
 pub only_memory : (ws : List Word) (q : Meaning) (fault : QueryFault) → Means ws q → IsRefused query ws fault → fault ≡ OutOfMemory
 only_memory ws q OutOfMemory m h = refl
-only_memory ws q fault m h =
-    let read = means_read m in
-    let failed = h.first (λ e. cc) in absurd (cc)
+only_memory ws q fault m h = never_refused ws q fault m (h.first (λ e. cc))
 
-pub ruleset told = (means_from_read, fault_from_read, read_is_meant, only_memory)
+pub ruleset told = (means_from_read, fault_from_read, read_is_meant, only_memory, never_refused)

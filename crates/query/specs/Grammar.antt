@@ -1,12 +1,36 @@
 -- The grammar of queries, a rule for each of its forms.
 -- To be believed.
 -- Each word has the number of bytes before it, which may be any.
-use Rattle.std.specs.Prelude.{◌≡◌, ℕ, ◌*◌, nat_lt, true, List, [], ◌∷◌, Some, None, codes}
+use Rattle.std.specs.Prelude.{◌≡◌, ℕ, ◌*◌, nat_lt, true, List, [], ◌∷◌, Option, Some, None, codes, unwrap_or}
 use Rattle.query.specs.Words.{Word, word}
 use Rattle.query.specs.Values.{count_of, unit_of, time_of, symbols_of, kinds_of}
-use Rattle.meaning.specs.Meaning.{Kinds, Meaning, is_width}
+use Rattle.meaning.specs.Meaning.{Kinds, Meaning, Span, is_width}
+use Rattle.meaning.specs.declared.query.What.{What}
 use Rattle.meaning.specs.declared.query.What.TheVariants.{Bars, Sales}
-use Rattle.query.specs.Said.{Said, only, meaning_of}
+
+-- the part of a query that was read; a moment or condition that wasn't given is `None`
+pub record Said : Type 0 where
+  pub what : What
+  -- messages of a later time than this, which is in seconds since midnight, don't count
+  pub as_of : Option ℕ
+  pub symbols : Option (List (List ℕ))
+  pub span : Option Span
+  pub kinds : Option Kinds
+
+-- what is listed, and neither a moment nor a condition yet
+abbrev pub only : What → Said
+only what = record { what = what; as_of = None; symbols = None; span = None; kinds = None }
+
+-- what was said, with all four kinds if none were given
+abbrev pub meaning_of : Said → Meaning
+meaning_of said =
+    record {
+      what = said.what;
+      as_of = said.as_of;
+      symbols = said.symbols;
+      span = said.span;
+      kinds = unwrap_or said.kinds (record { e = true; c = true; p = true; q = true });
+    }
 
 mutual
   -- the words after `where` or `and`, and the query that they make of what was said before them

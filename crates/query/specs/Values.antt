@@ -3,9 +3,10 @@
 use Rattle.std.specs.Prelude.{ℕ, ◌+◌, ◌-◌, ◌*◌, ◌==◌, nat_lt, nat_le, Bool, ◌&&◌, ◌||◌, if◌then◌else◌, List, length}
 use Rattle.std.specs.Prelude.{fold, Option, Some, None, option_and_then, slice_index, codes, bytes_eq}
 use Rattle.std.specs.Char.{is_ascii_digit}
-use Rattle.std.specs.List.{list_all, list_any}
+use Rattle.std.specs.List.{list_all}
+use Rattle.lists.specs.Among.{is_among}
 use Rattle.query.specs.Words.{parts}
-use Rattle.meaning.specs.Symbols.{is_symbol}
+use Rattle.meaning.specs.Meaning.{is_symbol}
 use Rattle.lists.specs.declared.limits.TheConstants.{SECONDS_OF_DAY}
 use Rattle.probe.specs.declared.selection.Kinds.{Kinds}
 use Rattle.meaning.specs.declared.symbols.TheConstants.{COMMA}
@@ -35,18 +36,13 @@ pair_at place bytes =
     if is_ascii_digit (slice_index bytes place) && is_ascii_digit (slice_index bytes (place + 1))
     then Some (10 * (slice_index bytes place - 48) + (slice_index bytes (place + 1) - 48)) else None
 
--- hours, minutes and seconds as a number of seconds, if they are below 24, 60 and 60
-abbrev pub clock : ℕ → ℕ → ℕ → Option ℕ
-clock hours minutes seconds =
-    if (nat_lt hours 24 && nat_lt minutes 60) && nat_lt seconds 60
-    then Some (3600 * hours + 60 * minutes + seconds) else None
-
--- the seconds since midnight that a word `HH:MM:SS` writes
+-- the seconds since midnight that a word `HH:MM:SS` writes, whose three numbers are below 24, 60 and 60
 unfoldable pub clock_of : List ℕ → Option ℕ
 clock_of bytes =
     if length bytes == 8 && (slice_index bytes 2 == COLON && slice_index bytes 5 == COLON)
     then option_and_then (λ hours. option_and_then (λ minutes. option_and_then (λ seconds.
-    clock hours minutes seconds) (pair_at 6 bytes)) (pair_at 3 bytes)) (pair_at 0 bytes)
+    if (nat_lt hours 24 && nat_lt minutes 60) && nat_lt seconds 60
+    then Some (3600 * hours + 60 * minutes + seconds) else None) (pair_at 6 bytes)) (pair_at 3 bytes)) (pair_at 0 bytes)
     else None
 
 -- the seconds since midnight that a word writes: a time of the day, or `24:00:00`, the day's end
@@ -64,19 +60,10 @@ is_kind bytes =
     (bytes_eq bytes (codes "E") || bytes_eq bytes (codes "C"))
     || (bytes_eq bytes (codes "P") || bytes_eq bytes (codes "Q"))
 
--- a letter is somewhere in a word
-abbrev pub has_letter : ℕ → List ℕ → Bool
-has_letter letter bytes = list_any (λ byte. byte == letter) bytes
-
 -- the kinds whose letters, E, C, P and Q, are in a word
 abbrev pub letters_of : List ℕ → Kinds
 letters_of bytes =
-    record {
-      e = has_letter 69 bytes;
-      c = has_letter 67 bytes;
-      p = has_letter 80 bytes;
-      q = has_letter 81 bytes;
-    }
+    record { e = is_among bytes 69; c = is_among bytes 67; p = is_among bytes 80; q = is_among bytes 81 }
 
 -- the kinds of a word that lists them, with a comma between each two
 unfoldable pub kinds_of : List ℕ → Option Kinds

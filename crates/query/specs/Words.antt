@@ -1,6 +1,7 @@
 -- The words of a text: what is between its spaces.
 -- To be believed.
-use Rattle.std.specs.Prelude.{ℕ, ◌+◌, ◌==◌, nat_lt, Bool, false, ◌&&◌, ◌||◌, List, [], ◌∷◌, length, filter, codes}
+use Rattle.std.specs.Prelude.{◌≡◌, ℕ, ◌+◌, ◌<◌, ◌==◌, nat_lt, Bool, true, false, ◌&&◌, ◌||◌, List, [], ◌∷◌, length}
+use Rattle.std.specs.Prelude.{filter, codes}
 use Rattle.std.specs.List.{slice_split}
 use Rattle.std.specs.Str.{bytes_eq}
 use Rattle.query.specs.declared.words.TheConstants.{SPACE}
@@ -45,3 +46,8 @@ begins_list (w ∷ list ∷ ws) = reads_as (codes "in") w
 abbrev pub lists_symbols : List Word → Bool
 lists_symbols [] = false
 lists_symbols (w ∷ ws) = (reads_as (codes "symbol") w && begins_list ws) || lists_symbols ws
+
+-- the rest of some words, once one or more were taken: it lists symbols only where they do
+pub record IsLater (words rest : List Word) : Type 0 where
+  pub shorter : length rest < length words
+  pub listed : lists_symbols rest ≡ true → lists_symbols words ≡ true

@@ -5,7 +5,6 @@
 //! bytes from the text's start, times and widths in seconds.
 #![tactic(auto)]
 
-mod parser;
 mod reading;
 mod values;
 mod words;
@@ -15,6 +14,6 @@ pub use meaning::{
     selection,
 };
 pub use outcomes::QueryFault;
-pub use parser::parse;
+pub use reading::parse;
 pub use values::COLON;
 pub use words::SPACE;

@@ -1,18 +1,80 @@
-//! The part of a query that was read.
-ghost use Rattle.std.specs.Prelude.{◌≡◌, ◌≢◌, true, IfErr, OnOk, Ok, Err, codes};
-ghost use Rattle.query.specs.Faults.{condition, kind_in, linked, moment, read_from, symbol_in, time_from};
-ghost use Rattle.query.specs.Said.{meaning_of, only};
-ghost use Rattle.query.specs.Taken.{IsLater, IsRefused};
-ghost use Rattle.query.specs.Words.{begins_list};
-ghost use Rattle.meaning.specs.Meaning.{CanBeSpelled, HasWidth};
+//! Reads a text as a query.
+ghost use Rattle.std.specs.Prelude.{◌≡◌, ◌≢◌, IfOk, IfErr, MatchResult, OnOk, Ok, Err, Some, codes, true};
+ghost use Rattle.query.specs.Faults.{condition, first_query_fault, IsRefused, kind_list, linked, moment, query};
+ghost use Rattle.query.specs.Faults.{read_from, symbol_list, time_span, width};
+ghost use Rattle.query.specs.Grammar.{Means, meaning_of, only};
+ghost use Rattle.query.specs.Words.{begins_list, IsLater, lists_symbols, words_of};
+ghost use Rattle.meaning.specs.Meaning.{CanBeSpelled, HasWidth, Meaning, is_width};
+ghost use Rattle.meaning.specs.declared.query.What.TheVariants.{Bars};
 
-use crate::values::{kinds_of, symbols_of};
+use crate::values::{count_of, kinds_of, symbols_of, unit_of};
 use crate::words::Words;
+use lists::limits::SECONDS_OF_DAY;
 use meaning::{Query, Symbols, What};
 use outcomes::QueryFault;
 use probe::{Kinds, Span};
 use std::alloc::Allocator;
 use std::marker::Model;
+
+/// Reads the query that a text spells, in time linear in its length. Of several faults it reports
+/// the first from the left. It takes memory only for the list of symbols, so it runs out of memory
+/// only if the text has one.
+#[tactic(auto, using(crate::proofs::WordByWord::reading, crate::proofs::MeaningOrFault::told))]
+pub fn parse<A: Allocator + Clone>(alloc: A, text: &str) -> Result<Query<A>, QueryFault>
+    ensures meaning { IfOk result (λ query. Means (words_of text.now) query) }
+    ensures sound { IfOk result CanBeSpelled }
+    ensures fault { IfErr result (λ fault. fault ≢ QueryFault.OutOfMemory →
+        first_query_fault (words_of text.now) ≡ Some fault) }
+    ensures memory { IfErr result (λ fault. fault ≡ QueryFault.OutOfMemory →
+        lists_symbols (words_of text.now) ≡ true) }
+    ensures exactly { (meaning : Meaning) → Means (words_of text.now) meaning →
+        MatchResult result (λ query. query ≡ meaning) (λ fault. fault ≡ QueryFault.OutOfMemory) }
+{
+    let mut words = Words::of(text.as_bytes());
+    let mut reading = Reading::only(read_what(&mut words)?);
+    reading.read_rest(&alloc, &mut words)?;
+    Ok(reading.into_query())
+}
+
+/// Reads `sales`, or `bars` and a width.
+#[tactic(auto, using(crate::proofs::WordByWord::reading), unfolding(crate::specs::Faults::step))]
+fn read_what(words: &mut Words<'_>) -> Result<What, QueryFault>
+    ensures ok { IfOk result (λ what.
+        read_from query words.old ≡ read_from (moment (only what)) words.new) }
+    ensures sound { IfOk result HasWidth }
+    ensures err { IfErr result (λ fault. (fault ≢ QueryFault.OutOfMemory) × (read_from query words.old ≡ Err fault)) }
+    ensures later { OnOk result (IsLater words.old words.new) }
+{
+    let word = words.required()?;
+    if word.is(b"sales") {
+        Ok(What::Sales)
+    } else {
+        word.require(b"bars")?;
+        let width = read_width(words)?;
+        Ok(What::Bars { width })
+    }
+}
+
+/// Reads a number and its unit.
+#[tactic(auto, using(crate::proofs::WordByWord::reading), unfolding(crate::specs::Faults::step))]
+fn read_width(words: &mut Words<'_>) -> Result<u32, QueryFault>
+    ensures ok { IfOk result (λ seconds.
+        read_from width words.old ≡ read_from (moment (only (Bars seconds))) words.new) }
+    ensures sound { IfOk result (λ seconds. is_width seconds ≡ true) }
+    ensures err { IfErr result (λ fault. (fault ≢ QueryFault.OutOfMemory) × (read_from width words.old ≡ Err fault)) }
+    ensures later { OnOk result (IsLater words.old words.new) }
+{
+    let number = words.required()?;
+    let count = count_of(number.bytes).ok_or(QueryFault::BadNumber { at: number.at })?;
+    let unit = words.required()?;
+    let seconds = unit_of(unit.bytes).ok_or(QueryFault::UnknownWord { at: unit.at })?;
+    let width = count * seconds;
+    if (1..=SECONDS_OF_DAY).contains(&width) {
+        Ok(width)
+    } else {
+        Err(QueryFault::BadNumber { at: number.at })
+    }
+}
 
 const ALL_KINDS: Kinds = Kinds {
     e: true,
@@ -32,25 +94,16 @@ pub(crate) struct Reading<A: Allocator> {
 }
 
 impl<A: Allocator> Model for Reading<A> {
-    ghost use Rattle.query.specs.Said.{IsSaidSoundly, Said};
+    ghost use Rattle.query.specs.Grammar.{Said, meaning_of};
+    ghost use Rattle.meaning.specs.Meaning.{CanBeSpelled};
 
     ghost Value = { Said };
 
-    ghost view = { λ said. record {
-      what = said.what;
-      as_of = said.as_of;
-      symbols = said.symbols;
-      span = said.span;
-      kinds = said.kinds;
-    } };
+    ghost view = { λ r.
+        record { what = r.what; as_of = r.as_of; symbols = r.symbols; span = r.span; kinds = r.kinds } };
 
-    ghost invariant = { λ said. IsSaidSoundly (record {
-      what = said.what;
-      as_of = said.as_of;
-      symbols = said.symbols;
-      span = said.span;
-      kinds = said.kinds;
-    }) };
+    ghost invariant = { λ r. CanBeSpelled (meaning_of (
+        record { what = r.what; as_of = r.as_of; symbols = r.symbols; span = r.span; kinds = r.kinds })) };
 }
 
 impl<A: Allocator + Clone> Reading<A> {
@@ -160,10 +213,10 @@ impl<A: Allocator + Clone> Reading<A> {
     /// Reads `in` and a list of symbols.
     #[tactic(auto, using(crate::proofs::WordByWord::reading), unfolding(crate::specs::Faults::step))]
     fn read_symbols(&mut self, alloc: &A, words: &mut Words<'_>) -> Result<(), QueryFault>
-        ensures ok { OnOk result (read_from (symbol_in self.old) words.old
+        ensures ok { OnOk result (read_from (symbol_list self.old) words.old
             ≡ read_from (linked (codes "and") self.new) words.new) }
         ensures err { IfErr result (λ fault. fault ≢ QueryFault.OutOfMemory →
-            read_from (symbol_in self.old) words.old ≡ Err fault) }
+            read_from (symbol_list self.old) words.old ≡ Err fault) }
         ensures memory { IfErr result (λ fault. fault ≡ QueryFault.OutOfMemory →
             begins_list words.old ≡ true) }
         ensures later { OnOk result (IsLater words.old words.new) }
@@ -179,9 +232,10 @@ impl<A: Allocator + Clone> Reading<A> {
     /// Reads `from`, a time, `until` and a time.
     #[tactic(auto, using(crate::proofs::WordByWord::reading), unfolding(crate::specs::Faults::step))]
     fn read_span(&mut self, words: &mut Words<'_>) -> Result<(), QueryFault>
-        ensures ok { OnOk result (read_from (time_from self.old) words.old
+        ensures ok { OnOk result (read_from (time_span self.old) words.old
             ≡ read_from (linked (codes "and") self.new) words.new) }
-        ensures err { IfErr result (λ fault. read_from (time_from self.old) words.old ≡ Err fault) }
+        ensures err { IfErr result (λ fault. (fault ≢ QueryFault.OutOfMemory)
+            × (read_from (time_span self.old) words.old ≡ Err fault)) }
         ensures later { OnOk result (IsLater words.old words.new) }
     {
         words.required()?.require(b"from")?;
@@ -199,9 +253,10 @@ impl<A: Allocator + Clone> Reading<A> {
     /// Reads `in` and a list of kinds.
     #[tactic(auto, using(crate::proofs::KindLists::reading_kinds), unfolding(crate::specs::Faults::step))]
     fn read_kinds(&mut self, words: &mut Words<'_>) -> Result<(), QueryFault>
-        ensures ok { OnOk result (read_from (kind_in self.old) words.old
+        ensures ok { OnOk result (read_from (kind_list self.old) words.old
             ≡ read_from (linked (codes "and") self.new) words.new) }
-        ensures err { IfErr result (λ fault. read_from (kind_in self.old) words.old ≡ Err fault) }
+        ensures err { IfErr result (λ fault. (fault ≢ QueryFault.OutOfMemory)
+            × (read_from (kind_list self.old) words.old ≡ Err fault)) }
         ensures later { OnOk result (IsLater words.old words.new) }
     {
         words.required()?.require(b"in")?;

@@ -1,10 +1,9 @@
 //! The words of a text, one after the other.
 ghost use Rattle.std.specs.Prelude.{◌≡◌, ◌+◌, ◌<◌, ◌≤◌, ◌^◌, ◌∷◌, ◌++◌, [], length, MatchOption, IfOk, IfErr, IfSome};
 ghost use Rattle.std.specs.Prelude.{OnOk, position, ◌==◌, None, Some, true, false};
-ghost use Rattle.query.specs.Words.{Word, parts, reads_as, word, words_from};
+ghost use Rattle.std.specs.Option.{option_map_or};
+ghost use Rattle.query.specs.Words.{IsLater, Word, parts, reads_as, word, words_from};
 ghost use Rattle.query.specs.Values.{time_of};
-ghost use Rattle.query.specs.Taken.{IsLater};
-ghost use Rattle.query.specs.TextLeft.{after_part};
 
 use crate::values::time_of;
 use lists::limits::SECONDS_OF_DAY;
@@ -29,16 +28,16 @@ pub(crate) struct Words<'a> {
 }
 
 impl<'a> Model for Words<'a> {
-    ghost use Rattle.std.specs.Prelude.{List};
-    ghost use Rattle.query.specs.Words.{Word};
+    ghost use Rattle.std.specs.Prelude.{List, [], ◌+◌, ◌<◌, ◌^◌, length, MatchOption};
+    ghost use Rattle.std.specs.Option.{option_map_or};
+    ghost use Rattle.query.specs.Words.{Word, words_from};
 
     ghost Value = { List Word };
 
-    ghost use Rattle.query.specs.TextLeft.{words_left, IsInText};
+    ghost view = { λ words. option_map_or (λ rest. words_from words.at rest.now) words.rest [] };
 
-    ghost view = { λ words. words_left words.at words.rest };
-
-    ghost invariant = { λ words. IsInText words.at words.rest };
+    ghost invariant = { λ words.
+        MatchOption words.rest (Unit {0}) (λ rest. words.at + length rest.now < 2 ^ 63) };
 }
 
 fn first_place(text: &[u8], separator: u8) -> Option<usize>
@@ -51,7 +50,8 @@ fn first_place(text: &[u8], separator: u8) -> Option<usize>
 /// What comes before the first separator, and what comes after it if there is one.
 #[tactic(auto, using(crate::proofs::CutAtSeparator::parting))]
 pub(crate) fn cut(text: &[u8], separator: u8) -> (&[u8], Option<&[u8]>)
-    ensures parts { parts separator text.now ≡ result.0.now ∷ after_part separator result.1 }
+    ensures parts { parts separator text.now
+        ≡ result.0.now ∷ option_map_or (λ rest. parts separator rest.now) result.1 [] }
     ensures shorter { MatchOption result.1 (length result.0.now ≡ length text.now)
         (λ rest. length result.0.now + 1 + length rest.now ≡ length text.now) }
 {

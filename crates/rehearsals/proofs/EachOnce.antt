@@ -12,7 +12,7 @@ use Rattle.schedules.specs.Schedules.{brings, first_left, has_arrived}
 use Rattle.schedules.specs.declared.event.Event.{Event}
 use Rattle.schedules.specs.declared.event.Event.TheVariants.{Arrive}
 use Rattle.schedules.proofs.Schedules.{none_left}
-use Rattle.rehearsals.specs.Rehearsals.{HaveArrived, IsFinished, IsRehearsed, each_once}
+use Rattle.rehearsals.specs.Rehearsals.{IsFinished, IsRehearsed, each_once}
 use Rattle.rehearsals.specs.declared.rehearsing.Rehearsal.{Rehearsal}
 use Rattle.rehearsals.specs.declared.rehearsing.Rehearsal.TheVariants.{Missing}
 
@@ -25,8 +25,9 @@ arrived n task below = brought task (numbers_below n)
     ∙ among_from (numbers_below n) task (task, omega (arith, length-range_with_len 0 n, below), get_or-range_with_len 0 n task task below ∙ omega arith)
 
 pub all_arrived : (runs : List (List ℕ)) (query : Meaning) (parts gatherers : ℕ) (events1 events2 : List Event) (rehearsal : Rehearsal)
-    → IsRehearsed runs query parts gatherers events1 events2 rehearsal → HaveArrived gatherers (length runs) events1 → HaveArrived gatherers parts events2
-    → IsFinished (concat runs) query rehearsal
+    → IsRehearsed runs query parts gatherers events1 events2 rehearsal
+    → ((task : ℕ) → task < length runs → has_arrived gatherers events1 task ≡ true)
+    → ((task : ℕ) → task < parts → has_arrived gatherers events2 task ≡ true) → IsFinished (concat runs) query rehearsal
 all_arrived runs query parts gatherers events1 events2 rehearsal of first second =
     go (first_wrong of.frames) (rw (none_left gatherers (length runs) events1 first) at of.is)
   where

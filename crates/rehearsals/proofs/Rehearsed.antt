@@ -1,5 +1,5 @@
 -- What the two pipelines give by their schedules is what a rehearsal gives.
-use Rattle.std.proofs.Common.{◌≡◌, ℕ, ◌<◌, false, List, Option, Some, None, Err, length, refl, ap, ◌∙◌, inl, inr, subst}
+use Rattle.std.proofs.Common.{◌≡◌, ℕ, ◌<◌, ◌*◌, false, List, None, Err, length, refl, ap, ◌∙◌, inl, inr, subst, arith}
 use Rattle.std.specs.declared.alloc.Global.{Global}
 use Rattle.std.proofs.lemmas.List.{length-map}
 use Rattle.std.proofs.lemmas.List.FromFn.{length-map-range_with_len}
@@ -9,7 +9,7 @@ use Rattle.day_file.specs.Kept.{numbered}
 use Rattle.meaning.specs.Meaning.{Meaning}
 use Rattle.answers.specs.Answers.{IsAnswerToMessages, told_by}
 use Rattle.answers.specs.declared.answer.Answer.{Answer}
-use Rattle.schedules.specs.Rehearsals.{IsRehearsed as IsRehearsedPair, Next, Halt}
+use Rattle.schedules.specs.Rehearsals.{IsRehearsed as IsRehearsedPair, Next}
 use Rattle.schedules.specs.declared.event.Event.{Event}
 use Rattle.schedules.specs.declared.rehearsed.Rehearsed.{Rehearsed}
 use Rattle.schedules.specs.declared.rehearsed.Rehearsed.TheVariants as pair
@@ -20,11 +20,12 @@ use Rattle.buckets.specs.BucketRows.{BucketView}
 use Rattle.buckets.specs.Buckets.{total_found}
 use Rattle.buckets.specs.FoundRows.{TotalView}
 use Rattle.joining.specs.Gathered.{AreGatheredOf}
-use Rattle.planning.specs.Planned.{IsLinkedTo, LinkView, MayDivide, all_directory, halt_or, planned_bucket}
+use Rattle.planning.specs.Planned.{IsLinkedTo, LinkView, all_directory, planned_bucket}
+use Rattle.planning.proofs.LinkedBuckets.{halt_of, next_is, next_of}
 use Rattle.rehearsals.specs.Rehearsals.{IsRehearsed}
-use Rattle.runs.specs.FirstPipeline.{AreRuns, wrong_fault}
 use Rattle.rehearsals.specs.declared.rehearsing.Rehearsal.TheVariants as rehearsal
-use Rattle.runs.proofs.CutAnswers.{answered_by, buckets, frames, gathered_by, halted_by, messages, right_frames, scan, stands, wrong_frame}
+use Rattle.runs.proofs.CutAnswers.{AreRuns, answered_by, buckets, frames, gathered_by, halted_by, messages, right_frames, scan, stands}
+use Rattle.runs.proofs.CutAnswers.{wrong_fault, wrong_frame}
 
 abbrev Pair : Type 0
 Pair = Rehearsed TotalView (List DirectoryRow) WrongLength
@@ -37,17 +38,13 @@ module _ (runs : List (List ℕ)) (query : Meaning) (parts gatherers : ℕ) (eve
   link = record { query = query; parts = parts; divides = false }
 
   -- a link that divides no partition goes on with one bucket of each, if no length is wrong
-  goes_on : (pieces : Option ℕ) → MayDivide link pieces → (wrong : Option WrongLength) (inputs : List BucketView) (kept : List DirectoryRow)
-      → Next inputs kept ≡ halt_or wrong (Next (buckets runs query parts pieces) (all_directory scanned.morsels))
-      → (wrong ≡ None) × (inputs ≡ buckets runs query parts None) × (kept ≡ all_directory scanned.morsels)
-  goes_on None may None inputs kept e = (refl, cc, cc)
-  goes_on pieces may (Some stop) inputs kept e = absurd (cc)
-  goes_on (Some pieces) may None inputs kept e = let no = may.0 in absurd (cc)
-
-  halts : (wrong : Option WrongLength) (stop : WrongLength) (inputs : List BucketView) (kept : List DirectoryRow)
-      → Halt stop ≡ halt_or wrong (Next inputs kept) → wrong ≡ Some stop
-  halts (Some wrong) stop inputs kept e = cc
-  halts None stop inputs kept e = absurd (cc)
+  goes_on : (inputs : List BucketView) (kept : List DirectoryRow) → 0 < parts → IsLinkedTo link scanned (Next inputs kept)
+      → (scanned.wrong ≡ None) × (inputs ≡ buckets runs query parts) × (kept ≡ all_directory scanned.morsels)
+  goes_on inputs kept some linked =
+      let (right, next) = next_of scanned.wrong linked in
+      let (seconds, names) = next_is query.as_of parts (numbered 0 0 runs) some next in
+      let one : parts * next.pieces ≡ parts = grind (arith, next.whole refl) in
+      (right, seconds ∙ ap (λ n. buckets runs query n) one, names ∙ ap (λ n. all_directory (scan runs query n).morsels) one)
 
   -- what a rehearsal makes of what the two pipelines gave
   abbrev pub Told : Pair → Type 0
@@ -59,8 +56,8 @@ module _ (runs : List (List ℕ)) (query : Meaning) (parts gatherers : ℕ) (eve
   Told (pair.Missing pipeline task) = IsRehearsed runs query parts gatherers events1 events2 (rehearsal.Missing pipeline task)
 
   module _ (are : AreRuns runs) (some : 0 < parts) where
-    as_many : length (buckets runs query parts None) ≡ parts
-    as_many = length-map-range_with_len (λ number. planned_bucket query scanned.morsels number None number) 0 parts
+    as_many : length (buckets runs query parts) ≡ parts
+    as_many = length-map-range_with_len (planned_bucket query scanned.morsels) 0 parts
 
     told : (r : Pair) → IsRehearsedPair (length runs) (λ (first : ScanTotalView). first ≡ scanned) (IsLinkedTo link)
         (λ (seconds : List BucketView) (t : TotalView). t ≡ total_found seconds) gatherers events1 events2 r
@@ -70,15 +67,15 @@ module _ (runs : List (List ℕ)) (query : Meaning) (parts gatherers : ℕ) (eve
       stand = stands runs query parts are;
       is = rw left (ap (λ p. rehearsal.Missing p task) number);
     }
-    told (pair.Missing pipeline task) (inr (number, none, (first, inputs, kept, is, (pieces, may, linked), left))) =
-        let next = goes_on pieces may scanned.wrong inputs kept (rw is at linked) in record {
+    told (pair.Missing pipeline task) (inr (number, none, (first, inputs, kept, is, linked, left))) =
+        let next = goes_on inputs kept some (rw is at linked) in record {
           frames = frames runs query parts;
           stand = stands runs query parts are;
           is = rw (none, right_frames runs query parts next.0, rw (next.1, as_many) at left) (ap (λ p. rehearsal.Missing p task) number);
         }
-    told (pair.Finished total kept) (none, (first, inputs, is, (pieces, may, linked), left, of)) =
-        let next = goes_on pieces may scanned.wrong inputs kept (rw is at linked) in (
-          gathered_by runs query parts are total kept link None some tt (of ∙ ap total_found next.1) next.2,
+    told (pair.Finished total kept) (none, (first, inputs, is, linked, left, of)) =
+        let next = goes_on inputs kept some (rw is at linked) in (
+          gathered_by runs query parts are total kept some (of ∙ ap total_found next.1) next.2,
           λ answer answers. record {
             frames = frames runs query parts;
             stand = stands runs query parts are;
@@ -86,8 +83,8 @@ module _ (runs : List (List ℕ)) (query : Meaning) (parts gatherers : ℕ) (eve
                 (answered_by runs query parts are (told_by answer) next.0 answers);
           },
         )
-    told (pair.Stopped stop) (none, (first, is, (pieces, may, linked))) = λ answer said.
-        let wrong = halts scanned.wrong stop _ _ (rw is at linked) in let frame = wrong_frame runs query parts stop wrong in record {
+    told (pair.Stopped stop) (none, (first, is, linked)) = λ answer said.
+        let wrong = halt_of link scanned.morsels scanned.wrong (rw is at linked) in let frame = wrong_frame runs query parts stop wrong in record {
           frames = frames runs query parts;
           stand = stands runs query parts are;
           is = rw (none, frame.1) (halted_by runs query parts are stop (told_by answer) wrong said);

@@ -1,11 +1,11 @@
 -- What a rehearsal over a cut day file gives.
 -- To be believed of a crate used by itself.
-use Rattle.std.specs.Prelude.{◌≡◌, ℕ, ◌<◌, true, List, length, map, MatchOption}
+use Rattle.std.specs.Prelude.{◌≡◌, ℕ, List, length, map, MatchOption}
 use Rattle.std.specs.List.{concat}
 use Rattle.lists.specs.Least.{numbers_below}
 use Rattle.day_file.specs.Frames.{PlacedBody, StandsFor}
 use Rattle.meaning.specs.Meaning.{Meaning}
-use Rattle.schedules.specs.Schedules.{first_left, has_arrived}
+use Rattle.schedules.specs.Schedules.{first_left}
 use Rattle.schedules.specs.declared.event.Event.{Event}
 use Rattle.schedules.specs.declared.event.Event.TheVariants.{Arrive}
 use Rattle.answers.specs.Answers.{IsAnswer, told_by}
@@ -31,10 +31,6 @@ pub record IsRehearsed (runs : List (List ℕ)) (query : Meaning) (parts gathere
       (λ task. rehearsal ≡ Missing 2 task))
       (λ wrong. IsFinished (concat runs) query rehearsal))
       (λ task. rehearsal ≡ Missing 1 task)
-
--- each task has arrived, at one of the gatherers; then a rehearsal has the answer (`all_arrived_answers`)
-abbrev pub HaveArrived : ℕ → ℕ → List Event → Type 0
-HaveArrived gatherers tasks events = (task : ℕ) → task < tasks → has_arrived gatherers events task ≡ true
 
 -- the schedule in which each task arrives once, in order, at the first gatherer; by such schedules a rehearsal has
 -- the answer (`each_once_answers`)

@@ -20,8 +20,7 @@ use std::alloc::Global;
 use std::sync::Arc;
 use time_and_sales::{Listing, Names};
 
-/// The answer that the total of all buckets gives: the first fault in the references, or the text
-/// that is asked for.
+/// The answer that the total of all buckets gives: the first fault in the references, or the text that is asked for.
 pub(crate) fn answer_of(
     alloc: Global,
     query: &Query,

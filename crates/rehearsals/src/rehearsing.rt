@@ -24,12 +24,10 @@ pub enum Rehearsal {
     Missing { pipeline: u8, task: u32 },
 }
 
-/// Answers a query over a cut day file as threads would, on this thread alone: by two pipelines
-/// with `gatherers` gatherers each, from 1 to 64, in which pieces arrive, are repeated, lost and
-/// merged as the events say. The first pipeline has a task for each morsel; the second, which
-/// doesn't run if a wrong length was found, has one for each of `parts` partitions, from 1 to 256.
-///
-/// It is refused if memory was refused to it.
+/// Answers a query over a cut day file as threads would, on this thread alone: by two pipelines with `gatherers`
+/// gatherers each, from 1 to 64, in which pieces arrive, are repeated, lost and merged as the events say. The first
+/// pipeline has a task for each morsel; the second, which doesn't run if a wrong length was found, has one for each of
+/// `parts` partitions, from 1 to 256. It is refused if memory was refused to it.
 pub fn rehearse(
     alloc: Global,
     cut: &Cut,

@@ -32,34 +32,20 @@ day_fault_text (day.RepeatedReference place order_no) =
 day_fault_text (day.UnknownReference place order_no) =
     codes "place " ++ decimal place ++ codes ": order reference " ++ decimal order_no ++ codes " is not known"
 
--- what is reported of a fault
-pub record Report : Type 0 where
-  pub status : ℕ
-  pub text : List ℕ
-
--- the report of each fault
-abbrev pub report_of : RunFault → Report
-report_of (run.Query fault) = record { status = 2; text = query_fault_text fault }
-report_of run.ReadFailed = record { status = 4; text = codes "reading failed" }
-report_of (run.TooLong limit) = record {
-  status = 1;
-  text = codes "file is longer than " ++ decimal limit ++ codes " bytes";
-}
-report_of run.TooManyMorsels = record {
-  status = 2;
-  text = codes "more than " ++ decimal MOST_MORSELS ++ codes " morsels";
-}
-report_of (run.Day fault) = record { status = 1; text = day_fault_text fault }
-report_of (run.WriteFailed written) = record {
-  status = 5;
-  text = codes "writing failed after " ++ decimal written ++ codes " bytes";
-}
-report_of run.OutOfMemory = record { status = 3; text = codes "out of memory" }
+-- the status and the text that are reported of each fault
+abbrev pub report_of : RunFault → ℕ × List ℕ
+report_of (run.Query fault) = (2, query_fault_text fault)
+report_of run.ReadFailed = (4, codes "reading failed")
+report_of (run.TooLong limit) = (1, codes "file is longer than " ++ decimal limit ++ codes " bytes")
+report_of run.TooManyMorsels = (2, codes "more than " ++ decimal MOST_MORSELS ++ codes " morsels")
+report_of (run.Day fault) = (1, day_fault_text fault)
+report_of (run.WriteFailed written) = (5, codes "writing failed after " ++ decimal written ++ codes " bytes")
+report_of run.OutOfMemory = (3, codes "out of memory")
 
 -- a fault's status
 abbrev pub status_of : RunFault → ℕ
-status_of fault = (report_of fault).status
+status_of fault = (report_of fault).0
 
 -- a fault's line, with its line feed
 abbrev pub line_of : RunFault → List ℕ
-line_of fault = codes "fault: " ++ (report_of fault).text ++ codes "\n"
+line_of fault = codes "fault: " ++ (report_of fault).1 ++ codes "\n"

@@ -25,34 +25,25 @@ module _ {L : Type 0} (Took : L → L → List ℕ → Type 0) (HasFlushed : L �
   Reported (Ok done) = after ≡ before
   Reported (Err f) = Delivered (line_of f)
 
-module _ {K L : Type 0}
-    (OutTook : K → K → List ℕ → Type 0) (OutHasFlushed : K → Type 0) (out_failed : K → Bool)
-    (Took : L → L → List ℕ → Type 0) (HasFlushed : L → Type 0) (has_failed : L → Bool)
-    (out out_after : K) (errors errors_after : L) (status : ℕ) where
-  -- the output took the first `written` bytes of a text, perhaps none or all, and failed, and the errors have the
-  -- line of that
-  pub record IsCutShort (text : List ℕ) : Type 0 where
-    pub written : ℕ
-    pub within : written ≤ length text
-    pub took : OutTook out out_after (take written text)
-    pub status_is : status ≡ status_of (fault.WriteFailed written)
-    pub reported : Delivered Took HasFlushed has_failed errors errors_after (line_of (fault.WriteFailed written))
+  -- what is told of a fault: its status, and its line on the device for errors
+  abbrev pub Told : ℕ → RunFault → Type 0
+  Told status f = (status ≡ status_of f) × Delivered (line_of f)
 
-  -- help or the version is delivered to the output, and the errors get nothing; if that fails, they get the line of a
-  -- failed write
-  pub record Helped (text : List ℕ) : Type 0 where
-    pub whole : out_failed out_after ≡ false
-        → OutTook out out_after text × OutHasFlushed out_after × (status ≡ 0) × (errors_after ≡ errors)
-    pub part : out_failed out_after ≡ true → IsCutShort text
+  module _ {K : Type 0} (OutTook : K → K → List ℕ → Type 0) (OutHasFlushed : K → Type 0) (out_failed : K → Bool)
+      (out out_after : K) (status : ℕ) where
+    -- help or the version is delivered to the output, and the errors get nothing; if that fails, the output took the
+    -- text's first `written` bytes, perhaps none or all, and a failed write is told
+    pub record Helped (text : List ℕ) : Type 0 where
+      pub whole : out_failed out_after ≡ false
+          → OutTook out out_after text × OutHasFlushed out_after × (status ≡ 0) × (after ≡ before)
+      pub part : out_failed out_after ≡ true
+          → (written : ℕ) × (written ≤ length text) × OutTook out out_after (take written text)
+          × Told status (fault.WriteFailed written)
 
-  -- help and the version go to the output, and what is wrong goes to the errors; out of memory is reported by its
-  -- fault's line; the output takes nothing else
-  abbrev pub Explained : WordsFault → Type 0
-  Explained (words.Help text) = Helped (string_bytes text)
-  Explained (words.Version text) = Helped (string_bytes text)
-  Explained (words.Wrong text) = (status ≡ 2)
-      × Delivered Took HasFlushed has_failed errors errors_after (string_bytes text)
-      × (out_after ≡ out)
-  Explained words.Memory = (status ≡ status_of fault.OutOfMemory)
-      × Delivered Took HasFlushed has_failed errors errors_after (line_of fault.OutOfMemory)
-      × (out_after ≡ out)
+    -- help and the version go to the output, and what is wrong goes to the errors; out of memory is told as the fault
+    -- that it is; the output takes nothing else
+    abbrev pub Explained : WordsFault → Type 0
+    Explained (words.Help text) = Helped (string_bytes text)
+    Explained (words.Version text) = Helped (string_bytes text)
+    Explained (words.Wrong text) = (status ≡ 2) × Delivered (string_bytes text) × (out_after ≡ out)
+    Explained words.Memory = Told status fault.OutOfMemory × (out_after ≡ out)

@@ -2,8 +2,7 @@
 ghost use Rattle.std.specs.Prelude.{◌≡◌, ◌+◌, ◌≤◌, ◌++◌, codes, length};
 ghost use Rattle.std.specs.Fmt.{decimal};
 ghost use Rattle.arrayvec.specs.ArrayVec.{array_vec_len};
-ghost use Rattle.reports.specs.FaultLines.{day_fault_text, line_of, query_fault_text};
-ghost use Rattle.reports.specs.FaultLines.{report_of, status_of};
+ghost use Rattle.reports.specs.FaultLines.{day_fault_text, line_of, query_fault_text, report_of, status_of};
 
 use arrayvec::ArrayVec;
 use itoa::Buffer;
@@ -14,7 +13,6 @@ use outcomes::{DayFault, QueryFault, RunFault};
 /// 20 digits each.
 pub(crate) type Line = ArrayVec<u8, 103>;
 
-/// A fault's status.
 pub(crate) fn status_of(fault: &RunFault) -> u8
     ensures { result ≡ status_of fault.now }
 {
@@ -38,10 +36,9 @@ pub(crate) fn line_of(fault: &RunFault) -> Line
     line
 }
 
-/// The text of a fault.
 fn push_fault(line: &mut Line, fault: &RunFault)
     requires { array_vec_len line.old ≤ 7 }
-    ensures items { line.new.items ≡ line.old.items ++ (report_of fault.now).text }
+    ensures items { line.new.items ≡ line.old.items ++ (report_of fault.now).1 }
     ensures len { array_vec_len line.new ≤ 102 }
 {
     match fault {
@@ -61,7 +58,6 @@ fn push_fault(line: &mut Line, fault: &RunFault)
     }
 }
 
-/// The text of a query's fault.
 fn push_query_fault(line: &mut Line, fault: &QueryFault)
     requires { array_vec_len line.old ≤ 7 }
     ensures items { line.new.items ≡ line.old.items ++ query_fault_text fault.now }
@@ -78,7 +74,6 @@ fn push_query_fault(line: &mut Line, fault: &QueryFault)
     }
 }
 
-/// The text of a day file's fault.
 fn push_day_fault(line: &mut Line, fault: &DayFault)
     requires { array_vec_len line.old ≤ 7 }
     ensures items { line.new.items ≡ line.old.items ++ day_fault_text fault.now }
@@ -96,8 +91,8 @@ fn push_day_fault(line: &mut Line, fault: &DayFault)
         } => {
             push_number(line, b"place ", *place, b": message ");
             line.push(*kind);
-            push_length(line, b" has length ", *length);
-            push_length(line, b", not ", *wanted);
+            push_number(line, b" has length ", *length as u64, b", not ");
+            push_decimal(line, *wanted as u64);
         }
         DayFault::RepeatedReference { place, order_no } => {
             push_number(line, b"place ", *place, b": order reference ");
@@ -121,17 +116,6 @@ fn push_at(line: &mut Line, at: usize, wrong: &[u8])
     push_number(line, b"query byte ", at as u64, wrong);
 }
 
-/// A number of bytes behind a text.
-fn push_length(line: &mut Line, before: &[u8], bytes: usize)
-    requires { array_vec_len line.old + length before.now + 20 ≤ 103 }
-    ensures items { line.new.items ≡ line.old.items ++ before.now ++ decimal bytes }
-    ensures len { array_vec_len line.new ≤ array_vec_len line.old + length before.now + 20 }
-{
-    push_text(line, before);
-    push_decimal(line, bytes as u64);
-}
-
-/// A number between two texts.
 fn push_number(line: &mut Line, before: &[u8], number: u64, after: &[u8])
     requires { array_vec_len line.old + length before.now + 20 + length after.now ≤ 103 }
     ensures items { line.new.items ≡ line.old.items ++ before.now ++ decimal number ++ after.now }
@@ -142,17 +126,14 @@ fn push_number(line: &mut Line, before: &[u8], number: u64, after: &[u8])
     push_text(line, after);
 }
 
-/// A number in decimal.
 fn push_decimal(line: &mut Line, number: u64)
     requires { array_vec_len line.old + 20 ≤ 103 }
     ensures items { line.new.items ≡ line.old.items ++ decimal number }
     ensures len { array_vec_len line.new ≤ array_vec_len line.old + 20 }
 {
-    let mut buffer = Buffer::new();
-    push_text(line, buffer.format(number).as_bytes());
+    push_text(line, Buffer::new().format(number).as_bytes());
 }
 
-/// A text.
 fn push_text(line: &mut Line, text: &[u8])
     requires { array_vec_len line.old + length text.now ≤ 103 }
     ensures items { line.new.items ≡ line.old.items ++ text.now }

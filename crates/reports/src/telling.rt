@@ -29,8 +29,8 @@ pub fn report<L: Sink>(outcome: Result<(), RunFault>, errors: &mut L) -> u8
 pub fn explain<K: Sink, L: Sink>(fault: &WordsFault, out: &mut K, errors: &mut L) -> u8
     requires out { K.has_failed out.old ≡ false }
     requires errors { L.has_failed errors.old ≡ false }
-    ensures { Explained K.Took K.HasFlushed K.has_failed L.Took L.HasFlushed L.has_failed
-        out.old out.new errors.old errors.new result fault.now }
+    ensures { Explained L.Took L.HasFlushed L.has_failed errors.old errors.new
+        K.Took K.HasFlushed K.has_failed out.old out.new result fault.now }
 {
     match fault {
         WordsFault::Help { text } | WordsFault::Version { text } => {

@@ -1,7 +1,11 @@
 -- What the two pipelines give on threads comes of the scans of a cut.
-use Rattle.std.proofs.Common.{◌≡◌, ℕ, ◌<◌, List, Option, Some, None, refl, sym, subst, ap, ◌∙◌}
+use Rattle.std.proofs.Common.{◌≡◌, ℕ, ◌<◌, ◌*◌, true, List, Option, Result, Err, sym, subst, ap, ◌∙◌, arith}
+use Rattle.std.specs.List.{concat}
 use Rattle.row_types.specs.declared.directory.DirectoryRow.{DirectoryRow}
 use Rattle.meaning.specs.Meaning.{Meaning}
+use Rattle.outcomes.specs.declared.day_fault.DayFault.{DayFault}
+use Rattle.answers.specs.Answers.{IsAnswer, IsAnswerToMessages}
+use Rattle.day_rows.specs.Messages.{Placed}
 use Rattle.links.specs.declared.linked.Linked.TheVariants.{Next, Halt}
 use Rattle.pipelines.specs.Outcomes.{IsOutcome}
 use Rattle.pipelines.specs.declared.outcome.Outcome.{Outcome}
@@ -12,49 +16,66 @@ use Rattle.buckets.specs.BucketRows.{BucketView}
 use Rattle.buckets.specs.Buckets.{total_found}
 use Rattle.buckets.specs.FoundRows.{TotalView}
 use Rattle.joining.specs.Gathered.{AreGatheredOf}
-use Rattle.planning.specs.Planned.{IsLinkedTo, LinkView, MayDivide, halt_or}
-use Rattle.runs.specs.FirstPipeline.{AreRuns, ComesOf, IsOutcomeOf, link_of}
-use Rattle.runs.proofs.CutAnswers.{gathered_by, messages}
+use Rattle.planning.specs.Planned.{IsLinkedTo, LinkView}
+use Rattle.planning.proofs.LinkedBuckets.{halt_of, next_is, next_of}
+use Rattle.planning.proofs.MorselsOfCuts.{wrong_is}
+use Rattle.day_file.specs.Kept.{numbered}
+use Rattle.std.proofs.lemmas.Nat.{mul-lt}
+use Rattle.runs.specs.Steps.{IsOutcomeOf, IsScanOf}
+use Rattle.runs.proofs.CutAnswers.{AreRuns, answered_by, gathered_by, halted_by, messages as messages_of, wrong_fault}
 
 abbrev pub Pair : Type 0
 Pair = Outcome TotalView (List DirectoryRow) WrongLength
 
--- by this link a pair may give this for this total
-abbrev pub IsGiven : LinkView → ScanTotalView → Pair → Type 0
-IsGiven to total =
-    IsOutcome (λ (first : ScanTotalView). first ≡ total) (IsLinkedTo to)
-    (λ (inputs : List BucketView) (t : TotalView). t ≡ total_found inputs)
+-- the link by which all calls go on: it may divide partitions
+abbrev pub link_of : Meaning → ℕ → LinkView
+link_of query parts = record { query = query; parts = parts; divides = true }
 
-next_is : (wrong : Option WrongLength) {inputs buckets : List BucketView} {kept names : List DirectoryRow}
-    → Next inputs kept ≡ halt_or wrong (Next buckets names) → (wrong ≡ None) × (inputs ≡ buckets) × (kept ≡ names)
-next_is (Some w) e = absurd (cc)
-next_is None {inputs} {buckets} {kept} {names} e =
-    let same : inputs ≡ buckets = cc in
-    let one : kept ≡ names = cc in
-    (refl, same, one)
+-- by this link a pair may give this for a first total of which this is known
+abbrev pub IsGiven : (ScanTotalView → Type 0) → LinkView → Pair → Type 0
+IsGiven IsFirst to = IsOutcome IsFirst (IsLinkedTo to) (λ (inputs : List BucketView) (t : TotalView). t ≡ total_found inputs)
 
-halt_is : (wrong : Option WrongLength) (buckets : List BucketView) (names : List DirectoryRow) {stop : WrongLength}
-    → Halt stop ≡ halt_or wrong (Next buckets names) → wrong ≡ Some stop
-halt_is (Some w) buckets names {stop} e = let same : stop ≡ w = cc in ap Some (sym same)
-halt_is None buckets names e = absurd (cc)
+-- the same length is wrong, whatever the number of partitions
+same_wrong : (as_of : Option ℕ) (n m : ℕ) (runs : List (List ℕ)) → (total_of (inputs_of as_of n runs)).wrong ≡ (total_of (inputs_of as_of m runs)).wrong
+same_wrong as_of n m runs = wrong_is as_of n (numbered 0 0 runs) ∙ sym (wrong_is as_of m (numbered 0 0 runs))
 
--- what a pair gives comes of the total
-given_to : (link : LinkView) (total : ScanTotalView) (r : Pair) → IsGiven link total r
-    → (pieces : Option ℕ) × MayDivide link pieces × ComesOf link pieces total r
-given_to link total (Finished t kept) (first, inputs, same, (pieces, may, is), found) =
-    let (right, buckets, names) = next_is first.wrong is in
-    (pieces, may, subst (λ s. ComesOf link pieces s (Finished t kept)) same (right, found ∙ ap total_found buckets, names))
-given_to link total (Stopped stop) (first, same, (pieces, may, is)) =
-    (pieces, may, subst (λ s. ComesOf link pieces s (Stopped stop)) same (halt_is first.wrong _ _ is))
+-- what a pair gives for the scans of a cut
+pub given_of : {query : Meaning} {parts : ℕ} {runs : List (List ℕ)} {to : LinkView} {IsFirst : ScanTotalView → Type 0} (r : Pair)
+    → IsGiven IsFirst to r → to ≡ link_of query parts → 0 < parts
+    → ((first : ScanTotalView) → IsFirst first → IsScanOf 0 0 query.as_of parts runs first) → IsOutcomeOf query r runs
+given_of {parts = parts} (Finished total kept) (first, inputs, is, links, found) linked some scan = record {
+  parts = parts;
+  some = some;
+  is = (first, inputs, scan first is, subst (λ (l : LinkView). IsLinkedTo l first (Next inputs kept)) linked links, found);
+}
+given_of {parts = parts} (Stopped stop) (first, is, links) linked some scan = record {
+  parts = parts;
+  some = some;
+  is = (first, scan first is, subst (λ (l : LinkView). IsLinkedTo l first (Halt stop)) linked links);
+}
 
-pub given_of : {query : Meaning} {parts : ℕ} {total : ScanTotalView} {runs : List (List ℕ)} {to : LinkView} {r : Pair} → 0 < parts → AreRuns runs
-    → total ≡ total_of (inputs_of query.as_of parts runs) → to ≡ link_of query parts → IsGiven to total r → IsOutcomeOf query r runs
-given_of {query} {parts} {total} {r = r} some are same linked is =
-    let (pieces, may, comes) = given_to (link_of query parts) total r (subst (λ (l : LinkView). IsGiven l total r) linked is) in
-    record { parts = parts; some = some; pieces = pieces; may = may; cut = are; is = subst (λ s. ComesOf (link_of query parts) pieces s r) same comes }
+are_runs : {as_of : Option ℕ} {parts : ℕ} {runs : List (List ℕ)} {total : ScanTotalView} → IsScanOf 0 0 as_of parts runs total → AreRuns runs
+are_runs of = record { each = of.each; bytes = of.bytes; within = omega (arith, of.within) }
 
--- no length is wrong
-pub gathered : {query : Meaning} {total : TotalView} {kept : List DirectoryRow} {runs : List (List ℕ)} (of : IsOutcomeOf query (Finished total kept) runs)
-    → AreGatheredOf query total kept (messages runs query of.parts)
-gathered {query} {total} {kept} {runs} of =
-    gathered_by runs query of.parts of.cut total kept (link_of query of.parts) of.pieces of.some of.may of.is.1 of.is.2
+module _ {query : Meaning} {runs : List (List ℕ)} where
+  -- no length is wrong: there are messages of which this was found, and what answers to them answers to the file
+  pub finished : {total : TotalView} {kept : List DirectoryRow} → IsOutcomeOf query (Finished total kept) runs
+      → (messages : List Placed) × AreGatheredOf query total kept messages
+      × ((told : Result (List ℕ) DayFault) → IsAnswerToMessages messages query told → IsAnswer (concat runs) query told)
+  finished {total} {kept} of =
+      let (first, inputs, scan, linked, found) = of.is in
+      let (right, next) = next_of _ (subst (λ (s : ScanTotalView). IsLinkedTo (link_of query of.parts) s (Next inputs kept)) scan.is linked) in
+      let (buckets, names) = next_is query.as_of of.parts (numbered 0 0 runs) of.some next in
+      let n = of.parts * next.pieces in (
+        messages_of runs query n,
+        gathered_by runs query n (are_runs scan) total kept (mul-lt 0 0 of.parts next.pieces of.some next.some) (found ∙ ap total_found buckets) names,
+        λ told. answered_by runs query n (are_runs scan) told (same_wrong query.as_of n of.parts runs ∙ right),
+      )
+
+  -- this length is wrong
+  pub stopped : {stop : WrongLength} → IsOutcomeOf query (Stopped stop) runs → (told : Result (List ℕ) DayFault) → told ≡ Err (wrong_fault stop)
+      → IsAnswer (concat runs) query told
+  stopped {stop} of told said =
+      let (first, scan, linked) = of.is in
+      halted_by runs query of.parts (are_runs scan) stop told
+      (halt_of _ _ _ (subst (λ (s : ScanTotalView). IsLinkedTo (link_of query of.parts) s (Halt stop)) scan.is linked)) said

@@ -1,5 +1,6 @@
 -- What the blocks of a source give is what the scans of a cut of its bytes do.
-use Rattle.std.proofs.Common.{◌≡◌, ℕ, ◌<◌, List, Option, arith, refl, subst}
+use Rattle.std.proofs.Common.{◌≡◌, ℕ, ◌<◌, List, Option, Result, Ok, Err, arith, refl, subst}
+use Rattle.std.specs.List.{concat}
 use Rattle.row_types.specs.declared.directory.DirectoryRow.{DirectoryRow}
 use Rattle.meaning.specs.Meaning.{Meaning}
 use Rattle.pipelines.specs.Outcomes.{IsOutcome}
@@ -7,57 +8,54 @@ use Rattle.pipelines.specs.declared.outcome.Outcome.{Outcome}
 use Rattle.pipelines.specs.declared.outcome.Outcome.TheVariants.{Finished, Stopped}
 use Rattle.links.specs.Totals.{IsTotal}
 use Rattle.scanning.specs.Scans.{AreOfOneCut, ScanTotalView, inputs_of, total_of}
-use Rattle.scanning.specs.declared.wrong.WrongLength.{WrongLength as FoundWrong}
+use Rattle.scanning.specs.declared.wrong.WrongLength.{WrongLength}
 use Rattle.buckets.specs.Buckets.{total_found}
 use Rattle.buckets.specs.FoundRows.{TotalView}
 use Rattle.planning.specs.Planned.{LinkView}
 use Rattle.block_scan.specs.Attempts.{AreAttemptsOf, AreOf, AttemptView, BlockView, blocks_of}
-use Rattle.block_scan.specs.Blocks.{IsBlocksFault, of_blocks}
+use Rattle.block_scan.specs.Blocks.{GaveWhole, IsBlocksFault}
 use Rattle.block_scan.specs.Pieces.{Asked, IsAskable, IsChained, IsScannedWhole}
 use Rattle.streaming.specs.declared.fault.SourceFault.{SourceFault}
 use Rattle.block_scan.proofs.BlocksAndAttempts.{attempts_of, blocks_are}
-use Rattle.runs.specs.FirstPipeline.{AreRuns, IsOfAll, IsOutcomeOf, link_of}
-use Rattle.runs.specs.LinkedBlocks.{LinksAttempts}
-use Rattle.runs.specs.declared.calls.block_link.BlocksStop.{BlocksStop}
-use Rattle.runs.specs.declared.calls.block_link.BlocksStop.TheVariants.{Refused, WrongLength}
-use Rattle.runs.proofs.Answered.{IsGiven, Pair, given_of}
+use Rattle.runs.specs.Steps.{IsOutcomeOf, IsScanOf, LinksAttempts}
+use Rattle.runs.proofs.Answered.{IsGiven, Pair, given_of, link_of}
 
--- the inputs of a cut's runs are of one cut
-pub one_cut : {runs : List (List ℕ)} (as_of : Option ℕ) (parts : ℕ) → AreRuns runs → 0 < parts → AreOfOneCut (inputs_of as_of parts runs)
-one_cut {runs} as_of parts cut some = record {
-  first = 0;
-  start = 0;
-  runs = runs;
-  each = cut.each;
-  within = omega (arith, cut.within);
-  as_of = as_of;
-  parts = parts;
-  some = some;
-  are = refl;
-}
+-- the total of the scans of a file is that of one cut
+pub of_cut : {as_of : Option ℕ} {parts : ℕ} {runs : List (List ℕ)} {total : ScanTotalView} → 0 < parts → IsScanOf 0 0 as_of parts runs total
+    → IsTotal (λ inputs t. t ≡ total_of inputs) AreOfOneCut total
+of_cut {as_of} {parts} {runs} some of = (
+  inputs_of as_of parts runs,
+  record { first = 0; start = 0; runs = runs; each = of.each; within = of.within; as_of = as_of; parts = parts; some = some; are = refl },
+  of.is,
+)
 
 module _ {S : Type 0} (GaveAt : S → ℕ → List ℕ → Type 0) (EndsAt : S → ℕ → Type 0) (asked : Asked S) (asks : IsAskable asked.request) where
-  are_runs : {at : ℕ} {total : ScanTotalView} (chained : IsChained GaveAt EndsAt asked.source asked.request at total) → AreRuns chained.runs
-  are_runs chained =
-      record { each = chained.each; bytes = chained.bytes; within = omega (arith, chained.at_is, chained.within, asks.limit) }
+  scanned : {at : ℕ} {total : ScanTotalView} (chained : IsChained GaveAt EndsAt asked.source asked.request at total)
+      → IsScanOf 0 0 asked.request.as_of asked.request.parts chained.runs total
+  scanned chained =
+      record { each = chained.each; bytes = chained.bytes; within = omega (arith, chained.at_is, chained.within, asks.limit); is = chained.are }
 
   -- a total of all that a source gave is that of the scans of some cut
   pub of_one_cut : {total : ScanTotalView} → IsScannedWhole GaveAt EndsAt asked.source asked.request total
       → IsTotal (λ inputs t. t ≡ total_of inputs) AreOfOneCut total
-  of_one_cut (at, chained, ended) = (_, one_cut asked.request.as_of asked.request.parts (are_runs chained) asks.some, chained.are)
+  of_one_cut (at, chained, ended) = of_cut asks.some (scanned chained)
 
   module _ (FailsAt : S → ℕ → Type 0) (query : Meaning) (same : asked.request.as_of ≡ query.as_of) where
+    -- this comes of all that the source gave
+    abbrev IsOfAll : Pair → Type 0
+    IsOfAll r = (runs : List (List ℕ)) × GaveWhole GaveAt EndsAt asked.request.limit asked.source (concat runs) × IsOutcomeOf query r runs
+
     -- what comes of a total of all that the source gave
     whole : {total : ScanTotalView} (r : Pair) → IsScannedWhole GaveAt EndsAt asked.source asked.request total
-        → IsGiven (link_of query asked.request.parts) total r → IsOfAll (of_blocks GaveAt EndsAt FailsAt asked.request.limit asked.source) (IsOutcomeOf query r)
-    whole r (at, chained, ended) given = (
+        → IsGiven (λ (first : ScanTotalView). first ≡ total) (link_of query asked.request.parts) r → IsOfAll r
+    whole {total} r (at, chained, ended) given = (
       chained.runs,
       record {
         gave = chained.gave;
         ended = subst (EndsAt asked.source) chained.at_is ended;
         within = omega (arith, chained.at_is, chained.within);
       },
-      given_of asks.some (are_runs chained) (rw (← same) chained.are) refl given,
+      given_of r given refl asks.some (λ first is. rw (is, ← same) (scanned chained)),
     )
 
     are : (count : ℕ) → 0 < count → {attempts : List (AttemptView S)} → AreOf (blocks_of asked.source asked.request count) attempts
@@ -65,27 +63,26 @@ module _ {S : Type 0} (GaveAt : S → ℕ → List ℕ → Type 0) (EndsAt : S �
     are count some of = attempts_of _ _ (blocks_are asked.source asked.request count asks some) of
 
     -- what both pipelines give over all blocks
-    module _ (count : ℕ) (some : 0 < count) {blocks : List (BlockView S)} {link : LinkView} {outcome : Outcome TotalView (List DirectoryRow) BlocksStop}
+    module _ (count : ℕ) (some : 0 < count) {blocks : List (BlockView S)} {link : LinkView}
+        {outcome : Outcome TotalView (List DirectoryRow) (Result WrongLength SourceFault)}
         (all : blocks ≡ blocks_of asked.source asked.request count) (to : link ≡ link_of query asked.request.parts)
         (given : IsOutcome (AreOf blocks) (LinksAttempts GaveAt EndsAt FailsAt link) (λ inputs total. total ≡ total_found inputs) outcome) where
-      by : {o : Outcome TotalView (List DirectoryRow) BlocksStop} → outcome ≡ o
+      by : {o : Outcome TotalView (List DirectoryRow) (Result WrongLength SourceFault)} → outcome ≡ o
           → IsOutcome (AreOf (blocks_of asked.source asked.request count)) (LinksAttempts GaveAt EndsAt FailsAt (link_of query asked.request.parts))
           (λ inputs total. total ≡ total_found inputs) o
       by e = rw (← e, ← all, ← to) given
 
-      pub finished : {total : TotalView} {kept : List DirectoryRow} → outcome ≡ Finished total kept
-          → IsOfAll (of_blocks GaveAt EndsAt FailsAt asked.request.limit asked.source) (IsOutcomeOf query (Finished total kept))
+      pub finished : {total : TotalView} {kept : List DirectoryRow} → outcome ≡ Finished total kept → IsOfAll (Finished total kept)
       finished e =
           let (first, inputs, of, links, found) = by e in
           let (total, scanned, is) = links asked (are count some of) in
           whole (Finished _ _) scanned (total, inputs, refl, is, found)
 
-      pub stopped : {wrong : FoundWrong} → outcome ≡ Stopped (WrongLength wrong)
-          → IsOfAll (of_blocks GaveAt EndsAt FailsAt asked.request.limit asked.source) (IsOutcomeOf query (Stopped wrong))
+      pub stopped : {wrong : WrongLength} → outcome ≡ Stopped (Ok wrong) → IsOfAll (Stopped wrong)
       stopped e =
           let (first, of, links) = by e in
           let (total, scanned, is) = links asked (are count some of) in
           whole (Stopped _) scanned (total, refl, is)
 
-      pub refused : {fault : SourceFault} → outcome ≡ Stopped (Refused fault) → IsBlocksFault GaveAt EndsAt FailsAt asked.source asked.request.limit fault
+      pub refused : {fault : SourceFault} → outcome ≡ Stopped (Err fault) → IsBlocksFault GaveAt EndsAt FailsAt asked.source asked.request.limit fault
       refused e = let (first, of, links) = by e in links asked (are count some of)

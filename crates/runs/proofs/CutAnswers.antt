@@ -1,11 +1,13 @@
 -- What both pipelines find over a cut makes the answer to the query over its file.
-use Rattle.std.proofs.Common.{◌≡◌, ℕ, ◌<◌, ◌*◌, ◌%◌, List, [], ◌∷◌, Option, Some, None, option_map, Result, Err, map, flat_map, refl, sym, ap, ◌∙◌, subst}
+use Rattle.std.proofs.Common.{◌≡◌, ℕ, ◌<◌, ◌≤◌, All, length, List, [], ◌∷◌, Option, Some, None, option_map, Result, Err, map, flat_map}
+use Rattle.std.proofs.Common.{refl, sym, ap, ◌∙◌, subst}
 use Rattle.std.specs.List.{AllByRecursion, concat}
 use Rattle.std.proofs.lemmas.List.Elements.{All-append, All-nil, recursion_from_All}
-use Rattle.std.proofs.lemmas.Nat.{mod_below, mul-lt}
 use Rattle.lists.specs.Least.{numbers_below}
+use Rattle.lists.specs.declared.limits.TheConstants.{LONGEST_FILE}
 use Rattle.row_types.specs.declared.directory.DirectoryRow.{DirectoryRow}
-use Rattle.day_file.specs.Cuts.{AreBytes, MorselView}
+use Rattle.lists.specs.Among.{AreBytes}
+use Rattle.day_file.specs.Cuts.{IsRun, MorselView}
 use Rattle.day_file.specs.Frames.{PlacedBody, StandsFor}
 use Rattle.day_file.specs.Kept.{numbered}
 use Rattle.day_file.specs.Walk.{frames_of}
@@ -17,41 +19,45 @@ use Rattle.answers.specs.Answers.{IsAnswer, IsAnswerToMessages}
 use Rattle.day_rows.specs.DayRows.{rows_of}
 use Rattle.day_rows.specs.Messages.{Placed, break_numbers, directory_rows, first_wrong, messages_of}
 use Rattle.outcomes.specs.declared.day_fault.DayFault.{DayFault}
+use Rattle.outcomes.specs.declared.day_fault.DayFault.TheVariants as fault
 use Rattle.answers.proofs.AnswerOfSteps.{messages_answer, wrong_length_answers}
 use Rattle.day_rows.proofs.CountedMessages.{counted_by_place}
 use Rattle.day_rows.proofs.FewTrades.{few_trades}
 use Rattle.day_rows.proofs.RowsByPlace.{messages_by_place}
 use Rattle.day_rows.proofs.StampedMessages.{stamped_rows}
-use Rattle.morsel_rows.specs.Partitions.{PartitionView, class_of, joined_partitions, partition_at, partition_of}
-use Rattle.morsel_rows.proofs.ClassesOfRows.{class_of_partition}
+use Rattle.morsel_rows.specs.Partitions.{PartitionView, joined_partitions, partition_at, partition_of}
 use Rattle.scanning.specs.Scans.{ScanTotalView, total_of}
 use Rattle.scanning.specs.declared.wrong.WrongLength.{WrongLength}
-use Rattle.buckets.specs.BucketRows.{BucketView, cut_to}
+use Rattle.buckets.specs.BucketRows.{BucketView}
 use Rattle.buckets.specs.Buckets.{found, total_found}
 use Rattle.buckets.specs.FoundRows.{FoundView, TotalView, all_found, found_of}
 use Rattle.buckets.specs.Plans.{rising, selection_of}
 use Rattle.joining.specs.Gathered.{AreGatheredOf, found_in}
 use Rattle.joining.proofs.AnswerOfBuckets.{map_below}
-use Rattle.planning.specs.Planned.{LinkView, MayDivide, all_directory, planned_bucket, planned_buckets}
+use Rattle.planning.specs.Planned.{all_directory, planned_bucket, planned_buckets}
 use Rattle.planning.proofs.MorselsOfCuts.{breaks_are, counted_in, directory_is, input_of, partition_is, told_of, wrong_is}
-use Rattle.runs.specs.FirstPipeline.{AreRuns, wrong_fault}
+
+-- the runs of a cut: whole frames, bytes, no more than a file may have
+pub record AreRuns (runs : List (List ℕ)) : Type 0 where
+  pub each : All IsRun runs
+  pub bytes : All AreBytes runs
+  pub within : length (concat runs) ≤ LONGEST_FILE
+
+-- the fault of a wrong length
+abbrev pub wrong_fault : WrongLength → DayFault
+wrong_fault wrong = fault.WrongLength wrong.place wrong.fault.kind wrong.fault.length wrong.fault.wanted
 
 -- the bytes of runs joined
 bytes_joined : (runs : List (List ℕ)) → AllByRecursion AreBytes runs → AreBytes (concat runs)
 bytes_joined [] all = All-nil _
 bytes_joined (run ∷ runs) all = All-append (λ byte. byte < 256) run (concat runs) all.0 (bytes_joined runs all.1)
 
--- how many buckets there are of n partitions
-abbrev tasks_of : ℕ → Option ℕ → ℕ
-tasks_of n None = n
-tasks_of n (Some pieces) = n * pieces
-
 maps : (make : ℕ → BucketView) (bs : List ℕ) → map found (map make bs) ≡ map (λ b. found (make b)) bs
 maps make [] = refl
 maps make (b ∷ bs) = ap (λ l. found (make b) ∷ l) (maps make bs)
 
 module _ (runs : List (List ℕ)) (query : Meaning) (parts : ℕ) where
-  abbrev morsels : List MorselView
+  abbrev pub morsels : List MorselView
   morsels = numbered 0 0 runs
 
   abbrev pub frames : List PlacedBody
@@ -64,35 +70,28 @@ module _ (runs : List (List ℕ)) (query : Meaning) (parts : ℕ) where
   abbrev pub scan : ScanTotalView
   scan = total_of (map (input_of query.as_of parts) morsels)
 
-  -- the inputs of the second, if partitions are divided like this
-  abbrev pub buckets : Option ℕ → List BucketView
-  buckets pieces = planned_buckets query scan.morsels parts pieces
+  -- the inputs of the second
+  abbrev pub buckets : List BucketView
+  buckets = planned_buckets query scan.morsels parts
 
   -- what is found in some rows
   abbrev found_of_rows : PartitionView → FoundView
   found_of_rows = found_of query.what (rising (break_numbers messages)) (admits (selection_of query (directory_rows messages)))
 
   -- what is found in a bucket hangs on its rows alone
-  of_rows : (partition number : ℕ) (modulus : Option ℕ) {rows : PartitionView}
-      → cut_to modulus number (joined_partitions (map (partition_at partition) scan.morsels)) ≡ rows
-      → found (planned_bucket query scan.morsels partition modulus number) ≡ found_of_rows rows
-  of_rows partition number modulus are =
+  of_rows : (number : ℕ) {rows : PartitionView} → joined_partitions (map (partition_at number) scan.morsels) ≡ rows
+      → found (planned_bucket query scan.morsels number) ≡ found_of_rows rows
+  of_rows number are =
       let breaks = ap rising (breaks_are query.as_of parts morsels) in
       let selection = ap (selection_of query) (directory_is query.as_of parts morsels) in
       λ i. found_of query.what (breaks i) (admits (selection i)) (are i)
 
-  -- all buckets have found what those of the messages have, whether partitions are divided or not
-  linked_total : 0 < parts → (pieces : Option ℕ) → total_found (buckets pieces) ≡ found_in (tasks_of parts pieces) query messages
-  linked_total some None =
-      ap all_found (maps (λ b. planned_bucket query scan.morsels b None b) (numbers_below parts)
-      ∙ map_below parts (λ b. found (planned_bucket query scan.morsels b None b)) (λ b. found_of_rows (partition_of parts (rows_of messages) b))
-      (λ b below. of_rows b b None (partition_is query.as_of parts b below morsels)))
-  linked_total some (Some pieces) =
-      let m = parts * pieces in
-      ap all_found (maps (λ b. planned_bucket query scan.morsels (b % parts) (Some m) b) (numbers_below m)
-      ∙ map_below m (λ b. found (planned_bucket query scan.morsels (b % parts) (Some m) b)) (λ b. found_of_rows (partition_of m (rows_of messages) b))
-      (λ b below. of_rows (b % parts) b (Some m) (ap (λ rows. class_of m rows b) (partition_is query.as_of parts (b % parts) (mod_below b parts some) morsels)
-      ∙ class_of_partition parts pieces (rows_of messages) b)))
+  -- all buckets have found what those of the messages have
+  linked_total : total_found buckets ≡ found_in parts query messages
+  linked_total =
+      ap all_found (maps (planned_bucket query scan.morsels) (numbers_below parts)
+      ∙ map_below parts (λ b. found (planned_bucket query scan.morsels b)) (λ b. found_of_rows (partition_of parts (rows_of messages) b))
+      (λ b below. of_rows b (partition_is query.as_of parts b below morsels)))
 
   pub right_frames : scan.wrong ≡ None → first_wrong frames ≡ None
   right_frames e = go (first_wrong frames) (sym (wrong_is query.as_of parts morsels) ∙ e)
@@ -114,21 +113,17 @@ module _ (runs : List (List ℕ)) (query : Meaning) (parts : ℕ) where
     stands = frames_of_cut runs are.each
 
     -- what all buckets found is what those of the messages have, and the names are those of their directory
-    pub gathered_by : (total : TotalView) (kept : List DirectoryRow) (link : LinkView) (pieces : Option ℕ) → 0 < parts → MayDivide link pieces
-        → total ≡ total_found (buckets pieces) → kept ≡ all_directory scan.morsels → AreGatheredOf query total kept messages
-    gathered_by total kept link pieces some may found_is names = record {
-      parts = tasks_of parts pieces;
-      some = some_tasks pieces may;
+    pub gathered_by : (total : TotalView) (kept : List DirectoryRow) → 0 < parts
+        → total ≡ total_found buckets → kept ≡ all_directory scan.morsels → AreGatheredOf query total kept messages
+    gathered_by total kept some found_is names = record {
+      parts = parts;
+      some = some;
       by_place = counted_by_place query.as_of (messages_of frames) (messages_by_place frames (places_rise 0 frames stands.places));
       few = few_trades query.as_of (concat runs) frames stands are.within;
       stamped = stamped_rows query.as_of (concat runs) frames (bytes_joined runs (recursion_from_All AreBytes runs are.bytes)) stands;
-      total_is = found_is ∙ linked_total some pieces;
+      total_is = found_is ∙ linked_total;
       names_are = names ∙ directory_is query.as_of parts morsels;
     }
-      where
-        some_tasks : (pieces : Option ℕ) → MayDivide link pieces → 0 < tasks_of parts pieces
-        some_tasks None may = some
-        some_tasks (Some pieces) may = mul-lt 0 0 parts pieces some may.1
 
     -- no length is wrong
     pub answered_by : (told : Result (List ℕ) DayFault) → scan.wrong ≡ None → IsAnswerToMessages messages query told → IsAnswer (concat runs) query told

@@ -1,32 +1,24 @@
 -- An answer over all that was read, once it is handed over, is what a run of its query promises.
 use Rattle.std.proofs.Common.{◌≡◌, ℕ, List, Result, Ok, Err, subst}
-use Rattle.answers.specs.Answers.{IsAnswer}
 use Rattle.outcomes.specs.declared.day_fault.DayFault.{DayFault}
 use Rattle.query.specs.Grammar.{Means}
 use Rattle.meaning.specs.Meaning.{Meaning}
 use Rattle.query.specs.Words.{words_of}
 use Rattle.streaming.specs.Readings.{Reading}
-use Rattle.runs.specs.Runs.{Answers, Ran}
-use Rattle.runs.specs.Sources.{IsAnswered, IsHandedOver}
+use Rattle.runs.specs.Runs.{Answers, IsAnswered, IsHandedOver, Ran}
 use Rattle.outcomes.specs.declared.run_fault.RunFault.{RunFault}
 use Rattle.outcomes.specs.declared.run_fault.RunFault.TheVariants as fault
 
-module _ {reading : Reading} {query : Meaning} (words : List ℕ) {answer : Result (List ℕ) DayFault} (means : Means (words_of words) query)
+module _ (reading : Reading) {query : Meaning} (words : List ℕ) {answer : Result (List ℕ) DayFault} (means : Means (words_of words) query)
     (answered : IsAnswered reading query answer) where
   told : {r : Result (List ℕ) DayFault} → answer ≡ r → Answers reading words r
-  told is = record {
-    query = query;
-    day = answered.day;
-    means = means;
-    read = answered.read;
-    answers = subst (IsAnswer answered.day query) is answered.answers;
-  }
+  told is = (query, means, subst (IsAnswered reading query) is answered)
 
   pub ran : {K : Type 0} (Took : K → K → List ℕ → Type 0) (HasFlushed : K → Type 0) (limit : ℕ) (before after : K) (outcome : Result (Unit {0}) RunFault)
-      → IsHandedOver Took HasFlushed before after answer outcome → Ran reading Took HasFlushed words limit before after outcome
-  ran Took HasFlushed limit before after (Ok done) w = record { text = w.text; answers = told w.is; took = w.took; flushed = w.flushed }
+      → IsHandedOver Took HasFlushed (λ r. answer ≡ r) before after outcome → Ran reading Took HasFlushed words limit before after outcome
+  ran Took HasFlushed limit before after (Ok done) (text, is, took, flushed) = (text, told is, took, flushed)
   ran Took HasFlushed limit before after (Err (fault.Day f)) w = (told w.0, w.1)
-  ran Took HasFlushed limit before after (Err (fault.WriteFailed written)) w = record { text = w.text; answers = told w.is; within = w.within; took = w.took }
+  ran Took HasFlushed limit before after (Err (fault.WriteFailed written)) (text, is, within, took) = (text, told is, within, took)
   ran Took HasFlushed limit before after (Err (fault.Query f)) w = absurd w
   ran Took HasFlushed limit before after (Err fault.ReadFailed) w = absurd w
   ran Took HasFlushed limit before after (Err (fault.TooLong most)) w = absurd w

@@ -10,7 +10,7 @@ use Rattle.runs.specs.Runs.{Answers}
 
 pub answers_of_one_day : (reading : Reading) → ((day more : List ℕ) → reading.all day → reading.all more → day ≡ more)
     → (words : List ℕ) (one other : Result (List ℕ) DayFault) → Answers reading words one → Answers reading words other → one ≡ other
-answers_of_one_day reading once words one other a b =
-    answers_are_one a.day a.query one other a.answers
-    (subst (λ day. IsAnswer day a.query other) (once b.day a.day b.read a.read)
-    (subst (λ query. IsAnswer b.day query other) (one_meaning (words_of words) b.query a.query b.means a.means) b.answers))
+answers_of_one_day reading once words one other (query, means, (day, read, is)) (query', means', (day', read', is')) =
+    answers_are_one day query one other is
+    (subst (λ d. IsAnswer d query other) (once day' day read' read)
+    (subst (λ q. IsAnswer day' q other) (one_meaning (words_of words) query' query means' means) is'))

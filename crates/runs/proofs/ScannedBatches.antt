@@ -4,14 +4,15 @@ use Rattle.std.proofs.Common.{refl, sym, ap₂, ◌∙◌, subst, arith, length-
 use Rattle.std.specs.List.{concat}
 use Rattle.std.proofs.lemmas.List.Elements.{All-append}
 use Rattle.lists.specs.declared.limits.TheConstants.{LONGEST_FILE}
-use Rattle.day_file.specs.Cuts.{AreBytes, IsCutBy, IsRun}
+use Rattle.lists.specs.Among.{AreBytes}
+use Rattle.day_file.specs.Cuts.{IsCutBy, IsRun}
 use Rattle.scanning.specs.Scans.{ScanTotalView, inputs_from, inputs_of, total_of, with_scans}
 use Rattle.scanning.proofs.TotalOfScans.{total_joined}
 use Rattle.streaming.specs.Batches.{IsNextBatch, IsReadTo, ReaderView, read_length}
 use Rattle.streaming.specs.Readings.{GaveAll, GaveSome, of_stream}
 use Rattle.streaming.specs.declared.batch.Batch.{Batch}
 use Rattle.streaming.proofs.JoinedBatches.{read_length_is}
-use Rattle.runs.specs.FirstPipeline.{IsOfAll, IsScanOf, IsScanOfBatch}
+use Rattle.runs.specs.Steps.{IsScanOf}
 
 module _ {S : Type 0} (Gave : S → S → List ℕ → Type 0) (HasEnded : S → Type 0) where
   -- the batch comes after these runs, and the source was read to its end
@@ -42,10 +43,10 @@ pub of_err : {A E : Type 0} (P : E → Type 0) (r : Result A E) (x : E) → r �
 of_err P r x is h = subst (λ w. IfErr w P) is h
 
 -- the total of some runs with that of the batch after them
-with_batch : {as_of : Option ℕ} {parts : ℕ} (runs : List (List ℕ)) {batch : Batch} {total more : ScanTotalView} → batch.first ≡ length runs
-    → batch.start ≡ length (concat runs) → total ≡ total_of (inputs_of as_of parts runs) → IsScanOfBatch as_of parts batch more
+with_batch : {as_of : Option ℕ} {parts : ℕ} (runs : List (List ℕ)) (batch : Batch) {total more : ScanTotalView} → batch.first ≡ length runs
+    → batch.start ≡ length (concat runs) → total ≡ total_of (inputs_of as_of parts runs) → IsScanOf batch.first batch.start as_of parts batch.cut more
     → with_scans total more ≡ total_of (inputs_of as_of parts (runs ++ batch.cut))
-with_batch {as_of} {parts} runs {batch} number start is scan =
+with_batch {as_of} {parts} runs batch number start is scan =
     ap₂ with_scans is (scan.is ∙ ap₂ (λ n s. total_of (inputs_from n s as_of parts batch.cut)) number start)
     ∙ sym (total_joined as_of parts runs batch.cut)
 
@@ -87,32 +88,30 @@ module _ {S : Type 0} {Gave : S → S → List ℕ → Type 0} {HasEnded : S →
     -- a batch is scanned, and the next one was read
     pub went_on : {was now : S} {old new : ReaderView} {total more : ScanTotalView} {batch next : Batch}
         → IsScannedTo Gave HasEnded limit target as_of parts before was old total batch → batch.is_last ≡ false
-        → IsScanOfBatch as_of parts batch more → (new.limit ≡ old.limit) × (new.target ≡ old.target)
+        → IsScanOf batch.first batch.start as_of parts batch.cut more → (new.limit ≡ old.limit) × (new.target ≡ old.target)
         → IsNextBatch Gave HasEnded was now old new next
         → IsScannedTo Gave HasEnded limit target as_of parts before now new (with_scans total more) next
     went_on {batch = batch} to is_not_last scan same read = record {
       runs = to.runs ++ batch.cut;
       each = All-append IsRun to.runs batch.cut to.each scan.each;
       bytes = All-append AreBytes to.runs batch.cut to.bytes scan.bytes;
-      is = with_batch to.runs to.ahead.number to.ahead.start to.is scan;
+      is = with_batch to.runs batch to.ahead.number to.ahead.start to.is scan;
       ahead = next_ahead to.ahead is_not_last same read;
     }
 
     -- the last batch is scanned
     pub ended : {now : S} {reader : ReaderView} {total more : ScanTotalView} {batch : Batch} → limit ≤ LONGEST_FILE
         → IsScannedTo Gave HasEnded limit target as_of parts before now reader total batch → batch.is_last ≡ true
-        → IsScanOfBatch as_of parts batch more
-        → IsOfAll (of_stream Gave HasEnded limit target before now) (IsScanOf as_of parts (with_scans total more))
+        → IsScanOf batch.first batch.start as_of parts batch.cut more
+        → (runs : List (List ℕ)) × (of_stream Gave HasEnded limit target before now).all (concat runs) × IsScanOf 0 0 as_of parts runs (with_scans total more)
     ended {batch = batch} most to is_last scan =
         let all = to.ahead.last is_last in (
           to.runs ++ batch.cut,
           (all.0, inr (_, all.1, omega (arith, length-append to.runs batch.cut, to.ahead.number, batch.few))),
           record {
-            cut = record {
-              each = All-append IsRun to.runs batch.cut to.each scan.each;
-              bytes = All-append AreBytes to.runs batch.cut to.bytes scan.bytes;
-              within = omega (arith, all.0.within, most);
-            };
-            is = with_batch to.runs to.ahead.number to.ahead.start to.is scan;
+            each = All-append IsRun to.runs batch.cut to.each scan.each;
+            bytes = All-append AreBytes to.runs batch.cut to.bytes scan.bytes;
+            within = omega (arith, all.0.within, most);
+            is = with_batch to.runs batch to.ahead.number to.ahead.start to.is scan;
           },
         )

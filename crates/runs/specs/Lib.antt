@@ -1,4 +1,2 @@
 pub mod Runs
-pub mod FirstPipeline
-pub mod LinkedBlocks
-pub mod Sources
+pub mod Steps

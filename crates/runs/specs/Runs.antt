@@ -1,12 +1,11 @@
 -- What a run reads of its source, answers, and hands to its sink.
 -- To be believed.
 use Rattle.std.specs.Prelude.{◌≡◌, ℕ, ◌≤◌, ◌⊎◌, Bool, true, false, List, length, take, Some, Result, Ok, Err}
-use Rattle.answers.specs.Answers.{IsAnswer}
+use Rattle.answers.specs.Answers.{DayFault, IsAnswer}
 use Rattle.query.specs.Faults.{first_query_fault}
 use Rattle.query.specs.Grammar.{Means}
 use Rattle.meaning.specs.Meaning.{Meaning}
 use Rattle.query.specs.Words.{words_of}
-use Rattle.outcomes.specs.declared.day_fault.DayFault.{DayFault}
 use Rattle.streaming.specs.Readings.{Reading}
 use Rattle.outcomes.specs.declared.run_fault.RunFault.{RunFault}
 use Rattle.outcomes.specs.declared.run_fault.RunFault.TheVariants as fault
@@ -15,51 +14,44 @@ use Rattle.outcomes.specs.declared.run_fault.RunFault.TheVariants as fault
 abbrev pub IsQuery : List ℕ → Type 0
 IsQuery words = (query : Meaning) × Means (words_of words) query
 
--- the words mean a query, all that the source had to give was read, and this is the answer to the query over it
-pub record Answers (reading : Reading) (words : List ℕ) (answer : Result (List ℕ) DayFault) : Type 0 where
-  pub query : Meaning
-  pub day : List ℕ
-  pub means : Means (words_of words) query
-  pub read : reading.all day
-  pub answers : IsAnswer day query answer
+-- all that the source had to give was read, and this is the answer to the query over it
+abbrev pub IsAnswered : Reading → Meaning → Result (List ℕ) DayFault → Type 0
+IsAnswered reading query answer = (day : List ℕ) × reading.all day × IsAnswer day query answer
+
+-- the words mean a query, and this is the answer to it over all that the source had to give
+abbrev pub Answers : Reading → List ℕ → Result (List ℕ) DayFault → Type 0
+Answers reading words answer = (query : Meaning) × Means (words_of words) query × IsAnswered reading query answer
 
 -- K is the states of a sink. `Took` says which bytes it took from one state to a later one, and `HasFlushed` that it
--- has passed on what it took. `reading` is what is known of the source.
+-- has passed on what it took. `before` and `after` are its states then.
+module _ {K : Type 0} (Took : K → K → List ℕ → Type 0) (HasFlushed : K → Type 0) where
+  -- what comes of the answer that is handed to a sink. If it is a text, the sink took all of it and passed it on; or
+  -- the sink failed, and took its first `written` bytes: perhaps none, perhaps all. If it is a fault of the day, that
+  -- is reported, and the sink was left alone.
+  abbrev pub IsHandedOver : (Result (List ℕ) DayFault → Type 0) → K → K → Result (Unit {0}) RunFault → Type 0
+  IsHandedOver IsTheAnswer before after (Ok done) =
+      (text : List ℕ) × IsTheAnswer (Ok text) × Took before after text × HasFlushed after
+  IsHandedOver IsTheAnswer before after (Err (fault.WriteFailed written)) =
+      (text : List ℕ) × IsTheAnswer (Ok text) × (written ≤ length text) × Took before after (take written text)
+  IsHandedOver IsTheAnswer before after (Err (fault.Day f)) = IsTheAnswer (Err f) × (after ≡ before)
+  IsHandedOver IsTheAnswer before after (Err _) = ⊥
+
+-- `reading` is what is known of the source
 module _ {K : Type 0} (reading : Reading) (Took : K → K → List ℕ → Type 0) (HasFlushed : K → Type 0) where
-  -- the answer is a text, and the sink took all of it and passed it on
-  pub record WroteAll (words : List ℕ) (sink_before sink_after : K) : Type 0 where
-    pub text : List ℕ
-    pub answers : Answers reading words (Ok text)
-    pub took : Took sink_before sink_after text
-    pub flushed : HasFlushed sink_after
-
-  -- the answer is a text, and the sink took its first `written` bytes: perhaps none, perhaps all
-  pub record Wrote (words : List ℕ) (sink_before sink_after : K) (written : ℕ) : Type 0 where
-    pub text : List ℕ
-    pub answers : Answers reading words (Ok text)
-    pub within : written ≤ length text
-    pub took : Took sink_before sink_after (take written text)
-
-  -- what each outcome of a run says: the whole text was written; or what the refusal says holds, and the sink was
-  -- left alone; or the sink failed, and it took the first `written` bytes of the text. `OutOfMemory` says nothing of
-  -- memory: only that the source was untouched or the words are a query, and what is known of a source that was read
-  -- in part. Over `of_blocks`, whose `untouched` and `some` say nothing, the cases `Query` and `OutOfMemory` say less.
+  -- what each outcome of a run says: the answer was handed over; or what the refusal says holds, and the sink was left
+  -- alone. `OutOfMemory` says nothing of memory: only that the source was untouched or the words are a query, and what
+  -- is known of a source that was read in part. Over `of_blocks`, whose `untouched` and `some` say nothing, the cases
+  -- `Query` and `OutOfMemory` say less.
   abbrev pub Ran : List ℕ → ℕ → K → K → Result (Unit {0}) RunFault → Type 0
-  Ran words limit sink_before sink_after (Ok done) = WroteAll words sink_before sink_after
-  Ran words limit sink_before sink_after (Err (fault.Query f)) =
-      (first_query_fault (words_of words) ≡ Some f) × reading.untouched × (sink_after ≡ sink_before)
-  Ran words limit sink_before sink_after (Err fault.ReadFailed) =
-      IsQuery words × reading.failed × (sink_after ≡ sink_before)
-  Ran words limit sink_before sink_after (Err (fault.TooLong most)) =
-      IsQuery words × reading.longer × (most ≡ limit) × (sink_after ≡ sink_before)
-  Ran words limit sink_before sink_after (Err fault.TooManyMorsels) =
-      IsQuery words × reading.too_many × (sink_after ≡ sink_before)
-  Ran words limit sink_before sink_after (Err (fault.Day f)) =
-      Answers reading words (Err f) × (sink_after ≡ sink_before)
-  Ran words limit sink_before sink_after (Err (fault.WriteFailed written)) =
-      Wrote words sink_before sink_after written
-  Ran words limit sink_before sink_after (Err fault.OutOfMemory) =
-      (reading.untouched ⊎ IsQuery words) × reading.some × (sink_after ≡ sink_before)
+  Ran words limit before after (Err (fault.Query f)) =
+      (first_query_fault (words_of words) ≡ Some f) × reading.untouched × (after ≡ before)
+  Ran words limit before after (Err fault.ReadFailed) = IsQuery words × reading.failed × (after ≡ before)
+  Ran words limit before after (Err (fault.TooLong most)) =
+      IsQuery words × reading.longer × (most ≡ limit) × (after ≡ before)
+  Ran words limit before after (Err fault.TooManyMorsels) = IsQuery words × reading.too_many × (after ≡ before)
+  Ran words limit before after (Err fault.OutOfMemory) =
+      (reading.untouched ⊎ IsQuery words) × reading.some × (after ≡ before)
+  Ran words limit before after handed = IsHandedOver Took HasFlushed (Answers reading words) before after handed
 
 -- the run's sink failed
 abbrev pub is_write_failed : {T : Type 0} → Result T RunFault → Bool

@@ -7,7 +7,6 @@ pub mod laws;
 pub use answers::{Answer, DayFault, Text};
 pub use block_scan::{BlockSource, Division, FileBlocks, ReadsAt};
 pub use calls::answer::{answer, told_of};
-pub use calls::block_link::{BlockLink, BlocksStop};
 pub use calls::run::run;
 pub use calls::run_blocks::{answer_blocks, run_blocks};
 pub use day_file::{Counted, Cut, DayFile, DeviceFailed, LONGEST_FILE, Source};

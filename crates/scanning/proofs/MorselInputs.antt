@@ -1,9 +1,8 @@
 -- The inputs of the scans of morsels that follow each other, morsel after morsel.
 use Rattle.std.proofs.Common.{◌≡◌, ℕ, zero, suc, ◌+◌, ◌≤◌, List, [], ◌∷◌, ◌++◌, Option, Some, length, map, slice_get, take, refl, sym, ap, ◌∙◌, arith}
 use Rattle.std.specs.List.{concat}
-use Rattle.std.proofs.lemmas.List.{length-append, length-take-le, take_all, take_more}
+use Rattle.std.proofs.lemmas.List.{length-append, length-take-le, take_all, take_more, map_push}
 use Rattle.std.proofs.lemmas.Option.{get_or_from_slice_get, slice_get_within}
-use Rattle.lists.proofs.Lists.{map_more}
 use Rattle.day_file.specs.Cuts.{MorselView, start_of}
 use Rattle.day_file.specs.Kept.{numbered}
 use Rattle.day_file.proofs.Kept.{numbered-last}
@@ -30,7 +29,7 @@ inputs_more first start as_of parts runs i run at =
     let more = take_more runs i run within ∙ ap (λ r. take i runs ++ r ∷ []) (get_or_from_slice_get runs i run run at) in
     let n : first + i ≡ first + length (take i runs) = omega (arith, length-take-le i runs (omega arith)) in
     (λ k. inputs_from first start as_of parts (take i runs) ++ input (record { number = n k; start = start + start_of runs i; bytes = run }) ∷ [])
-    ∙ sym (map_more input (numbered first start (take i runs)) _) ∙ ap (map input) (sym (numbered-last first start (take i runs) run))
+    ∙ sym (map_push input (numbered first start (take i runs)) _) ∙ ap (map input) (sym (numbered-last first start (take i runs) run))
     ∙ ap (inputs_from first start as_of parts) (sym more)
 
-pub ruleset making = (run_within, map_more, inputs_more, take_all)
+pub ruleset making = (run_within, map_push, inputs_more, take_all)

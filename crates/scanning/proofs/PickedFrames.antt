@@ -1,6 +1,6 @@
 -- Frames that are read are picked, and what the others give is nothing.
 use Rattle.std.proofs.Common.{◌≡◌, ℕ, ◌+◌, ◌<◌, ◌≤◌, Bool, true, false, cond, is_some, List, [], ◌∷◌, ◌++◌, Option, None, filter, filter_map, length}
-use Rattle.std.proofs.Common.{zero, suc, take, drop, set, get_or, Result, Ok, Err, OnErr, refl, sym, ap, ap₂, ◌∙◌, subst, arith, inl, inr}
+use Rattle.std.proofs.Common.{zero, suc, map, ◌⊎◌, take, drop, set, get_or, Result, Ok, Err, OnErr, refl, sym, ap, ap₂, ◌∙◌, subst, arith, inl, inr}
 use mir.Val.{bool_byte}
 use Rattle.std.proofs.lemmas.List.{append-nil, append_assoc, length-append, length-set, map-append, take-append-drop, take-set, take_at, take_more, take_more_set}
 use Rattle.std.proofs.lemmas.List.Elements.{filter-append}
@@ -16,12 +16,28 @@ use Rattle.day_rows.specs.Messages.{counted, placed_at}
 use Rattle.lists.specs.Least.{least_by}
 use Rattle.lists.specs.declared.limits.TheConstants.{LONGEST_FILE, MOST_PARTITIONS}
 use Rattle.morsel_rows.specs.Partitions.{in_partitions}
-use Rattle.scanning.specs.Picked.{AreTaken, bodies}
-use Rattle.scanning.specs.Scans.{AreSomeTakenIn, AreTakenIn, ScanView, TakesIn, scan_of, wrong_at}
+use Rattle.scanning.specs.Scans.{AreTakenIn, ScanView, TakesIn, scan_of, wrong_at}
 use Rattle.scanning.specs.declared.open_scan.TheConstants.{AT_ONCE}
 use Rattle.scanning.specs.declared.wrong.WrongLength.{WrongLength}
 
 -- ---- frames taken in
+
+-- the frames, with their places
+abbrev pub bodies : List Frame → List PlacedBody
+bodies frames = map placed_body frames
+
+-- of frames, the first ones were taken in
+abbrev pub AreSomeTakenIn : Option ℕ → List PlacedBody → ScanView → ScanView → Type 0
+AreSomeTakenIn as_of frames old new = (walked : ℕ) × AreTakenIn as_of frames 0 walked old new
+
+some_are : (as_of : Option ℕ) (front rest : List PlacedBody) {frames : List PlacedBody} {old new : ScanView} → frames ≡ front ++ rest
+    → TakesIn as_of front old new → AreSomeTakenIn as_of frames old new
+some_are as_of front rest split takes =
+    (length (spelling front), record { front = front; rest = rest; split = split; walked_is = refl; takes = takes; ends = λ h. absurd (omega arith) })
+
+-- so many of the frames are left as they were, or none is, since they were taken in
+abbrev pub AreTaken : Option ℕ → List Frame → ℕ → ℕ → ScanView → ScanView → Type 0
+AreTaken as_of frames count left old new = ((left ≡ count) × (new ≡ old)) ⊎ ((left ≡ 0) × TakesIn as_of (bodies (take count frames)) old new)
 
 pub takes_more : (as_of : Option ℕ) (xs ys : List PlacedBody) (old scan new : ScanView) → TakesIn as_of xs old scan → TakesIn as_of ys scan new
     → TakesIn as_of (xs ++ ys) old new
@@ -119,21 +135,17 @@ module _ {as_of : Option ℕ} {all left : List PlacedBody} {walked count : ℕ} 
 
   -- where memory is refused, some of it is
   pub some_taken : AreSomeTakenIn as_of (bodies (take count picked)) scan new → AreSomeTakenIn as_of all old new
-  some_taken some =
+  some_taken (walked, some) =
       let taken = so_far.front ++ some.front in
       let read = filter reads taken in
       let first = first_of_filter reads so_far.done (length read) in
       let parts : filter reads so_far.done ≡ read ++ filter reads some.rest =
       sym so_far.read_is ∙ ap (filter reads) (ap (λ l. so_far.front ++ l) some.split ∙ sym (append_assoc so_far.front some.front some.rest))
       ∙ filter-append reads taken some.rest in
-      record {
-        front = take first.0 so_far.done;
-        rest = drop first.0 so_far.done ++ left;
-        split = rw (← append_assoc, take-append-drop) so_far.split;
-        takes = takes_same as_of taken (take first.0 so_far.done) old new
-            (sym (first.1 ∙ ap (take (length read)) parts ∙ take_at read (filter reads some.rest) (length read) refl))
-            (takes_more as_of so_far.front some.front old scan new so_far.takes some.takes);
-      }
+      some_are as_of (take first.0 so_far.done) (drop first.0 so_far.done ++ left) (rw (← append_assoc, take-append-drop) so_far.split)
+      (takes_same as_of taken (take first.0 so_far.done) old new
+      (sym (first.1 ∙ ap (take (length read)) parts ∙ take_at read (filter reads some.rest) (length read) refl))
+      (takes_more as_of so_far.front some.front old scan new so_far.takes some.takes))
 
   -- where there is room, what is taken in and what is picked still give what all that are done give
   with_room : (room : ℕ) → AreTaken as_of picked count room scan new
@@ -190,12 +202,10 @@ takes_next as_of frames i d old scan new below so_far next =
 
 pub takes_first : (as_of : Option ℕ) (frames : List Frame) (i : ℕ) (old scan new : ScanView) → TakesIn as_of (bodies (take i frames)) old scan → new ≡ scan
     → AreSomeTakenIn as_of (bodies frames) old new
-takes_first as_of frames i old scan new so_far same = record {
-  front = bodies (take i frames);
-  rest = bodies (drop i frames);
-  split = sym (ap bodies (take-append-drop i frames)) ∙ map-append placed_body (take i frames) (drop i frames);
-  takes = subst (λ s. TakesIn as_of (bodies (take i frames)) old s) (sym same) so_far;
-}
+takes_first as_of frames i old scan new so_far same =
+    some_are as_of (bodies (take i frames)) (bodies (drop i frames))
+    (sym (ap bodies (take-append-drop i frames)) ∙ map-append placed_body (take i frames) (drop i frames))
+    (subst (λ s. TakesIn as_of (bodies (take i frames)) old s) (sym same) so_far)
 
 -- what holds, holds on an error
 pub on_err : {X E P : Type 0} (r : Result X E) → P → OnErr r P

@@ -1,11 +1,10 @@
 -- What a scan has found so far, and with one frame more.
-use Rattle.std.proofs.Common.{◌≡◌, ℕ, ◌<◌, ◌≤◌, Bool, true, false, cond, [], ◌∷◌, ◌++◌, Option, Some, None, option_to_list, filter_map, refl, sym, ap, ap₂, ◌∙◌}
+use Rattle.std.proofs.Common.{◌≡◌, ℕ, ◌<◌, Bool, true, false, cond, [], ◌∷◌, ◌++◌, Option, Some, None, option_to_list, filter_map, refl, sym, ap, ap₂, ◌∙◌}
 use Rattle.std.specs.List.{cons_option}
 use Rattle.std.proofs.lemmas.List.{append-nil}
 use Rattle.std.proofs.lemmas.List.Elements.{filter_map-append}
 use Rattle.lists.proofs.Least.{least_more}
 use Rattle.lists.specs.Least.{least_by}
-use Rattle.lists.specs.declared.limits.TheConstants.{MOST_PARTITIONS}
 use Rattle.itch_messages.proofs.NineTypes.{skipped_of_wrong_length}
 use Rattle.itch_messages.specs.Body.{has_wrong_length, length_fault_of, message_of}
 use Rattle.itch_messages.specs.declared.message.Message.{Message}
@@ -22,7 +21,7 @@ use Rattle.scanning.specs.declared.wrong.WrongLength.{WrongLength}
 -- one message more, as it is added to rows in partitions
 abbrev pub AddsCounted : Option ℕ → ℕ → Message → MorselRowsView → MorselRowsView → Type 0
 AddsCounted as_of place message old new =
-    (n : ℕ) (rows : DayRows) → 0 < n → n ≤ MOST_PARTITIONS → old ≡ in_partitions n rows
+    (n : ℕ) (rows : DayRows) → 0 < n → old ≡ in_partitions n rows
     → new ≡ in_partitions n (joined rows (counted_rows_at as_of place message))
 
 -- what is told of a frame, where its length is wrong or right
@@ -34,7 +33,7 @@ pub reads : (as_of : Option ℕ) (frame : PlacedBody) (old new : MorselRowsView)
     → AddsCounted as_of frame.place (message_of frame.body) old new
     → TakesIn as_of (frame ∷ []) (record { rows = old; wrong = wrong }) (record { rows = new; wrong = wrong })
 reads as_of frame old new wrong right adds n front some most so_far =
-    let rows = adds n (rows_of (counted as_of (messages_of front))) some most (ap (λ (scan : ScanView). scan.rows) so_far)
+    let rows = adds n (rows_of (counted as_of (messages_of front))) some (ap (λ (scan : ScanView). scan.rows) so_far)
     ∙ ap (in_partitions n) (sym (rows_more as_of front frame)) in
     let none : wrong_in (front ++ frame ∷ []) ≡ wrong_in front = ap (least_by (λ (w : WrongLength). w.place))
     (filter_map-append wrong_at front (frame ∷ []) ∙ ap (λ b. filter_map wrong_at front ++ cons_option (told_by_test frame b) []) right

@@ -1,15 +1,14 @@
 -- The total of one input more, and of a cut of which a part was scanned by itself.
 use Rattle.std.proofs.Common.{◌≡◌, ℕ, ◌+◌, List, [], ◌∷◌, ◌++◌, Option, length, arith}
 use Rattle.std.specs.List.{concat}
-use Rattle.std.proofs.lemmas.List.{map-append}
+use Rattle.std.proofs.lemmas.List.{map-append, map_push}
 use Rattle.std.proofs.lemmas.List.Elements.{filter_map-append}
 use Rattle.lists.proofs.Least.{least_more, least_of_both}
-use Rattle.lists.proofs.Lists.{map_more}
 use Rattle.day_file.proofs.Kept.{numbered-append}
 use Rattle.scanning.specs.Scans.{ScanInputView, inputs_from, inputs_of, scanned, total_of, with_scan, with_scans}
 
 pub total_more : (before : List ScanInputView) (next : ScanInputView) → total_of (before ++ next ∷ []) ≡ with_scan (total_of before) (scanned next)
-total_more before next = grind (arith, map_more, least_more)
+total_more before next = grind (arith, map_push, least_more)
 
 -- the total of inputs and others after them
 pub total_of_both : (before more : List ScanInputView) → total_of (before ++ more) ≡ with_scans (total_of before) (total_of more)

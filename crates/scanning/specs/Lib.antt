@@ -1,3 +1,1 @@
-pub mod EqualScans
 pub mod Scans
-pub mod Picked

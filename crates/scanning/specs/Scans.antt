@@ -1,9 +1,13 @@
 -- What is found in a morsel, and in the morsels of one cut.
 -- To be believed of a crate used by itself: the answer isn't defined by morsels.
-use Rattle.std.specs.Prelude.{◌≡◌, ℕ, ◌+◌, ◌<◌, ◌≤◌, ◌==◌, ◌&&◌, Bool, List, [], ◌∷◌, ◌++◌, All, length, map, nat_eq, Option, Some, None, filter_map}
-use Rattle.std.specs.Prelude.{option_to_list, if◌then◌else◌}
+use Rattle.std.specs.Prelude.{◌≡◌, ℕ, ◌+◌, ◌<◌, ◌≤◌, ◌==◌, ◌&&◌, Bool, true, List, [], ◌∷◌, ◌++◌, All, length, map}
+use Rattle.std.specs.Prelude.{nat_eq, Option, Some, None, filter_map, option_to_list, if◌then◌else◌}
+use Rattle.std.specs.Cmp.{IsEquivalence}
 use Rattle.std.specs.List.{concat}
 use Rattle.std.specs.Option.{option_eq}
+use Rattle.std.proofs.Common.{arith, sym, ap, ◌∙◌}
+use Rattle.std.proofs.lemmas.Bool.Decides.{nat_tests}
+use Rattle.lists.proofs.Exact.{IsExact, exact_equiv, exact_list, exact_nat, exact_option}
 use Rattle.lists.specs.Least.{least_by}
 use Rattle.lists.specs.declared.limits.TheConstants.{LONGEST_FILE, MOST_PARTITIONS}
 use Rattle.itch_messages.specs.Body.{has_wrong_length, length_fault_of}
@@ -13,6 +17,7 @@ use Rattle.day_file.specs.Kept.{numbered}
 use Rattle.day_file.specs.Walk.{frames_of}
 use Rattle.day_rows.specs.DayRows.{rows_of}
 use Rattle.day_rows.specs.Messages.{counted, messages_of}
+use Rattle.gathering.specs.Adding.{same_inputs}
 use Rattle.morsel_rows.specs.Partitions.{MorselRowsView, in_partitions}
 use Rattle.scanning.specs.declared.wrong.WrongLength.{WrongLength}
 
@@ -57,7 +62,8 @@ TakesIn as_of more old new =
     (n : ℕ) (frames : List PlacedBody) → 0 < n → n ≤ MOST_PARTITIONS →
     old ≡ scan_of n as_of frames → new ≡ scan_of n as_of (frames ++ more)
 
--- of frames, the first ones were taken in, which have `walked` bytes; if that is fewer than `bytes`, they are all
+-- of frames, the first ones were taken in, which have `walked` bytes; if that is fewer than `bytes`, they are all (so
+-- where `bytes` is 0, they are any number of the first)
 pub record AreTakenIn (as_of : Option ℕ) (frames : List PlacedBody) (bytes walked : ℕ) (old new : ScanView)
     : Type 0 where
   pub front : List PlacedBody
@@ -66,13 +72,6 @@ pub record AreTakenIn (as_of : Option ℕ) (frames : List PlacedBody) (bytes wal
   pub walked_is : walked ≡ length (spelling front)
   pub takes : TakesIn as_of front old new
   pub ends : walked < bytes → rest ≡ []
-
--- of frames, the first ones were taken in
-pub record AreSomeTakenIn (as_of : Option ℕ) (frames : List PlacedBody) (old new : ScanView) : Type 0 where
-  pub front : List PlacedBody
-  pub rest : List PlacedBody
-  pub split : frames ≡ front ++ rest
-  pub takes : TakesIn as_of front old new
 
 -- the value of an input
 abbrev pub scanned : ScanInputView → ScanView
@@ -85,23 +84,16 @@ pub record ScanTotalView : Type 0 where
   pub morsels : List MorselRowsView
   pub wrong : Option WrongLength
 
--- the total of no morsels
-abbrev pub no_scans : ScanTotalView
-no_scans = record { morsels = []; wrong = None }
-
--- a total with what one morsel more gives
-abbrev pub with_scan : ScanTotalView → ScanView → ScanTotalView
-with_scan total scan = record {
-  morsels = total.morsels ++ scan.rows ∷ [];
-  wrong = least_by (λ wrong. wrong.place) (option_to_list total.wrong ++ option_to_list scan.wrong);
-}
-
 -- a total with another one: the morsels of both, and of their wrong lengths the one of least place
 abbrev pub with_scans : ScanTotalView → ScanTotalView → ScanTotalView
 with_scans total other = record {
   morsels = total.morsels ++ other.morsels;
   wrong = least_by (λ wrong. wrong.place) (option_to_list total.wrong ++ option_to_list other.wrong);
 }
+
+-- a total with what one morsel more gives
+abbrev pub with_scan : ScanTotalView → ScanView → ScanTotalView
+with_scan total scan = with_scans total (record { morsels = scan.rows ∷ []; wrong = scan.wrong })
 
 -- the total of inputs
 abbrev pub total_of : List ScanInputView → ScanTotalView
@@ -131,3 +123,28 @@ pub record AreOfOneCut (inputs : List ScanInputView) : Type 0 where
   pub parts : ℕ
   pub some : 0 < parts
   pub are : inputs ≡ inputs_from first start as_of parts runs
+
+-- ---- equal inputs are one, and so give one scan, and lists of them one total
+
+exact_morsel : IsExact is_same_morsel
+exact_morsel = record {
+  itself = λ a. grind (arith, nat_tests, (exact_list exact_nat).itself);
+  one = λ a b h. grind (arith, nat_tests, (exact_list exact_nat).one);
+}
+
+exact_input : IsExact is_same_input
+exact_input = record {
+  itself = λ a. grind (arith, nat_tests, exact_morsel.itself, (exact_option exact_nat).itself);
+  one = λ a b h. grind (arith, nat_tests, exact_morsel.one, (exact_option exact_nat).one);
+}
+
+pub input_equiv : IsEquivalence is_same_input
+input_equiv = exact_equiv exact_input
+
+pub equal_scans : (a b : ScanInputView) (output : ScanView) → is_same_input a b ≡ true → output ≡ scanned a
+    → output ≡ scanned b
+equal_scans a b output same is = is ∙ ap scanned (exact_input.one a b same)
+
+pub equal_totals : (xs ys : List ScanInputView) → same_inputs is_same_input xs ys ≡ true → (total : ScanTotalView)
+    → total ≡ total_of ys → total ≡ total_of xs
+equal_totals xs ys same total is = is ∙ sym (ap total_of ((exact_list exact_input).one xs ys same))

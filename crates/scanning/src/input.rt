@@ -5,8 +5,7 @@ ghost use Rattle.std.specs.Cmp.{partial_equiv_from_equiv};
 ghost use Rattle.lists.specs.declared.limits.TheConstants.{LONGEST_FILE, MOST_PARTITIONS};
 ghost use Rattle.day_file.specs.Frames.{spelling};
 ghost use Rattle.day_file.specs.Walk.{frames_of};
-ghost use Rattle.scanning.specs.EqualScans.{input_equiv};
-ghost use Rattle.scanning.specs.Scans.{is_same_input};
+ghost use Rattle.scanning.specs.Scans.{input_equiv, is_same_input};
 
 use day_file::{Frames, Morsel};
 use lists::limits::{LONGEST_FILE, MOST_PARTITIONS};

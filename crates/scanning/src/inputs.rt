@@ -2,7 +2,8 @@
 ghost use Rattle.std.specs.Prelude.{◌≡◌, ◌+◌, ◌<◌, ◌≤◌, All, IfOk, OnOk, length};
 ghost use Rattle.std.specs.List.{concat};
 ghost use Rattle.lists.specs.declared.limits.TheConstants.{LONGEST_FILE, MOST_MORSELS, MOST_PARTITIONS};
-ghost use Rattle.day_file.specs.Cuts.{AreBytes, IsRun};
+ghost use Rattle.lists.specs.Among.{AreBytes};
+ghost use Rattle.day_file.specs.Cuts.{IsRun};
 ghost use Rattle.scanning.specs.Scans.{inputs_from, inputs_of};
 
 use crate::OutOfMemory;

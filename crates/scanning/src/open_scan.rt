@@ -1,11 +1,10 @@
 //! A scan under way.
-ghost use Rattle.std.specs.Prelude.{◌≡◌, ◌*◌, ◌<◌, ◌≤◌, ℕ, [], ◌∷◌, length, take, IfOk, OnErr, OnOk, Option};
+ghost use Rattle.std.specs.Prelude.{◌≡◌, ◌*◌, ◌<◌, ◌≤◌, ◌⊎◌, ℕ, [], ◌∷◌, length, map, take, IfOk, OnErr, OnOk, Option};
 ghost use Rattle.lists.specs.declared.limits.TheConstants.{LONGEST_FILE, MOST_PARTITIONS};
 ghost use Rattle.day_file.specs.Frames.{spelling};
 ghost use Rattle.day_file.specs.Placed.{placed_body};
 ghost use Rattle.itch_messages.specs.Body.{kind_of};
-ghost use Rattle.scanning.specs.Picked.{AreTaken, bodies};
-ghost use Rattle.scanning.specs.Scans.{AreSomeTakenIn, AreTakenIn, TakesIn, scan_of};
+ghost use Rattle.scanning.specs.Scans.{AreTakenIn, TakesIn, scan_of};
 ghost use Rattle.scanning.specs.declared.open_scan.TheConstants.{AT_ONCE, BYTES_AN_ORDER, MOST_AT_ONCE};
 
 use crate::OutOfMemory;
@@ -73,7 +72,7 @@ impl OpenScan {
     ) -> Result<u64, OutOfMemory>
         requires { length (spelling frames.frames) ≤ LONGEST_FILE }
         ensures taken { IfOk result (λ walked. AreTakenIn as_of frames.entry.frames bytes walked self.old self.new) }
-        ensures some { OnErr result (AreSomeTakenIn as_of frames.entry.frames self.old self.new) }
+        ensures some { OnErr result ((walked : ℕ) × AreTakenIn as_of frames.entry.frames 0 walked self.old self.new) }
     {
         let mut picked = [Frame {
             place: 0,
@@ -106,8 +105,10 @@ impl OpenScan {
     ) -> Result<usize, OutOfMemory>
         requires { count ≤ AT_ONCE }
         ensures room { IfOk result (λ left. left < AT_ONCE) }
-        ensures taken { IfOk result (λ left. AreTaken as_of picked.now count left self.old self.new) }
-        ensures some { OnErr result (AreSomeTakenIn as_of (bodies (take count picked.now)) self.old self.new) }
+        ensures taken { IfOk result (λ left. ((left ≡ count) × (self.new ≡ self.old))
+            ⊎ ((left ≡ 0) × TakesIn as_of (map placed_body (take count picked.now)) self.old self.new)) }
+        ensures some { OnErr result ((walked : ℕ) ×
+            AreTakenIn as_of (map placed_body (take count picked.now)) 0 walked self.old self.new) }
     {
         if count < AT_ONCE {
             return Ok(count);
@@ -119,8 +120,9 @@ impl OpenScan {
     /// Takes in each of these frames. If there is no memory for a row, those before its frame were taken in.
     #[inline(never)]
     fn take_in_each(&mut self, as_of: Option<u32>, frames: &[Frame<'_>]) -> Result<(), OutOfMemory>
-        ensures taken { OnOk result (TakesIn as_of (bodies frames.now) self.old self.new) }
-        ensures some { OnErr result (AreSomeTakenIn as_of (bodies frames.now) self.old self.new) }
+        ensures taken { OnOk result (TakesIn as_of (map placed_body frames.now) self.old self.new) }
+        ensures some { OnErr result ((walked : ℕ) ×
+            AreTakenIn as_of (map placed_body frames.now) 0 walked self.old self.new) }
     {
         for frame in frames {
             self.take_in_one(as_of, *frame)?;

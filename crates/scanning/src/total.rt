@@ -1,7 +1,7 @@
 //! What the scans of morsels add up to.
-ghost use Rattle.std.specs.Prelude.{◌≡◌, OnErr, OnOk, map};
+ghost use Rattle.std.specs.Prelude.{◌≡◌, [], OnErr, OnOk, map};
 ghost use Rattle.std.specs.Arc.{arc_value};
-ghost use Rattle.scanning.specs.Scans.{no_scans, with_scan, with_scans};
+ghost use Rattle.scanning.specs.Scans.{total_of, with_scan, with_scans};
 
 use crate::OutOfMemory;
 use crate::output::Scanned;
@@ -32,7 +32,7 @@ impl Model for ScanTotal {
 impl ScanTotal {
     /// The total of no morsels.
     pub fn empty(alloc: Global) -> Self
-        ensures { result ≡ no_scans }
+        ensures { result ≡ total_of [] }
     {
         ScanTotal {
             morsels: Vec::new(alloc),

@@ -1,7 +1,6 @@
 //! The work whose tasks are the scans of morsels.
 ghost use Rattle.std.specs.Prelude.{◌≡◌};
-ghost use Rattle.scanning.specs.Scans.{AreOfOneCut, scanned, total_of};
-ghost use Rattle.scanning.specs.EqualScans.{equal_scans, equal_totals};
+ghost use Rattle.scanning.specs.Scans.{AreOfOneCut, equal_scans, equal_totals, scanned, total_of};
 
 use crate::OutOfMemory;
 use crate::input::ScanInput;

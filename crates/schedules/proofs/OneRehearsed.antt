@@ -1,8 +1,9 @@
 -- Of works and a link that are functions two schedules have one answer. For who rehearses such a pair.
 use Rattle.std.proofs.Common.{◌≡◌, ℕ, List, inl, inr, sym, ap, ◌∙◌}
+use Rattle.std.specs.Option.{option_map_or}
 use Rattle.links.specs.declared.linked.Linked.{Linked}
 use Rattle.links.specs.declared.linked.Linked.TheVariants.{Next, Halt}
-use Rattle.schedules.specs.Rehearsals.{IsRehearsed, after_link, unless_missing}
+use Rattle.schedules.specs.Rehearsals.{IsRehearsed, after_link}
 use Rattle.schedules.specs.Schedules.{Event, first_left}
 use Rattle.schedules.specs.declared.rehearsed.Rehearsed.{Rehearsed}
 use Rattle.schedules.specs.declared.rehearsed.Rehearsed.TheVariants.{Finished, Stopped, Missing}
@@ -15,7 +16,7 @@ module _ {F I T K S : Type 0} (tasks : ℕ) (IsFirst : F → Type 0) (Links : F 
   linked_is f l is links = sym (one_link f l links ∙ ap linked (one_first f is))
 
   pub one_rehearsed : (rehearsed : Rehearsed T K S) → IsRehearsed tasks IsFirst Links IsTotalOf gatherers events1 events2 rehearsed
-      → rehearsed ≡ unless_missing 1 (first_left gatherers tasks events1) (after_link total_of gatherers events2 (linked first))
+      → rehearsed ≡ option_map_or (λ task. Missing 1 task) (first_left gatherers tasks events1) (after_link total_of gatherers events2 (linked first))
   one_rehearsed (Missing pipeline task) (inl (number, left)) = rw (left, number)
   one_rehearsed (Missing pipeline task) (inr (number, none, (f, inputs, kept, is, links, left))) =
       rw (none, linked_is f (Next inputs kept) is links, left, number)

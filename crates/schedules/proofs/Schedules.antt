@@ -1,6 +1,6 @@
 -- The tasks that have arrived are those that some gatherer covers.
 use Rattle.std.proofs.Common.{◌≡◌, ◌≢◌, ℕ, zero, suc, ◌+◌, ◌<◌, ◌≤◌, ◌==◌, ◌&&◌, ◌||◌, nat_lt, Bool, true, false, not, cond, List, [], ◌∷◌, ◌++◌}
-use Rattle.std.proofs.Common.{Some, None, remove, length, get_or, set, replicate, find, refl, sym, ◌∙◌, ap, arith, rules, inl, inr, nat_cmp}
+use Rattle.std.proofs.Common.{Some, None, remove, length, fold, get_or, set, slice_index_or, replicate, find, refl, sym, ◌∙◌, ap, arith, rules, inl, inr, nat_cmp}
 use Rattle.std.proofs.lemmas.Bool.{cases_lt, cases_Bool, lt-ltb}
 use Rattle.std.proofs.lemmas.Bool.Decides.{nat_tests}
 use Rattle.std.proofs.lemmas.List.{length-map, length-replicate, length-set, map_push, map-set, get_or-map, get_or-set_other, set_past}
@@ -9,8 +9,19 @@ use Rattle.std.specs.Cmp.{nat_cmp_total}
 use Rattle.std.specs.List.{range_with_len}
 use Rattle.std.specs.FinSet.{FinSet, contains, contains-empty, insert, union, empty, members, contains-union}
 use Rattle.gathering.specs.Views.{GatheringView}
-use Rattle.schedules.specs.Schedules.{Event, Sets, after, after_all, are_two, brings, covered_sets, first_left, has_arrived, set_of, some_covers}
+use Rattle.schedules.specs.Schedules.{Event, after, brings, covered_sets, first_left, has_arrived, some_covers}
 use Rattle.schedules.specs.declared.event.Event.TheVariants.{Arrive, Lose, Merge}
+
+abbrev pub Sets : Type 0
+Sets = List (FinSet nat_cmp)
+
+-- the set of one gatherer
+abbrev set_of : Sets → ℕ → FinSet nat_cmp
+set_of sets gatherer = slice_index_or sets gatherer empty
+
+-- two different gatherers of those that there are
+abbrev are_two : ℕ → ℕ → ℕ → Bool
+are_two gatherers a b = nat_lt a gatherers && nat_lt b gatherers && not (a == b)
 
 module _ {A : Type 0} where
   set_of_at : (gs : List (GatheringView A)) (i : ℕ) (g : GatheringView A) → i < length gs → g ≡ get_or gs i g
@@ -20,7 +31,7 @@ module _ {A : Type 0} where
   -- an arrival in range
   pub arrive_step : (gs : List (GatheringView A)) (i t n : ℕ) (g h : GatheringView A) → i < length gs → t < n
       → g ≡ get_or gs i g → h.covered ≡ insert g.covered t
-      → covered_sets (set gs i h) ≡ after n (Arrive i t) (covered_sets gs)
+      → covered_sets (set gs i h) ≡ after n (covered_sets gs) (Arrive i t)
   arrive_step gs i t n g h within task at more =
       let known = set_of_at gs i g within at in let test = lt-ltb t n task in
       let written = map-set (λ v. v.covered) gs i h in cc
@@ -28,7 +39,7 @@ module _ {A : Type 0} where
   -- a merge of two
   pub merge_step : (gs : List (GatheringView A)) (a b n : ℕ) (e f g h : GatheringView A) → a < length gs → b < length gs → a ≢ b
       → e.covered ≡ empty → f ≡ get_or gs b f → g ≡ get_or (set gs b e) a g → h.covered ≡ union g.covered f.covered
-      → covered_sets (set (set gs b e) a h) ≡ after n (Merge a b) (covered_sets gs)
+      → covered_sets (set (set gs b e) a h) ≡ after n (covered_sets gs) (Merge a b)
   merge_step gs a b n e f g h ha hb differ none other own more =
       let long = length-map gs (λ v. v.covered) in
       let test : are_two (length (covered_sets gs)) a b ≡ true = grind (arith, rules, nat_tests) in
@@ -61,7 +72,7 @@ module _ (tasks t : ℕ) where
       let both = contains-union nat_cmp_total (set_of sets a) (set_of sets b) t in
       gains (set sets b empty) a _ (contains (set_of sets b) t) (rw length-set parts.0) (rw (kept, both) (grind arith)) ∙ gives sets b parts.1
 
-  step_covers : (e : Event) (sets : Sets) → some_covers (after tasks e sets) t ≡ ((nat_lt t tasks && brings (length sets) t e) || some_covers sets t)
+  step_covers : (e : Event) (sets : Sets) → some_covers (after tasks sets e) t ≡ ((nat_lt t tasks && brings (length sets) t e) || some_covers sets t)
   step_covers (Arrive gatherer task) sets =
       let new = insert (set_of sets gatherer) task in
       elim (cases_lt gatherer (length sets)) [
@@ -74,17 +85,17 @@ module _ (tasks t : ℕ) where
     | inr none ↦ (rw none (grind arith))
   ]
 
-  length-after : (e : Event) (sets : Sets) → length (after tasks e sets) ≡ length sets
+  length-after : (e : Event) (sets : Sets) → length (after tasks sets e) ≡ length sets
   length-after (Arrive gatherer task) sets = grind (arith, rules, length-set {A = FinSet nat_cmp})
   length-after (Lose task) sets = refl
   length-after (Merge into other) sets = grind (arith, rules, length-set {A = FinSet nat_cmp})
 
   -- the tasks that some gatherer covers are those that have arrived, and those that were covered before
   pub all_covers : (events : List Event) (sets : Sets)
-      → some_covers (after_all tasks events sets) t ≡ ((nat_lt t tasks && has_arrived (length sets) events t) || some_covers sets t)
+      → some_covers (fold (after tasks) sets events) t ≡ ((nat_lt t tasks && has_arrived (length sets) events t) || some_covers sets t)
   all_covers [] sets = grind arith
   all_covers (e ∷ events) sets =
-      let later = all_covers events (after tasks e sets) in
+      let later = all_covers events (after tasks sets e) in
       let long = length-after e sets in
       let first = step_covers e sets in
       rw (later, long, first) (grind arith)
@@ -95,7 +106,7 @@ module _ (tasks t : ℕ) where
 
 -- from empty gatherers on, they are those that have arrived
 pub arrived_covers : (gatherers tasks : ℕ) (events : List Event) (t : ℕ)
-    → some_covers (after_all tasks events (replicate gatherers empty)) t ≡ (nat_lt t tasks && has_arrived gatherers events t)
+    → some_covers (fold (after tasks) (replicate gatherers empty) events) t ≡ (nat_lt t tasks && has_arrived gatherers events t)
 arrived_covers gatherers tasks events t =
     let long : length (replicate gatherers (empty {R = nat_cmp})) ≡ gatherers = length-replicate gatherers empty in
     let none = none_covers tasks t gatherers in
@@ -111,13 +122,13 @@ last_merged gs hs g s u t split both =
     let all = list_any-append (λ v. contains v t) (covered_sets hs) (g.covered ∷ []) in
     rw (both, united, split, map_push, all) (grind arith)
 
-length-after_all : (tasks : ℕ) (events : List Event) (sets : Sets) → length (after_all tasks events sets) ≡ length sets
+length-after_all : (tasks : ℕ) (events : List Event) (sets : Sets) → length (fold (after tasks) sets events) ≡ length sets
 length-after_all tasks [] sets = refl
-length-after_all tasks (e ∷ events) sets = length-after_all tasks events (after tasks e sets) ∙ length-after tasks 0 e sets
+length-after_all tasks (e ∷ events) sets = length-after_all tasks events (after tasks sets e) ∙ length-after tasks 0 e sets
 
 -- what the events made of empty gatherings
 module _ {A : Type 0} (gs : List (GatheringView A)) (gatherers tasks : ℕ) (events : List Event)
-    (done : covered_sets gs ≡ after_all tasks events (replicate gatherers empty)) where
+    (done : covered_sets gs ≡ fold (after tasks) (replicate gatherers empty) events) where
   pub as_many : length gs ≡ gatherers
   as_many = let long = length-after_all tasks events (replicate gatherers empty) in
       omega (arith, length-map gs (λ v. v.covered), ap length done, length-replicate gatherers (empty {R = nat_cmp}))

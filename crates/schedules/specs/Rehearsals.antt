@@ -1,6 +1,7 @@
 -- What a pair of pipelines gives by two schedules.
 -- To be believed of a crate used by itself.
-use Rattle.std.specs.Prelude.{◌≡◌, ◌⊎◌, ℕ, List, Option, Some, None, length}
+use Rattle.std.specs.Prelude.{◌≡◌, ◌⊎◌, ℕ, List, Some, None, length}
+use Rattle.std.specs.Option.{option_map_or}
 use Rattle.schedules.specs.Schedules.{Event, first_left}
 use Rattle.links.specs.declared.linked.Linked.{Linked}
 pub use Rattle.links.specs.declared.linked.Linked.TheVariants.{Next, Halt}
@@ -26,16 +27,9 @@ module _ {F I T K S : Type 0} (tasks : ℕ) (IsFirst : F → Type 0) (Links : F 
   IsRehearsed (Stopped stop) =
       (first_left gatherers tasks events1 ≡ None) × ((first : F) × IsFirst first × Links first (Halt stop))
 
--- What follows is of works and a link that are functions.
-module _ {T K S : Type 0} where
-  -- a task of the pipeline is missing, or else it goes on
-  abbrev pub unless_missing : ℕ → Option ℕ → Rehearsed T K S → Rehearsed T K S
-  unless_missing pipeline (Some task) next = Missing pipeline task
-  unless_missing pipeline None next = next
-
 -- what comes once the first pipeline is linked: the second by its schedule, or the link's stop
 abbrev pub after_link : {I T K S : Type 0}
     → (List I → T) → ℕ → List Event → Linked (List I) K S → Rehearsed T K S
-after_link total_of gatherers events (Next inputs kept) =
-    unless_missing 2 (first_left gatherers (length inputs) events) (Finished (total_of inputs) kept)
+after_link total_of gatherers events (Next inputs kept) = option_map_or (λ task. Missing 2 task)
+    (first_left gatherers (length inputs) events) (Finished (total_of inputs) kept)
 after_link total_of gatherers events (Halt stop) = Stopped stop

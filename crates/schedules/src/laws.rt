@@ -1,11 +1,13 @@
 //! Laws of schedules. Each is the contract of a function that does nothing.
-ghost use Rattle.std.specs.Prelude.{◌≡◌, ℕ, ◌&&◌, nat_lt, List, length, replicate};
+ghost use Rattle.std.specs.Prelude.{◌≡◌, ℕ, ◌&&◌, nat_lt, List, fold, length, replicate};
 ghost use Rattle.std.specs.FinSet.{empty};
+ghost use Rattle.std.specs.Option.{option_map_or};
 ghost use Rattle.links.specs.declared.linked.Linked.{Linked as TheLinked};
-ghost use Rattle.schedules.specs.Rehearsals.{IsRehearsed, after_link, unless_missing};
-ghost use Rattle.schedules.specs.Schedules.{after_all, first_left, has_arrived, some_covers};
+ghost use Rattle.schedules.specs.Rehearsals.{IsRehearsed, after_link};
+ghost use Rattle.schedules.specs.Schedules.{after, first_left, has_arrived, some_covers};
 ghost use Rattle.schedules.specs.declared.event.Event.{Event};
 ghost use Rattle.schedules.specs.declared.rehearsed.Rehearsed.{Rehearsed as TheRehearsed};
+ghost use Rattle.schedules.specs.declared.rehearsed.Rehearsed.TheVariants.{Missing};
 
 use gathering::Work;
 use links::Link;
@@ -14,12 +16,11 @@ use links::Link;
 #[tactic(auto, using(crate::proofs::Schedules::arrived_covers))]
 pub fn arrived_tasks_are_covered()
     ensures { (gatherers tasks : ℕ) (events : List Event) (task : ℕ)
-        → some_covers (after_all tasks events (replicate gatherers empty)) task
+        → some_covers (fold (after tasks) (replicate gatherers empty) events) task
         ≡ (nat_lt task tasks && has_arrived gatherers events task) }
 {}
 
-/// If each list of inputs has one total and each total is linked to one thing, two schedules have
-/// one answer.
+/// If each list of inputs has one total and each total is linked to one thing, two schedules have one answer.
 pub fn functions_have_one_rehearsal<A: Work, B: Work, L: Link<A, B>>()
     ensures { (link : L) (inputs : List A.Input) (total_of_first : List A.Input → A.Total)
         (linked : A.Total → TheLinked (List B.Input) L.Kept L.Stop) (total_of : List B.Input → B.Total)
@@ -29,6 +30,6 @@ pub fn functions_have_one_rehearsal<A: Work, B: Work, L: Link<A, B>>()
         ((seconds : List B.Input) (total : B.Total) → B.IsTotalOf seconds total → total ≡ total_of seconds) →
         IsRehearsed (length inputs) (A.IsTotalOf inputs) (L.Links link) B.IsTotalOf
         gatherers events1 events2 rehearsed →
-        rehearsed ≡ unless_missing 1 (first_left gatherers (length inputs) events1)
+        rehearsed ≡ option_map_or (λ task. Missing 1 task) (first_left gatherers (length inputs) events1)
         (after_link total_of gatherers events2 (linked (total_of_first inputs))) }
 {}

@@ -6,7 +6,6 @@
 
 mod event;
 pub mod laws;
-mod owner;
 mod rehearse;
 mod rehearsed;
 

@@ -1,25 +1,22 @@
 //! Two pipelines on one thread, by schedules.
 ghost use Rattle.std.specs.Prelude.{◌≡◌, ℕ, ◌<◌, ◌≤◌, ◌&&◌, nat_lt, ◌∷◌, All, IfOk, OnOk, MatchResult, None, Some};
-ghost use Rattle.std.specs.Prelude.{length};
+ghost use Rattle.std.specs.Prelude.{length, replicate};
 ghost use Rattle.std.specs.Arc.{arc_value};
-ghost use Rattle.std.specs.FinSet.{contains};
+ghost use Rattle.std.specs.FinSet.{contains, empty};
 ghost use Rattle.schedules.specs.Rehearsals.{IsRehearsed};
 ghost use Rattle.schedules.specs.Schedules.{covered_sets, first_left, has_arrived, some_covers};
 
-use crate::event::{Event, apply_all};
-use crate::owner::{empty_gatherings, unite};
-use crate::rehearsed::Rehearsed;
+use crate::event::{apply_all, unite};
+use crate::{Event, Rehearsed};
 use gathering::{Gathering, Inputs, OutOfMemory, TotalRefused, Work};
 use links::{Link, Linked};
 use std::alloc::{AllocError, Allocator, Global};
 use std::sync::Arc;
 
-/// Rehearses what `run_pair` does, on this thread alone: each pipeline has 1 to 64 gatherers, does
-/// the events of its schedule in order, and then merges all gatherers into the first. A task has
-/// arrived if some `Arrive` of its pipeline names it and a gatherer that exists. It runs the tasks
-/// of the pieces that arrive, and no other.
-///
-/// It is refused if memory was refused to it.
+/// Rehearses what `run_pair` does, on this thread alone: each pipeline has 1 to 64 gatherers, does the events of its
+/// schedule in order, and then merges all gatherers into the first. A task has arrived if some `Arrive` of its pipeline
+/// names it and a gatherer that exists. It runs the tasks of the pieces that arrive, and no other. It is refused if
+/// memory was refused to it.
 pub fn rehearse_pair<A: Work, B: Work, L: Link<A, B>>(
     alloc: Global,
     inputs: Arc<Inputs<A>, Global>,
@@ -36,8 +33,7 @@ pub fn rehearse_pair<A: Work, B: Work, L: Link<A, B>>(
         Ok(total) => total,
         Err(task) => return Ok(Rehearsed::Missing { pipeline: 1, task }),
     };
-    let linked = link.link(alloc, total)?;
-    match linked {
+    match link.link(alloc, total)? {
         Linked::Halt { stop } => Ok(Rehearsed::Stopped { stop }),
         Linked::Next { inputs, kept } => {
             let inputs = Arc::new(alloc, inputs)?;
@@ -49,8 +45,8 @@ pub fn rehearse_pair<A: Work, B: Work, L: Link<A, B>>(
     }
 }
 
-/// Rehearses one pipeline: the total of all inputs, or the first task that has not arrived. The
-/// gatherers and their room are taken of this memory. It is refused as `rehearse_pair` is.
+/// Rehearses one pipeline: the total of all inputs, or the first task that has not arrived. The gatherers and their
+/// room are taken of this memory. It is refused as `rehearse_pair` is.
 #[tactic(auto, using(crate::proofs::Schedules::first_left_is))]
 pub fn rehearse_pipeline<W: Work, M: Allocator + Clone>(
     alloc: Global,
@@ -88,14 +84,31 @@ fn gather_by<W: Work, M: Allocator + Clone>(
     requires { 0 < gatherers }
     ensures inputs { IfOk result (λ g. g.inputs ≡ arc_value inputs.now) }
     ensures arrived { IfOk result (λ g. (task : ℕ) → contains g.covered task
-        ≡ (nat_lt task (length (arc_value inputs.now))
-        && has_arrived gatherers events.now task)) }
+        ≡ (nat_lt task (length (arc_value inputs.now)) && has_arrived gatherers events.now task)) }
 {
     let mut gatherings = empty_gatherings(alloc, memory, inputs, gatherers)?;
     apply_all(alloc, &mut gatherings, inputs, events)?;
     let mut first = gatherings.remove(0);
     unite_all(&mut first, gatherings);
     Ok(first)
+}
+
+/// A number of gatherings, which cover no task. They and their room are taken of this memory.
+fn empty_gatherings<W: Work, M: Allocator + Clone>(
+    alloc: Global,
+    memory: M,
+    inputs: &Arc<Inputs<W>, Global>,
+    count: u32,
+) -> Result<Vec<Gathering<W, M>, M>, OutOfMemory>
+    ensures inputs { IfOk result (λ all. All (λ g. g.inputs ≡ arc_value inputs.now) all.items) }
+    ensures empty { IfOk result (λ all. covered_sets all.items ≡ replicate count empty) }
+{
+    let mut all = Vec::new(memory.clone()?);
+    for _ in 0..count {
+        let inputs = Arc::try_clone(inputs)?;
+        all.push(Gathering::new_in(alloc, memory.clone()?, inputs)?)?;
+    }
+    Ok(all)
 }
 
 /// Merges all of them.

@@ -16,28 +16,20 @@ abbrev pub IfDay : Refused → (DayFault → Type 0) → Type 0
 IfDay (Day fault) P = P fault
 IfDay OutOfMemory P = Unit {0}
 
--- fewer trades than a file of the greatest length has room for
-abbrev pub AreFew : DayRows → Type 0
-AreFew rows = length rows.executions + length rows.own_priced < TRADE_LIMIT
-
 -- the rows of the messages of a whole file that count, all of whose lengths are right
 pub record AreOfDay (file : List ℕ) (as_of : Option ℕ) (rows : DayRows) : Type 0 where
   pub frames : List PlacedBody
   pub stands : StandsFor frames file
   pub right : first_wrong frames ≡ None
   pub are : rows ≡ rows_of (counted as_of (messages_of frames))
-  pub few : AreFew rows
+  pub few : length rows.executions + length rows.own_priced < TRADE_LIMIT
 
 -- the rows of some messages, by place
 pub record AreOfMessages (rows : DayRows) : Type 0 where
   pub messages : List Placed
   pub by_place : AreByPlace messages
   pub are : rows ≡ rows_of messages
-  pub few : AreFew rows
-
--- no reference is given again, and none is named that isn't known
-abbrev pub HaveNoFault : List OrderRow → List Execution → Type 0
-HaveNoFault orders executions = (first_repeated orders ≡ None) × (first_unknown orders executions ≡ None)
+  pub few : length rows.executions + length rows.own_priced < TRADE_LIMIT
 
 -- the first fault in the references
 abbrev pub IsReferenceFault : List OrderRow → List Execution → DayFault → Type 0

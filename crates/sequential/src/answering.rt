@@ -1,16 +1,17 @@
-ghost use Rattle.std.specs.Prelude.{◌≡◌, ℕ, ◌<◌, ◌++◌, List, All, IfErr, IfOk, length, map, nat_eq, Ok, Err};
+ghost use Rattle.std.specs.Prelude.{◌≡◌, ℕ, ◌<◌, ◌++◌, List, All, IfErr, IfOk, length, map, nat_eq, Ok, Err, OnOk};
 ghost use Rattle.std.specs.List.{IsDistinct};
 ghost use Rattle.std.specs.List.Sorted.{IsPermutation};
-ghost use Rattle.probe.specs.Pricing.{priced};
+ghost use Rattle.order_table.specs.Orders.{first_repeated};
+ghost use Rattle.probe.specs.Pricing.{first_unknown, priced};
 ghost use Rattle.probe.specs.Selection.{admits};
-ghost use Rattle.probe.specs.Trades.{kept};
+ghost use Rattle.probe.specs.Selection.{kept};
 ghost use Rattle.meaning.specs.Meaning.{Meaning};
 ghost use Rattle.row_types.specs.SalesByPlace.{IsByPlace};
 ghost use Rattle.time_and_sales.specs.Names.{last_row, name_text};
 ghost use Rattle.answers.specs.Answers.{IsAnswer, IsAnswerToMessages, IsTextOfSales, told_by};
 ghost use Rattle.day_rows.specs.DayRows.{AreByPlace, IsStamped, rows_of};
 ghost use Rattle.day_rows.specs.Messages.{Placed};
-ghost use Rattle.sequential.specs.Steps.{AreOfDay, AreOfMessages, HaveNoFault, IfDay, IsReferenceFault};
+ghost use Rattle.sequential.specs.Steps.{AreOfDay, AreOfMessages, IfDay, IsReferenceFault};
 
 use crate::OutOfMemory;
 use crate::refused::Refused;
@@ -110,7 +111,8 @@ fn text_of_rows<A: Allocator + Copy>(
 /// The executions at their orders' prices, and the sales that have a price of their own.
 fn trades_of<A: Allocator + Copy>(alloc: A, rows: &Rows<A>) -> Result<Vec<Sale, A>, Refused>
     requires { AreOfMessages rows.now }
-    ensures faultless { IfOk result (λ _. HaveNoFault rows.now.orders rows.now.executions) }
+    ensures repeated { OnOk result (first_repeated rows.now.orders ≡ None) }
+    ensures unknown { OnOk result (first_unknown rows.now.orders rows.now.executions ≡ None) }
     ensures trades { IfOk result (λ trades. trades.items
         ≡ priced rows.now.orders rows.now.executions ++ rows.now.own_priced) }
     ensures stamped { IfOk result (λ trades. All (λ sale. IsStamped sale.time sale.locate) trades.items) }
@@ -130,7 +132,8 @@ fn price<A: Allocator + Copy>(
 ) -> Result<Vec<Sale, A>, Refused>
     requires orders { IsDistinct nat_eq (map (λ row. row.place) orders.now) }
     requires executions { IsDistinct nat_eq (map (λ execution. execution.place) executions.now) }
-    ensures faultless { IfOk result (λ _. HaveNoFault orders.now executions.now) }
+    ensures repeated { OnOk result (first_repeated orders.now ≡ None) }
+    ensures unknown { OnOk result (first_unknown orders.now executions.now ≡ None) }
     ensures sales { IfOk result (λ sales. sales.items ≡ priced orders.now executions.now) }
     ensures fault { IfErr result (λ refused. IfDay refused (λ fault.
         IsReferenceFault orders.now executions.now fault)) }

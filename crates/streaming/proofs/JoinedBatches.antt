@@ -10,7 +10,7 @@ use Rattle.day_file.specs.Frames.{IsTruncatedAt}
 use Rattle.day_file.proofs.Fed.{fed_length_is, truncated_after_full}
 use Rattle.day_file.proofs.CutsBy.{cut_after}
 use Rattle.streaming.specs.Batches.{HasRead, IsLastFault, IsReadTo, IsReading, ReaderView, read_length}
-use Rattle.streaming.specs.Readings.{GaveAll, GaveMore, GaveSome, IsSourceFault, of_stream}
+use Rattle.streaming.specs.Readings.{GaveAll, GaveSome, IsSourceFault, of_stream}
 use Rattle.streaming.specs.declared.fault.SourceFault.{SourceFault}
 use Rattle.streaming.specs.declared.fault.SourceFault.TheVariants as fault
 
@@ -41,8 +41,8 @@ module _ {S : Type 0} {Gave : S → S → List ℕ → Type 0} (gave_more : (a b
   gave_some within =
       record { bytes = bytes ++ piece; gave = gave_more _ _ _ _ _ so_far gave; within = omega (arith, length-append bytes piece, within) }
 
-  pub gave_longer : {limit : ℕ} → length bytes + length piece ≡ limit + 1 → GaveMore Gave limit before now
-  gave_longer longer = record { bytes = bytes ++ piece; gave = gave_more _ _ _ _ _ so_far gave; longer = length-append bytes piece ∙ longer }
+  pub gave_longer : (limit : ℕ) → length bytes + length piece ≡ limit + 1 → (all : List ℕ) × Gave before now all × (length all ≡ limit + 1)
+  gave_longer limit longer = (bytes ++ piece, gave_more _ _ _ _ _ so_far gave, length-append bytes piece ∙ longer)
 
 -- and the cutter of a reader is fed it
 pub read_on : {S : Type 0} {Gave : S → S → List ℕ → Type 0} → ((a b c : S) (xs ys : List ℕ) → Gave a b xs → Gave b c ys → Gave a c (xs ++ ys))

@@ -50,12 +50,6 @@ module _ {S : Type 0} (Gave : S → S → List ℕ → Type 0) where
     pub gave : Gave before now bytes
     pub has : HasRead reader runs bytes
 
-  -- the reader has read on, and no batch was taken
-  pub record IsReadOn (was now : S) (old new : ReaderView) : Type 0 where
-    pub read : (before : S) (runs : List (List ℕ)) → IsReadTo before was runs old → IsReadTo before now runs new
-    pub number : new.first ≡ old.first
-    pub start : new.start ≡ old.start
-
   -- the batch goes on where the reader was: the source gave more, or with this batch all that it had
   pub record IsNextBatch (HasEnded : S → Type 0) (was now : S) (old new : ReaderView) (batch : Batch) : Type 0 where
     pub more : batch.is_last ≡ false → (before : S) (runs : List (List ℕ)) → IsReadTo before was runs old

@@ -40,27 +40,11 @@ module _ {S : Type 0} (Gave : S → S → List ℕ → Type 0) where
     pub gave : Gave before after bytes
     pub within : length bytes ≤ limit + 1
 
-  -- the source gave more than the limit: one byte more, since no more is asked for
-  pub record GaveMore (limit : ℕ) (before after : S) : Type 0 where
-    pub bytes : List ℕ
-    pub gave : Gave before after bytes
-    pub longer : length bytes ≡ limit + 1
-
   -- the source gave these bytes, no more than the limit, and has said that no byte is left
   pub record GaveAll (HasEnded : S → Type 0) (limit : ℕ) (before after : S) (day : List ℕ) : Type 0 where
     pub gave : Gave before after day
     pub ended : HasEnded after
     pub within : length day ≤ limit
-
--- bytes have a cut by the target that has more morsels than are allowed
-abbrev pub HasTooMany : ℕ → List ℕ → Type 0
-HasTooMany target day = (runs : List (List ℕ)) × IsCutBy target runs day × (MOST_MORSELS < length runs)
-
--- bytes are truncated, or their cut by the target has no more morsels than are allowed
-abbrev pub IsTruncatedOrFew : ℕ → List ℕ → Type 0
-IsTruncatedOrFew target day =
-    ((place : ℕ) × IsTruncatedAt day place)
-    ⊎ ((runs : List (List ℕ)) × IsCutBy target runs day × (length runs ≤ MOST_MORSELS))
 
 -- what is known of a source S that is read in order, and whose bytes are cut by the target, from its states before
 -- and after. `all` says of bytes that it gave them up to its end, within the limit, and that they are truncated or
@@ -70,10 +54,12 @@ IsTruncatedOrFew target day =
 -- call failed is a clause of its own: `failed` of `next_batch`, `read_failed` of `run`.
 abbrev pub of_stream : {S : Type 0} → (S → S → List ℕ → Type 0) → (S → Type 0) → ℕ → ℕ → S → S → Reading
 of_stream Gave HasEnded limit target before after = record {
-  all = λ day. GaveAll Gave HasEnded limit before after day × IsTruncatedOrFew target day;
+  all = λ day. GaveAll Gave HasEnded limit before after day × (((place : ℕ) × IsTruncatedAt day place)
+      ⊎ ((runs : List (List ℕ)) × IsCutBy target runs day × (length runs ≤ MOST_MORSELS)));
   some = GaveSome Gave limit before after;
-  longer = GaveMore Gave limit before after;
+  longer = (bytes : List ℕ) × Gave before after bytes × (length bytes ≡ limit + 1);
   failed = GaveSome Gave limit before after;
-  too_many = (day : List ℕ) × GaveAll Gave HasEnded limit before after day × HasTooMany target day;
+  too_many = (day : List ℕ) × GaveAll Gave HasEnded limit before after day
+      × ((runs : List (List ℕ)) × IsCutBy target runs day × (MOST_MORSELS < length runs));
   untouched = after ≡ before;
 }

@@ -4,7 +4,7 @@ ghost use Rattle.std.specs.List.{concat};
 ghost use Rattle.lists.specs.declared.limits.TheConstants.{LONGEST_FILE, MOST_MORSELS};
 ghost use Rattle.day_file.specs.Cuts.{IsCutBy};
 ghost use Rattle.day_file.specs.Feeding.{HasFed, fed_length};
-ghost use Rattle.streaming.specs.Batches.{HasRead, IsLastFault, IsNextBatch, IsReadOn, IsReadTo, IsReading};
+ghost use Rattle.streaming.specs.Batches.{HasRead, IsLastFault, IsNextBatch, IsReadTo, IsReading};
 ghost use Rattle.streaming.specs.Batches.{ReaderView, read_length};
 ghost use Rattle.streaming.specs.Readings.{IsSourceFault, of_stream};
 
@@ -108,11 +108,12 @@ impl BatchReader {
     // Feeds the cutter what one call of the source gives, and says whether it gave any byte.
     fn feed<S: Source>(&mut self, source: &mut S) -> Result<bool, SourceFault>
         requires source { S.has_failed source.old ≡ false }
-        ensures read { OnOk result (IsReadOn S.Gave source.old source.new self.old self.new) }
+        ensures read { OnOk result ((before : S) (runs : List (List ℕ))
+            → IsReadTo S.Gave before source.old runs self.old → IsReadTo S.Gave before source.new runs self.new) }
         ensures end { IfOk result (λ more. more ≡ false → S.HasEnded source.new) }
         ensures longer { IfOk result (λ more. more ≡ true → read_length self.old < read_length self.new) }
         ensures within { OnOk result (read_length self.new ≤ self.new.limit) }
-        ensures same { (self.new.limit ≡ self.old.limit) × (self.new.target ≡ self.old.target) }
+        ensures same { self.new ≡ record self.old { cutter = self.new.cutter } }
         ensures fault { IfErr result (λ fault. (before : S) (runs : List (List ℕ))
             → IsReadTo S.Gave before source.old runs self.old
             → IsSourceFault (of_stream S.Gave S.HasEnded self.old.limit self.old.target before source.new) fault) }

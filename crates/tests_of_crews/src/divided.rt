@@ -146,10 +146,10 @@ fn faults_of_divided_partitions_are_told(rt: HostRuntime) -> Result<(), Fail> {
 fn a_large_partition_is_divided(rt: HostRuntime) -> Result<(), Fail> {
     let query = parse(rt.alloc(), "bars 1 m")?;
     for (apart, parts, tasks) in [
-        (ONE_PARTITION, 64, 64 * 7),
-        (ONE_PARTITION, 256, 256 * 7),
-        (ONE_CLASS, 64, 64 * 9),
-        (ONE_CLASS, 256, 256 * 9),
+        (ONE_PARTITION, 64, 64 * 11),
+        (ONE_PARTITION, 256, 256 * 11),
+        (ONE_CLASS, 64, 64 * 15),
+        (ONE_CLASS, 256, 256 * 15),
         (ONE_PARTITION, 1, 1),
         (1, 64, 64),
     ] {

@@ -3,9 +3,8 @@
 ghost use Rattle.std.specs.Prelude.{◌≡◌, ℕ, ◌+◌, ◌*◌, ◌<◌, ◌≤◌, [], length, All, IfSome, OnOk};
 ghost use Rattle.std.specs.Prelude.{vec_len, slice_index_or};
 ghost use Rattle.std.specs.Arc.{arc_value};
-ghost use Rattle.dispatcher.specs.Seats.{identity, tasks_of, seats_of, home, claims, marked_tasks};
-ghost use Rattle.dispatcher.specs.Seats.{seen_tasks, IsSeatOf, IsSameSeat, IsUnused, MayClaim};
-ghost use Rattle.dispatcher.specs.Seats.{WasGiven};
+ghost use Rattle.dispatcher.specs.Seats.{tasks_of, seats_of, claims, marked_tasks, seen_tasks, IsSeatOf};
+ghost use Rattle.dispatcher.specs.Seats.{IsSameSeat, IsUnused, MayClaim, WasGiven};
 
 use dispatcher::{Claim, Dispatcher, OutOfMemory, Seat, SettleRefused, Tally};
 use linked_list_allocator::LocalHeap;

@@ -5,6 +5,8 @@
 #[cfg(test)]
 mod breaks;
 #[cfg(test)]
+mod dividing;
+#[cfg(test)]
 mod far;
 #[cfg(test)]
 mod needed;

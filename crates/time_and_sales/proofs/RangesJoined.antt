@@ -8,7 +8,7 @@ use Rattle.std.proofs.lemmas.List.{append-nil, flat_map_more, length-take-le, ge
 use Rattle.std.proofs.lemmas.List.Elements.{filter-append, All-head, All-tail}
 use Rattle.std.proofs.lemmas.List.Kept.{IsNonDecreasingBy-filter}
 use Rattle.lists.proofs.Lists.{filter_of_filter}
-use Rattle.time_and_sales.specs.Parted.{is_in_first}
+use Rattle.time_and_sales.specs.Texts.{is_in_first}
 
 -- ---- a loop over lists
 

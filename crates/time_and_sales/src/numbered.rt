@@ -1,7 +1,7 @@
 //! Items in the order of a number that each of them has, and the search for a range of numbers.
 ghost use Rattle.std.specs.Prelude.{◌≡◌, ℕ, filter, nat_lt, not};
 ghost use Rattle.std.specs.List.Sorted.{IsNonDecreasingBy};
-ghost use Rattle.time_and_sales.specs.Parted.{is_in_first};
+ghost use Rattle.time_and_sales.specs.Texts.{is_in_first};
 
 /// A number of each item.
 pub trait Numbered<T> {

@@ -1,13 +1,12 @@
 //! The lines of many listings, of ranges of places by threads.
-ghost use Rattle.std.specs.Prelude.{◌≡◌, ◌<◌, ◌≤◌, ◌++◌, All, IfOk, OnOk, List, drop, filter, length, map, nat_eq, slice_index};
+ghost use Rattle.std.specs.Prelude.{◌≡◌, ◌<◌, ◌≤◌, ◌++◌, All, IfOk, OnOk, List, drop, filter, length, map, nat_eq};
 ghost use Rattle.std.specs.List.{IsDistinct, flat_map};
-ghost use Rattle.std.specs.List.Sorted.{IsNonDecreasing, IsNonDecreasingBy, IsPermutation};
+ghost use Rattle.std.specs.List.Sorted.{IsNonDecreasingBy, IsPermutation};
 ghost use Rattle.lists.specs.declared.limits.TheConstants.{TIME_LIMIT};
 ghost use Rattle.row_types.specs.declared.trade.Sale.{Sale};
 ghost use Rattle.row_types.specs.SalesByPlace.{IsByPlace};
 ghost use Rattle.time_and_sales.specs.Names.{last_row, name_text};
-ghost use Rattle.time_and_sales.specs.Parted.{is_in_first};
-ghost use Rattle.time_and_sales.specs.Texts.{lines_text};
+ghost use Rattle.time_and_sales.specs.Texts.{is_in_first, lines_text};
 
 use crate::OutOfMemory;
 use crate::directory::Names;
@@ -42,52 +41,8 @@ pub fn lines_in_ranges<R: Threads + Sync>(
         ≡ lines_text (λ locate. name_text locate (last_row names.now locate)) all) }
 {
     let places = places_of(alloc, longest(listings), ranges)?;
-    let bounds = bounds_of(alloc, places.as_slice())?;
-    lines_from(rt, alloc, listings, names, bounds.as_slice())
-}
-
-/// The sales of the longest listing.
-fn longest<'a>(listings: &[&'a Listing]) -> &'a [Sale] {
-    let mut longest: &[Sale] = &[];
-    for listing in listings {
-        if longest.len() < listing.items().len() {
-            longest = listing.items();
-        }
-    }
-    longest
-}
-
-/// The places at which `parts` parts of the sales, of one length, begin, without the first.
-fn places_of(alloc: Global, sales: &[Sale], parts: u32) -> Result<Vec<u64>, OutOfMemory> {
-    let mut places = Vec::new(alloc);
-    for part in 1..parts {
-        let before = sales.len() / parts as usize * part as usize;
-        if let Some(sale) = sales.get(before) {
-            places.push(sale.place)?;
-        }
-    }
-    Ok(places)
-}
-
-/// The lines of the sales of all listings, in a piece for each bound: those from this bound on and
-/// below the next.
-fn lines_from<R: Threads + Sync>(
-    rt: &R,
-    alloc: Global,
-    listings: &[&Listing],
-    names: &Names,
-    bounds: &[u64],
-) -> Result<Vec<Vec<u8>>, OutOfMemory>
-    requires times { All (λ sale. sale.time < TIME_LIMIT)
-        (flat_map (λ listing. listing) (map (λ listing. listing.now) listings.now)) }
-    requires some { 0 < length bounds.now }
-    requires first { slice_index bounds.now 0 ≡ 0 }
-    requires rise { IsNonDecreasing bounds.now }
-    ensures { IfOk result (λ texts. (all : List Sale) → IsByPlace all →
-        IsPermutation (flat_map (λ listing. listing) (map (λ listing. listing.now) listings.now)) all →
-        flat_map (λ text. text.items) texts.items
-        ≡ lines_text (λ locate. name_text locate (last_row names.now locate)) all) }
-{
+    let made = bounds_of(alloc, places.as_slice())?;
+    let bounds = made.as_slice();
     texts_of(
         rt,
         alloc,
@@ -102,6 +57,24 @@ fn lines_from<R: Threads + Sync>(
                 (filter (is_in_first (λ sale. sale.place) (drop i bounds.entry.now)) all)) }
         { range_lines(alloc, listings, names, &bounds[i..]) },
     )
+}
+
+/// The sales of the longest listing.
+fn longest<'a>(listings: &[&'a Listing]) -> &'a [Sale] {
+    let sales = listings.iter().map(|listing| listing.items());
+    sales.max_by_key(|sales| sales.len()).unwrap_or(&[])
+}
+
+/// The places at which `parts` parts of the sales, of one length, begin, without the first.
+fn places_of(alloc: Global, sales: &[Sale], parts: u32) -> Result<Vec<u64>, OutOfMemory> {
+    let mut places = Vec::new(alloc);
+    for part in 1..parts {
+        let before = sales.len() / parts as usize * part as usize;
+        if let Some(sale) = sales.get(before) {
+            places.push(sale.place)?;
+        }
+    }
+    Ok(places)
 }
 
 /// The lines of the sales of all listings that are in the first range.

@@ -2,20 +2,18 @@
 ghost use Rattle.std.specs.Prelude.{◌≡◌, ℕ, ◌+◌, ◌-◌, ◌<◌, ◌≤◌, [], All, length, map, IfOk};
 ghost use Rattle.std.specs.List.{range_with_len};
 ghost use Rattle.lists.specs.declared.limits.TheConstants.{MOST_TASKS, MOST_SEATS};
-ghost use Rattle.dispatcher.specs.Rule.{everyone, view_from};
-ghost use Rattle.dispatcher.specs.Seats.{identity, tasks_of, seats_of, number, IsSeatOf, IsUnused};
+ghost use Rattle.dispatcher.specs.Rule.{unused_view};
+ghost use Rattle.dispatcher.specs.Seats.{tasks_of, seats_of, number, IsSeatOf, IsUnused};
 
 use super::Dispatcher;
-use crate::OutOfMemory;
 use crate::rule::{SeatSplit, Size, View};
-use crate::seat::Seat;
+use crate::{OutOfMemory, Seat};
 use atomic_table::Table;
 use std::alloc::Allocator;
 
 impl<A: Allocator + Clone> Dispatcher<A> {
-    /// A dispatcher of 1 to `MOST_TASKS` tasks and its 1 to `MOST_SEATS` seats, by number. Nothing
-    /// is claimed or marked yet. It is refused if there is no memory for a word for each task and
-    /// one more, or for the list of seats.
+    /// A dispatcher of 1 to `MOST_TASKS` tasks and its 1 to `MOST_SEATS` seats, by number. Nothing is claimed or
+    /// marked yet. It is refused if there is no memory for a word for each task and one more, or for the list of seats.
     pub fn new(
         alloc: A,
         tasks: u32,
@@ -49,11 +47,10 @@ impl<A: Allocator + Clone> Dispatcher<A> {
         alloc: A,
         mut rest: atomic_table::Seat<(), View>,
     ) -> Result<Vec<Seat, A>, OutOfMemory>
-        requires own { rest.table_id ≡ identity self.now }
-        requires everyone { rest.me ≡ (view_from 0 (seats_of self.now), []) }
+        requires own { rest.table_id ≡ self.now.table.shared.table_id }
+        requires everyone { rest.me ≡ (unused_view (range_with_len 0 (seats_of self.now)), []) }
         ensures count { IfOk result (λ list. length list.items ≡ seats_of self.now) }
-        ensures numbers { IfOk result (λ list.
-            map number list.items ≡ range_with_len 0 (seats_of self.now)) }
+        ensures numbers { IfOk result (λ list. map number list.items ≡ range_with_len 0 (seats_of self.now)) }
         ensures own { IfOk result (λ list. All (IsSeatOf self.now) list.items) }
         ensures unused { IfOk result (λ list. All IsUnused list.items) }
     {

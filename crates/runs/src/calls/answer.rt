@@ -1,24 +1,21 @@
 ghost use Rattle.std.specs.Prelude.{◌≡◌, ℕ, List, ◌<◌, ◌≤◌, Err, IfOk};
 ghost use Rattle.std.specs.List.{concat};
 ghost use Rattle.lists.specs.declared.limits.TheConstants.{MOST_PARTITIONS};
-ghost use Rattle.answers.specs.Answers.{IsAnswer, IsAnswerToMessages, told_by};
-ghost use Rattle.day_rows.specs.Messages.{Placed};
-ghost use Rattle.joining.specs.Gathered.{AreGatheredOf};
-ghost use Rattle.runs.specs.FirstPipeline.{IsOutcomeOf, IsScanOf, wrong_fault};
+ghost use Rattle.answers.specs.Answers.{IsAnswer, told_by};
+ghost use Rattle.runs.specs.Steps.{IsOutcomeOf};
 
 use crate::OutOfMemory;
 use answers::{Answer, DayFault};
 use buckets::BucketTotal;
 use day_file::Cut;
 use joining::answer_in_ranges;
-use pipelines::{Crew, FreeGate, Gate, Outcome, run_pair, run_second};
+use pipelines::{Crew, Gate, Outcome, run_pair};
 use planning::{DayPlan, PlanLink};
 use query::Query;
-use scanning::{ScanTotal, WrongLength, scan_inputs};
+use scanning::{WrongLength, scan_inputs};
 use std::alloc::Global;
 use std::sync::{Arc, Wait};
-use std::thread;
-use std::thread::Threads;
+use std::thread::{self, Threads};
 
 /// Answers a query over a cut day file on threads: by two pipelines, each with the crew's workers.
 /// The first has a task for each morsel; the second, which doesn't run if a wrong length was found,
@@ -45,26 +42,8 @@ pub fn answer<G: Gate, R: Threads + Wait + Sync>(
     answer_of_outcome(rt, alloc, query, outcome, crew)
 }
 
-/// The answer that the total of the scans of a whole file gives. The second pipeline runs alone.
-pub(crate) fn answer_scans<R: Threads + Wait + Sync>(
-    rt: &R,
-    alloc: Global,
-    total: ScanTotal,
-    query: &Query,
-    parts: u32,
-    crew: Crew,
-) -> Result<Answer, OutOfMemory>
-    requires parts { (0 < parts) × (parts ≤ MOST_PARTITIONS) }
-    requires total { (runs : List (List ℕ)) × IsScanOf query.now.as_of parts total runs }
-    ensures { (runs : List (List ℕ)) → IsScanOf query.now.as_of parts total runs →
-        IfOk result (λ answer. IsAnswer (concat runs) query.now (told_by answer)) }
-{
-    let link = PlanLink::dividing(query, parts);
-    let outcome = run_second(rt, alloc, total, &link, crew, &FreeGate)?;
-    answer_of_outcome(rt, alloc, query, outcome, crew)
-}
-
-/// The answer that the outcome of both pipelines gives.
+/// The answer that the outcome of both pipelines gives. As many threads as the crew has workers make its text.
+/// Meanwhile another one frees what the scans found, or the caller does first if none can be made.
 pub(crate) fn answer_of_outcome<R: Threads + Sync>(
     rt: &R,
     alloc: Global,
@@ -76,27 +55,10 @@ pub(crate) fn answer_of_outcome<R: Threads + Sync>(
     ensures { (runs : List (List ℕ)) → IsOutcomeOf query.now outcome runs →
         IfOk result (λ answer. IsAnswer (concat runs) query.now (told_by answer)) }
 {
-    match outcome {
-        Outcome::Finished { total, kept } => answer_of_total(rt, alloc, query, total, kept, crew),
-        Outcome::Stopped { stop } => Ok(told_of(stop)),
-    }
-}
-
-/// The answer that the total of all buckets gives. As many threads as the crew has workers make its text.
-/// Meanwhile another one frees what the scans found, or the caller does first if none can be made.
-fn answer_of_total<R: Threads + Sync>(
-    rt: &R,
-    alloc: Global,
-    query: &Query,
-    total: BucketTotal,
-    kept: DayPlan,
-    crew: Crew,
-) -> Result<Answer, OutOfMemory>
-    requires gathered { (messages : List Placed) × AreGatheredOf query.now total kept messages }
-    ensures { (messages : List Placed) → AreGatheredOf query.now total kept messages →
-        IfOk result (λ answer. IsAnswerToMessages messages query.now (told_by answer)) }
-{
-    let DayPlan { names, plan } = kept;
+    let (total, DayPlan { names, plan }) = match outcome {
+        Outcome::Finished { total, kept } => (total, kept),
+        Outcome::Stopped { stop } => return Ok(told_of(stop)),
+    };
     // (without a thread, what it was to free is let go with the error)
     let freeing = thread::spawn(rt, move || drop(plan)).ok();
     let answer = answer_in_ranges(rt, alloc, query, total, &names, crew.workers);
@@ -108,7 +70,8 @@ fn answer_of_total<R: Threads + Sync>(
 
 /// What is reported of a wrong length that the first pipeline found.
 pub fn told_of(wrong: WrongLength) -> Answer
-    ensures { told_by result ≡ Err (wrong_fault wrong) }
+    ensures { told_by result ≡ Err (DayFault.WrongLength
+        wrong.place wrong.fault.kind wrong.fault.length wrong.fault.wanted) }
 {
     Answer::Faulty(DayFault::WrongLength {
         place: wrong.place,

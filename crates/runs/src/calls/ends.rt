@@ -3,8 +3,8 @@ ghost use Rattle.std.specs.Prelude.{◌≡◌, ◌↔◌, false, true, Err, IfEr
 ghost use Rattle.answers.specs.Answers.{told_by};
 ghost use Rattle.query.specs.Grammar.{Means};
 ghost use Rattle.query.specs.Words.{words_of};
-ghost use Rattle.runs.specs.Runs.{is_read_failed, is_write_failed};
-ghost use Rattle.runs.specs.Sources.{IsHandedOver, IsQueryRefusal, reported};
+ghost use Rattle.runs.specs.Runs.{IsHandedOver, is_read_failed, is_write_failed};
+ghost use Rattle.runs.specs.Steps.{IsQueryRefusal, reported};
 
 use answers::{Answer, DayFault};
 use outcomes::RunFault;
@@ -28,7 +28,7 @@ pub(crate) fn query_of(alloc: Global, text: &str) -> Result<Query, RunFault>
 /// Writes the text of an answer to a sink, and reports its fault.
 pub(crate) fn hand_over<K: Sink>(answer: Answer, sink: &mut K) -> Result<(), RunFault>
     requires { K.has_failed sink.old ≡ false }
-    ensures handed { IsHandedOver K.Took K.HasFlushed sink.old sink.new (told_by answer) result }
+    ensures handed { IsHandedOver K.Took K.HasFlushed (λ told. told_by answer ≡ told) sink.old sink.new result }
     ensures write_failed { K.has_failed sink.new ≡ is_write_failed result }
 {
     match answer {

@@ -1,15 +1,15 @@
-ghost use Rattle.std.specs.Prelude.{◌≡◌, false, IfErr, IfOk};
-ghost use Rattle.std.specs.List.{concat};
-ghost use Rattle.answers.specs.Answers.{IsAnswer, told_by};
+ghost use Rattle.std.specs.Prelude.{◌≡◌, false};
 ghost use Rattle.streaming.specs.Readings.{of_stream};
 ghost use Rattle.runs.specs.Runs.{Ran, is_read_failed, is_write_failed};
-ghost use Rattle.runs.specs.Sources.{IsAnswered, IsSourceRefusal};
+ghost use Rattle.runs.specs.Steps.{IsAnsweredOrRefused};
 
-use crate::calls::answer::answer_scans;
+use crate::calls::answer::answer_of_outcome;
 use crate::calls::ends::{answer_of_fault, hand_over, query_of};
 use crate::calls::stream::scan_source;
 use answers::Answer;
 use outcomes::{RunFault, Settings};
+use pipelines::{FreeGate, run_second};
+use planning::PlanLink;
 use query::Query;
 use sinks::Sink;
 use std::alloc::{AllocError, Global};
@@ -41,7 +41,7 @@ pub fn run<R: Threads + Wait + Sync, S: Source, K: Sink>(
     hand_over(answer, sink)
 }
 
-/// The answer to a query over all that a source gives.
+/// The answer to a query over all that a source gives. The second pipeline runs alone.
 fn answer_source<R: Threads + Wait + Sync, S: Source>(
     rt: &R,
     alloc: Global,
@@ -50,24 +50,20 @@ fn answer_source<R: Threads + Wait + Sync, S: Source>(
     settings: Settings,
 ) -> Result<Answer, RunFault>
     requires { S.has_failed source.old ≡ false }
-    ensures answers { IfOk result (λ answer.
-        IsAnswered (of_stream S.Gave S.HasEnded settings.limit settings.morsel source.old source.new)
-        query.now (told_by answer)) }
-    ensures refused { IfErr result (IsSourceRefusal
-        (of_stream S.Gave S.HasEnded settings.limit settings.morsel source.old source.new) settings.limit) }
+    ensures answered { IsAnsweredOrRefused
+        (of_stream S.Gave S.HasEnded settings.limit settings.morsel source.old source.new)
+        query.now settings.limit result }
     ensures read_failed { S.has_failed source.new ≡ is_read_failed result }
 {
-    let Settings {
-        crew,
-        parts,
-        limit,
-        ..
-    } = settings;
     let total = match scan_source(rt, alloc, source, query.as_of, settings) {
         Ok(total) => total,
-        Err(fault) => return answer_of_fault(fault, limit),
+        Err(fault) => return answer_of_fault(fault, settings.limit),
     };
-    match answer_scans(rt, alloc, total, query, parts, crew) {
+    let link = PlanLink::dividing(query, settings.parts);
+    let Ok(outcome) = run_second(rt, alloc, total, &link, settings.crew, &FreeGate) else {
+        return Err(RunFault::OutOfMemory);
+    };
+    match answer_of_outcome(rt, alloc, query, outcome, settings.crew) {
         Ok(answer) => Ok(answer),
         Err(AllocError) => Err(RunFault::OutOfMemory),
     }

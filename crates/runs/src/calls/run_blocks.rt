@@ -1,20 +1,19 @@
-ghost use Rattle.std.specs.Prelude.{◌≡◌, false, IfErr, IfOk};
+ghost use Rattle.std.specs.Prelude.{◌≡◌, ℕ, List, false, IfErr, IfOk};
 ghost use Rattle.std.specs.Arc.{arc_value};
-ghost use Rattle.answers.specs.Answers.{told_by};
-ghost use Rattle.block_scan.specs.Blocks.{IsBlocksFault, of_blocks};
-ghost use Rattle.runs.specs.FirstPipeline.{IsOfAll, IsOutcomeOf};
+ghost use Rattle.std.specs.List.{concat};
+ghost use Rattle.block_scan.specs.Blocks.{GaveWhole, IsBlocksFault, of_blocks};
 ghost use Rattle.runs.specs.Runs.{Ran, is_write_failed};
-ghost use Rattle.runs.specs.Sources.{IsAnswered, IsSourceRefusal};
+ghost use Rattle.runs.specs.Steps.{IsAnsweredOrRefused, IsOutcomeOf};
 
 use crate::calls::answer::answer_of_outcome;
-use crate::calls::block_link::{BlockLink, BlocksStop};
+use crate::calls::block_link::BlockLink;
 use crate::calls::ends::{answer_of_fault, hand_over, query_of};
 use answers::Answer;
 use block_scan::{BlockSource, Division, SourceFault, block_inputs};
 use buckets::BucketTotal;
 use outcomes::{RunFault, Settings};
 use pipelines::{FreeGate, Gate, Outcome, run_pair};
-use planning::DayPlan;
+use planning::{DayPlan, PlanLink};
 use query::Query;
 use scanning::WrongLength;
 use sinks::Sink;
@@ -67,10 +66,8 @@ pub fn answer_blocks<G: Gate, R: Threads + Wait + Sync, S: BlockSource + Send + 
     settings: Settings,
     gate: &G,
 ) -> Result<Answer, RunFault>
-    ensures answers { IfOk result (λ answer. IsAnswered
-        (of_blocks S.GaveAt S.EndsAt S.FailsAt settings.limit (arc_value source.now)) query.now (told_by answer)) }
-    ensures refused { IfErr result (IsSourceRefusal
-        (of_blocks S.GaveAt S.EndsAt S.FailsAt settings.limit (arc_value source.now)) settings.limit) }
+    ensures { IsAnsweredOrRefused (of_blocks S.GaveAt S.EndsAt S.FailsAt settings.limit (arc_value source.now))
+        query.now settings.limit result }
 {
     let outcome = match outcome_of_blocks(rt, alloc, source, division, query, settings, gate) {
         Ok(outcome) => outcome,
@@ -92,26 +89,20 @@ fn outcome_of_blocks<G: Gate, R: Threads + Wait + Sync, S: BlockSource + Send + 
     settings: Settings,
     gate: &G,
 ) -> Result<Outcome<BucketTotal, DayPlan, WrongLength>, SourceFault>
-    ensures outcome { IfOk result (λ outcome. IsOfAll
-        (of_blocks S.GaveAt S.EndsAt S.FailsAt settings.limit (arc_value source.now)) (IsOutcomeOf query.now outcome)) }
+    ensures outcome { IfOk result (λ outcome. (runs : List (List ℕ))
+        × GaveWhole S.GaveAt S.EndsAt settings.limit (arc_value source.now) (concat runs)
+        × IsOutcomeOf query.now outcome runs) }
     ensures fault { IfErr result (IsBlocksFault S.GaveAt S.EndsAt S.FailsAt (arc_value source.now) settings.limit) }
 {
-    let Settings {
-        crew,
-        parts,
-        limit,
-        ..
-    } = settings;
+    let (parts, limit) = (settings.parts, settings.limit);
     let inputs = block_inputs(alloc, source, query.as_of, parts, limit, division)?;
     let Ok(inputs) = Arc::new(alloc, inputs) else {
         return Err(SourceFault::OutOfMemory);
     };
-    let link = BlockLink::new(query, parts);
-    match run_pair(rt, alloc, inputs, &link, crew, gate)? {
+    let plan = PlanLink::dividing(query, parts);
+    let link = BlockLink { plan };
+    match run_pair(rt, alloc, inputs, &link, settings.crew, gate)? {
         Outcome::Finished { total, kept } => Ok(Outcome::Finished { total, kept }),
-        Outcome::Stopped { stop } => match stop {
-            BlocksStop::WrongLength { wrong } => Ok(Outcome::Stopped { stop: wrong }),
-            BlocksStop::Refused { fault } => Err(fault),
-        },
+        Outcome::Stopped { stop } => Ok(Outcome::Stopped { stop: stop? }),
     }
 }

@@ -1,7 +1,8 @@
 //! A source that is read batch by batch, while threads scan the batch before.
-ghost use Rattle.std.specs.Prelude.{◌≡◌, ◌↔◌, false, true, IfErr, IfOk, IsErrOf};
+ghost use Rattle.std.specs.Prelude.{◌≡◌, ◌↔◌, ℕ, List, false, true, IfErr, IfOk, IsErrOf};
+ghost use Rattle.std.specs.List.{concat};
 ghost use Rattle.streaming.specs.Readings.{IsSourceFault, of_stream};
-ghost use Rattle.runs.specs.FirstPipeline.{IsBatchRead, IsOfAll, IsScanOf, IsScanOfBatch};
+ghost use Rattle.runs.specs.Steps.{IsBatchRead, IsScanOf};
 
 use crate::OutOfMemory;
 use outcomes::Settings;
@@ -27,9 +28,9 @@ pub(crate) fn scan_source<R: Threads + Wait + Sync, S: Source>(
     settings: Settings,
 ) -> Result<ScanTotal, SourceFault>
     requires source { S.has_failed source.old ≡ false }
-    ensures scanned { IfOk result (λ total. IsOfAll
-        (of_stream S.Gave S.HasEnded settings.limit settings.morsel source.old source.new)
-        (IsScanOf as_of settings.parts total)) }
+    ensures scanned { IfOk result (λ total. (runs : List (List ℕ))
+        × (of_stream S.Gave S.HasEnded settings.limit settings.morsel source.old source.new).all (concat runs)
+        × IsScanOf 0 0 as_of settings.parts runs total) }
     ensures fault { IfErr result
         (IsSourceFault (of_stream S.Gave S.HasEnded settings.limit settings.morsel source.old source.new)) }
     ensures failed { IsErrOf result SourceFault.ReadFailed ↔ (S.has_failed source.new ≡ true) }
@@ -57,12 +58,14 @@ fn scan_and_read<R: Threads + Wait + Sync, S: Source>(
     source: &mut S,
 ) -> (Result<ScanTotal, OutOfMemory>, Result<Batch, SourceFault>)
     requires source { S.has_failed source.old ≡ false }
-    ensures scans { IfOk result.0 (IsScanOfBatch as_of settings.now.parts batch.now) }
+    ensures scans { IfOk result.0
+        (IsScanOf batch.now.first batch.now.start as_of settings.now.parts batch.now.cut) }
     ensures next { IsBatchRead S.Gave S.HasEnded S.has_failed source.old source.new
         reader.old reader.new result.1 }
 {
     let mut scan = || -> Result<ScanTotal, OutOfMemory>
-        ensures { IfOk result (IsScanOfBatch as_of settings.entry.now.parts batch.entry.now) }
+        ensures { IfOk result (IsScanOf batch.entry.now.first batch.entry.now.start as_of
+            settings.entry.now.parts batch.entry.now.cut) }
     { scan(rt, alloc, batch, as_of, settings) };
     let mut read = || -> Result<Batch, SourceFault>
         requires { S.has_failed source.now ≡ false }
@@ -80,7 +83,7 @@ fn scan<R: Threads + Wait + Sync>(
     as_of: Option<u32>,
     settings: &Settings,
 ) -> Result<ScanTotal, OutOfMemory>
-    ensures { IfOk result (IsScanOfBatch as_of settings.now.parts batch.now) }
+    ensures { IfOk result (IsScanOf batch.now.first batch.now.start as_of settings.now.parts batch.now.cut) }
 {
     let Settings { crew, parts, .. } = *settings;
     let inputs = batch_inputs(alloc, &batch.cut, batch.first, batch.start, as_of, parts)?;

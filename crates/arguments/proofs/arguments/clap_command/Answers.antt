@@ -1,12 +1,12 @@
-use Rattle.std.proofs.Common.{ap, ap₂, codes, ◌≡◌, ◌∙◌}
+use Rattle.std.proofs.Common.{ap, ap₂, codes, true, ◌≡◌, ◌∙◌}
 use Rattle.std.proofs.lemmas.Result.{IfOk-weaker}
-use Rattle.clap.specs.Words.{app_of, new_app, with_rule}
-use Rattle.arguments.specs.Arguments.{with_version}
-use Rattle.clap.specs.Simple.{app_of_fields}
+use Rattle.clap.specs.Words.{Shape, app_of, new_app, with_rule}
+use Rattle.clap.specs.Simple.{app_of_fields, on_top}
 use Rattle.arguments.proofs.arguments.clap_command.Goals as goal
 
 pub returns : goal.returns
 returns c =
+    let with_version = on_top (λ (shape : Shape). record shape { has_version = true }) in
     let start_is : app_of c.after_help.result ≡ with_version (new_app (codes "itch_bars")) =
     ap app_of_fields c.after_help.ensures ∙ (ap app_of_fields c.override_usage.ensures ∙ (ap app_of_fields c.about.ensures
     ∙ (ap app_of_fields c.version.ensures ∙ ap with_version c.new.ensures.app))) in
@@ -14,7 +14,7 @@ returns c =
     ∙ ap₂ with_rule (c.in_ok-arg-5.ensures.shape c.partitions_option.ensures.local
     ∙ ap₂ with_rule (c.in_ok-arg-4.ensures.shape c.morsel_option.ensures.local
     ∙ ap₂ with_rule (c.in_ok-arg-3.ensures.shape c.workers_option.ensures.local
-    ∙ ap₂ with_rule (c.in_ok-arg-2.ensures.shape c.query_argument.ensures.local
-    ∙ ap₂ with_rule (c.in_ok-arg.ensures.shape c.file_argument.ensures.local
-    ∙ ap₂ with_rule start_is c.file_argument.ensures.rule) c.query_argument.ensures.rule) c.workers_option.ensures.rule)
+    ∙ ap₂ with_rule (c.in_ok-arg-2.ensures.shape c.required_argument.ensures.local
+    ∙ ap₂ with_rule (c.in_ok-arg.ensures.shape c.required_argument-file.ensures.local
+    ∙ ap₂ with_rule start_is c.required_argument-file.ensures.rule) c.required_argument.ensures.rule) c.workers_option.ensures.rule)
     c.morsel_option.ensures.rule) c.partitions_option.ensures.rule) c.gatherers_option.ensures.rule) c.arg-6.ensures

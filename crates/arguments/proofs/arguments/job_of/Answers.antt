@@ -1,7 +1,16 @@
 use Rattle.std.proofs.Common.{◌∙◌, ap, codes, Some, rules}
 use Rattle.clap.specs.Words.{found_of}
-use Rattle.arguments.proofs.Texts.{text_unwrapped}
+use Rattle.arguments.proofs.Texts.{text_found, text_unwrapped}
+use Rattle.arguments.proofs.Whole.{whole}
 use Rattle.arguments.proofs.arguments.job_of.Goals as goal
+
+pub unwrap-file-requires : goal.unwrap-file-requires
+unwrap-file-requires c =
+    text_found (found_of c.args.matches.now) (codes "FILE") c.get_str.result c.get_str.ensures (whole c.args.matches.now c.requires).file
+
+pub unwrap-query-requires : goal.unwrap-query-requires
+unwrap-query-requires c =
+    text_found (found_of c.args.matches.now) (codes "QUERY") c.get_str-2.result c.get_str-2.ensures (whole c.args.matches.now c.requires).query
 
 pub returns : goal.returns
 returns c = record {

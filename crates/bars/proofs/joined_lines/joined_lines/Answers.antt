@@ -10,7 +10,7 @@ use Rattle.bars.specs.Steps.{bar_at}
 use Rattle.bars.specs.Texts.{IsWritable, bar_line}
 use Rattle.bars.proofs.LastBar.{equal_from, joined_to_last, next_bar, put_behind_last}
 use Rattle.bars.proofs.JoinedTables.{union_of_none, joined_traded, one_union, table_has, union_of_one}
-use Rattle.bars.proofs.SumsAreBounded.{average_fits, each_joins}
+use Rattle.bars.proofs.SumsAreBounded.{average_fits}
 use Rattle.bars.proofs.joined_lines.joined_lines.Goals.{then-has_key_of, else-has_key_of+in_ok-write_bar}
 use Rattle.bars.proofs.joined_lines.joined_lines.Goals as goal
 
@@ -28,7 +28,7 @@ pub join-current-requires : goal.join-current-requires
 join-current-requires c =
     let h = c.loop-i.invariant in
     let next = next_bar bar_at c.args.sorted.now c.loop-i.i c.index-sorted-i.result c.bar-bar.result (h.done ++ c.loop-i.current ∷ []) c.requires.rise
-    (each_joins (map bar_at c.args.sorted.now) c.requires.sums) (omega arith) (c.bar-bar.ensures ∙ ap bar_at c.index-sorted-i.is) h.union in
+    c.requires.sums (omega arith) (c.bar-bar.ensures ∙ ap bar_at c.index-sorted-i.is) h.union in
     next.0.sums c.loop-i.current (Contains-push h.done c.loop-i.current) (equal_from _ (sym c.has_key_of.ensures ∙ c.if-has_key_of.true))
 
 pub write_bar-requires : goal.write_bar-requires
@@ -43,7 +43,7 @@ loop-i-preserved c =
     let bar = c.bar-bar.result in
     let table = h.done ++ c.loop-i.current ∷ [] in
     let next = next_bar bar_at c.args.sorted.now c.loop-i.i c.index-sorted-i.result bar table c.requires.rise
-    (each_joins (map bar_at c.args.sorted.now) c.requires.sums) (omega arith)
+    c.requires.sums (omega arith)
     (c.bar-bar.ensures ∙ ap bar_at c.index-sorted-i.is) h.union in
     elim c.if-has_key_of.branch [
       | then-has_key_of w ↦
@@ -74,7 +74,7 @@ loop-i-init c =
       done = [];
       text = c.in_ok-text.ensures.items;
       union = (next_bar bar_at c.args.sorted.now 0 c.index-sorted-0.result bar [] c.requires.rise
-          (each_joins (map bar_at c.args.sorted.now) c.requires.sums) (omega (arith, some))
+          c.requires.sums (omega (arith, some))
           (c.bar-current.ensures ∙ ap bar_at c.index-sorted-0.is) union_of_none).1 (bar ∷ []) (union_of_one bar);
       name = c.name-name.ensures;
     }

@@ -1,5 +1,5 @@
 use Rattle.std.proofs.Common.{List, map, take, filter, flat_map, Bor, All}
-use Rattle.time_and_sales.specs.Parted.{is_in_first}
+use Rattle.time_and_sales.specs.Texts.{is_in_first}
 use Rattle.bars.specs.Bars.{Bar, IsTraded}
 use Rattle.bars.specs.Steps.{AreJoinedAlike, bar_at}
 use Rattle.bars.proofs.BarsInRanges.{locate_of}

@@ -2,7 +2,7 @@ use Rattle.std.proofs.Common.{List, ◌<◌, map, filter, Bor}
 use Rattle.std.proofs.lemmas.Result.{IfOk-weaker}
 use Rattle.std.proofs.lemmas.List.Elements.{All-filter}
 use Rattle.lists.specs.declared.limits.TheConstants.{TIME_LIMIT}
-use Rattle.time_and_sales.specs.Parted.{is_in_first}
+use Rattle.time_and_sales.specs.Texts.{is_in_first}
 use Rattle.bars.specs.Bars.{Bar, all_bars}
 use Rattle.bars.proofs.BarsInRanges.{first_as_locate, IsUnionOf-within, locate_of, starts_alike, sums_within}
 use Rattle.bars.proofs.JoinedTables.{union_alike}

@@ -1,7 +1,7 @@
 use Rattle.std.proofs.Common.{◌∷◌, [], ◌++◌, map, sym, ap, ap₂, ◌∙◌, arith, ◌≡◌}
 use Rattle.std.specs.Arc.{arc_value}
 use Rattle.std.proofs.lemmas.List.FromFn.{map-range_with_len_more}
-use Rattle.lists.proofs.Lists.{map_more}
+use Rattle.std.proofs.lemmas.List.{map_push}
 use Rattle.lists.specs.Least.{numbers_below}
 use Rattle.block_scan.specs.Attempts.{block_at}
 use Rattle.block_scan.proofs.blocks.blocks.Goals as goal
@@ -10,7 +10,7 @@ pub loop-number-preserved : goal.loop-number-preserved
 loop-number-preserved g c =
     let block = block_at (arc_value c.args.source.now) c.args.request c.args.division.blocks in
     ap (map arc_value) c.in_ok-push.ensures.items
-    ∙ map_more arc_value c.loop-number.blocks.items c.in_ok-new.field-0
+    ∙ map_push arc_value c.loop-number.blocks.items c.in_ok-new.field-0
     ∙ ap₂ (λ l b. l ++ b ∷ []) c.loop-number.invariant
     (c.in_ok-new.ensures.ok ∙ c.block-block.ensures
     ∙ ap (λ s. block_at s c.args.request c.args.division.blocks c.loop-number.number) c.in_ok-try_clone.ensures)

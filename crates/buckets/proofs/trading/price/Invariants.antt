@@ -1,6 +1,6 @@
 use Rattle.std.proofs.Common.{List, take}
 use Rattle.row_types.specs.declared.order.OrderRow.{OrderRow}
-use Rattle.probe.specs.PricedBefore.{IsPricingOf}
+use Rattle.probe.specs.Pricing.{IsPricingOf}
 use Rattle.buckets.specs.BucketRows.{rows_of_parts}
 use Rattle.buckets.proofs.trading.price.Given as goal
 

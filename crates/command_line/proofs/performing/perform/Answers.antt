@@ -1,5 +1,4 @@
-use Rattle.std.proofs.Common.{◌∙◌, ap, rules, sym}
-use Rattle.command_line.specs.Outcomes.{tells_failed_reading}
+use Rattle.std.proofs.Common.{◌∙◌, ◌==◌, ap, rules, sym}
 use Rattle.command_line.proofs.Ended.{read_failed_status}
 use Rattle.command_line.proofs.performing.perform.Goals as goal
 
@@ -9,4 +8,4 @@ returns-clause-did g c =
 
 pub returns-clause-read_failed : goal.returns-clause-read_failed
 returns-clause-read_failed g c =
-    c.run-outcome.ensures.read_failed ∙ (read_failed_status c.run-outcome.result ∙ ap tells_failed_reading (sym c.report.ensures.status))
+    c.run-outcome.ensures.read_failed ∙ (read_failed_status c.run-outcome.result ∙ ap (λ s. s == 4) (sym c.report.ensures.status))

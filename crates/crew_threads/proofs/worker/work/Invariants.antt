@@ -1,5 +1,5 @@
 use Rattle.std.proofs.Common.{◌*◌, ◌-◌}
-use Rattle.dispatcher.specs.Claims.{above}
+use Rattle.dispatcher.proofs.Rising.{above}
 use Rattle.dispatcher.specs.Seats.{tasks_of, claims, marked_tasks}
 use Rattle.crew_threads.specs.Workers.{TookPieces}
 use Rattle.crew_threads.proofs.Workers.{IsWorking}

@@ -1,7 +1,7 @@
 use Rattle.std.proofs.Common.{◌≡◌, ◌+◌, ◌≤◌, ◌++◌, List, take, vec_capacity, vec_len}
 use Rattle.order_table.specs.declared.OrderRow.{OrderRow}
 use Rattle.probe.specs.Pricing.{Execution}
-use Rattle.probe.specs.PricedBefore.{IsPricingOf}
+use Rattle.probe.specs.Pricing.{IsPricingOf}
 use Rattle.probe.proofs.pricing.price_each.Given as goal
 
 -- those before, and the executions so far, in the room that was there

@@ -2,8 +2,7 @@ use Rattle.std.proofs.Common.{◌≡◌}
 use Rattle.std.specs.List.{list_all}
 use Rattle.query.specs.Values.{is_kind}
 use Rattle.query.specs.Words.{parts}
-use Rattle.query.specs.TextLeft.{after_part}
-use Rattle.query.proofs.CutAtSeparator.{left}
+use Rattle.query.proofs.CutAtSeparator.{after_part, left}
 use Rattle.query.proofs.values.are_kinds.Given as goal
 
 abbrev pub invariant-loop-rest : goal.invariant-loop-rest

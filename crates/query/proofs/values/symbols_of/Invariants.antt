@@ -1,9 +1,8 @@
 use Rattle.std.proofs.Common.{◌≡◌, ◌++◌, true}
 use Rattle.std.specs.List.{list_all}
-use Rattle.meaning.specs.Symbols.{is_symbol}
+use Rattle.meaning.specs.Meaning.{is_symbol}
 use Rattle.query.specs.Words.{parts}
-use Rattle.query.specs.TextLeft.{after_part}
-use Rattle.query.proofs.CutAtSeparator.{left}
+use Rattle.query.proofs.CutAtSeparator.{after_part, left}
 use Rattle.query.proofs.values.symbols_of.Given as goal
 
 abbrev pub invariant-loop-rest : goal.invariant-loop-rest

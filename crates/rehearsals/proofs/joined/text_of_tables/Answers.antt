@@ -17,7 +17,7 @@ text_of_bars-requires c =
     let each : AreBarsOfEach c.args.width c.requires.0 (map (λ (t : Bor (List Bar)). t.now) c.deref-2.result.now) = rw c.deref-2.ensures.value
     (tables_are _ _ _ _ c.requires.1 told) in
     rw c.items.ensures.value (table_is_writable c.args.width (all_sales c.requires.0) c.in_ok-table.table
-    (c.in_ok-table.ensures.bars c.args.width c.requires.0 each) c.in_ok-table.ensures.traded (times_fit _ c.requires.1.listable.stamped))
+    (c.in_ok-table.ensures.bars c.args.width c.requires.0 each) c.in_ok-table.ensures.traded (times_fit _ c.requires.1.stamped))
 
 pub returns : goal.returns
 returns c = on_ok c.text_of_bars.result _ _ (λ text is lists of.

@@ -13,13 +13,13 @@ returns-in-WrongLength-clause-items c = rw c.in-WrongLength.is (two_lengths c.ar
     (codes "place ") (decimal c.in-WrongLength.place) (codes ": message ") c.in-WrongLength.kind
     (codes " has length ") (decimal c.in-WrongLength.length) (codes ", not ") (decimal c.in-WrongLength.wanted)
     _ _ _ _ c.push_number-in-WrongLength.ensures.items c.push.ensures.items
-    c.push_length.ensures.items c.push_length-in-WrongLength.ensures.items)
+    c.push_number-in-WrongLength-2.ensures.items c.push_decimal.ensures.items)
 
 pub returns-in-RepeatedReference-clause-items : goal.returns-in-RepeatedReference-clause-items
 returns-in-RepeatedReference-clause-items c = rw c.in-RepeatedReference.is (two_more c.args.line.now.items
     (codes "place ") (decimal c.in-RepeatedReference.place) (codes ": order reference ")
     (decimal c.in-RepeatedReference.order_no) (codes " was given before") _ _ _
-    c.push_number-in-RepeatedReference.ensures.items c.push_decimal.ensures.items c.push_text.ensures.items)
+    c.push_number-in-RepeatedReference.ensures.items c.push_decimal-in-RepeatedReference.ensures.items c.push_text.ensures.items)
 
 pub returns-in-UnknownReference-clause-items : goal.returns-in-UnknownReference-clause-items
 returns-in-UnknownReference-clause-items c = rw c.in-UnknownReference.is (two_more c.args.line.now.items

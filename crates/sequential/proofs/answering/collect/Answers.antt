@@ -1,18 +1,18 @@
-use Rattle.std.proofs.Common.{◌≡◌, ◌∷◌, ◌++◌, ◌≤◌, ◌^◌, Err, arith, length, refl, sym, ap, ◌∙◌, subst, nat_cmp, append-nil}
+use Rattle.std.proofs.Common.{◌≡◌, ◌∷◌, ◌++◌, ◌+◌, ◌<◌, ◌≤◌, ◌^◌, Err, arith, length, refl, sym, ap, ◌∙◌, subst, nat_cmp, append-nil}
 use Rattle.std.specs.List.Sorted.{IsStrictlySortedBy}
 use Rattle.std.proofs.lemmas.Option.{MatchOption-at_none, MatchOption-at_some}
 use Rattle.std.proofs.lemmas.Result.{err_from_is_err_and}
 use Rattle.lists.specs.Least.{least_by}
+use Rattle.lists.specs.declared.limits.TheConstants.{TRADE_LIMIT}
 use Rattle.day_file.specs.Frames.{IsTruncatedAt, IsWhole, PlacedBody, spelling}
 use Rattle.day_file.specs.Placed.{placed_body}
 use Rattle.day_file.proofs.Laws.{places_rise}
 use Rattle.answers.specs.Answers.{DayFault, IsAnswer, WrongLength}
-use Rattle.day_rows.specs.DayRows.{counted_rows_at, joined, rows_of}
+use Rattle.day_rows.specs.DayRows.{DayRows, counted_rows_at, joined, rows_of}
 use Rattle.day_rows.specs.Messages.{counted, first_wrong, messages_of}
 use Rattle.answers.proofs.AnswerOfSteps.{truncation_answers, wrong_length_answers}
 use Rattle.day_rows.proofs.FewTrades.{few_trades}
 use Rattle.day_rows.proofs.RowsOfFrames.{collects, right_length, wrong_first}
-use Rattle.sequential.specs.Steps.{AreFew}
 use Rattle.sequential.proofs.answering.collect.Goals as goal
 
 pub loop-frame-preserved : goal.loop-frame-preserved
@@ -70,5 +70,6 @@ returns-clause-rows g c =
       stands = whole.1;
       right = ap first_wrong front ∙ ap (least_by (λ (f : PlacedBody). f.place)) so_far.none;
       are = are;
-      few = subst AreFew (sym are) (few_trades c.args.as_of c.args.day.now whole.0 whole.1 within);
+      few = subst (λ (r : DayRows). length r.executions + length r.own_priced < TRADE_LIMIT) (sym are)
+          (few_trades c.args.as_of c.args.day.now whole.0 whole.1 within);
     }

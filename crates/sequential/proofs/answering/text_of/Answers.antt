@@ -12,7 +12,7 @@ of_sales-requires-clause-places g c = listing_places c.items-sales.result.now c.
 
 pub of_sales-requires-clause-width : goal.of_sales-requires-clause-width
 of_sales-requires-clause-width g c =
-    let within = c.query.invariant.sound.width c.in-Bars.width c.in-Bars.is in (grind (arith, nat_tests), grind (arith, nat_tests))
+    let within = c.query.invariant.width c.in-Bars.width c.in-Bars.is in (grind (arith, nat_tests), grind (arith, nat_tests))
 
 pub text_of_bars-requires : goal.text_of_bars-requires
 text_of_bars-requires g c =

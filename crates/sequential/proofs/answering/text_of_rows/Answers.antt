@@ -1,15 +1,15 @@
-use Rattle.std.proofs.Common.{◌∙◌, ◌++◌, ap, subst}
+use Rattle.std.proofs.Common.{◌∙◌, ◌++◌, ap, subst, sym}
 use Rattle.lists.specs.declared.limits.TheConstants.{TRADE_LIMIT}
 use Rattle.time_and_sales.specs.Names.{IsNamesOf, last_row, name_text}
-use Rattle.probe.specs.Pricing.{priced}
+use Rattle.order_table.specs.Orders.{first_repeated}
+use Rattle.probe.specs.Pricing.{first_unknown, priced}
 use Rattle.probe.specs.Selection.{admits}
 use Rattle.day_rows.specs.DayRows.{DayRows}
-use Rattle.day_rows.specs.Messages.{directory_rows, executions, order_rows}
+use Rattle.day_rows.specs.Messages.{directory_rows}
 use Rattle.answers.proofs.AnswerOfSteps.{text_answers, text_asked}
 use Rattle.answers.proofs.SelectedSales.{listing_few, listing_shares, selected}
 use Rattle.day_rows.proofs.RowsByPlace.{kept_distinct}
 use Rattle.day_rows.proofs.StampedSales.{fits_listing}
-use Rattle.sequential.specs.Steps.{HaveNoFault}
 use Rattle.sequential.proofs.answering.text_of_rows.Goals as goal
 
 pub list-listing-requires : goal.list-listing-requires
@@ -43,8 +43,7 @@ returns-clause-text g c messages up are =
     c.list-listing.result up breaks all c.in_ok-trades.ensures.stamped names
     c.in_ok-selection.ensures.locates c.in_ok-selection.ensures.span c.in_ok-selection.ensures.kinds c.list-listing.ensures.by_place
     c.list-listing.ensures.permutation in
-    let faultless : HaveNoFault (order_rows messages) (executions messages) =
-    subst (λ (r : DayRows). HaveNoFault r.orders r.executions) are c.in_ok-trades.ensures.faultless in
-    text_answers messages c.args.query.now c.in_ok-text_of.field-0 faultless.0 faultless.1
+    text_answers messages c.args.query.now c.in_ok-text_of.field-0 (ap (λ (r : DayRows). first_repeated r.orders) (sym are) ∙ c.in_ok-trades.ensures.repeated)
+    (ap (λ (r : DayRows). first_unknown r.orders r.executions) (sym are) ∙ c.in_ok-trades.ensures.unknown)
     (text_asked messages c.args.query.now c.list-listing.result (λ locate. name_text locate (last_row c.in_ok-names.names locate)) c.in_ok-text_of.field-0
     listing (λ locate. ap (name_text locate) (names locate)) c.in_ok-text_of.ensures)

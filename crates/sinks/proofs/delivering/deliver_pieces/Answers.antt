@@ -1,4 +1,4 @@
-use Rattle.std.proofs.Common.{Vec, List, flat_map, length, take, ℕ, subst, sym}
+use Rattle.std.proofs.Common.{Vec, List, flat_map, take, ℕ, subst, sym}
 use Rattle.sinks.proofs.Written.{front_stays, whole_front}
 use Rattle.sinks.proofs.delivering.deliver_pieces.Goals as goal
 

@@ -1,4 +1,4 @@
-use Rattle.std.proofs.Common.{◌≡◌, false, length, take, Vec}
+use Rattle.std.proofs.Common.{◌≡◌, false, length, take}
 use Rattle.std.specs.List.{flat_map}
 use Rattle.sinks.proofs.delivering.put_pieces.Given as goal
 

@@ -13,7 +13,7 @@ returns-in_err-taken-clause-fault g c =
 
 pub returns-then-taken-left-clause-fault : goal.returns-then-taken-left-clause-fault
 returns-then-taken-left-clause-fault g c = λ before bytes limit target so_far long.
-    gave_longer g.met.S.Source.gave_more so_far c.in_ok-taken.ensures.gave (omega (
+    gave_longer g.met.S.Source.gave_more so_far c.in_ok-taken.ensures.gave limit (omega (
       arith,
       long,
       length-take-le c.in_ok-taken.taken c.take.new.into c.in_ok-taken.ensures.count,

@@ -1,9 +1,8 @@
 use Rattle.std.proofs.Common.{ℕ, ◌-◌, ◌*◌, ◌<◌, List, subst, sym, ◌∙◌, arith}
 use Rattle.std.proofs.lemmas.Grind.{common_steps, elements}
-use Rattle.dispatcher.specs.Claims.{above}
 use Rattle.dispatcher.specs.Seats.{claims, tasks_of}
 use Rattle.tests_of_gatherings.proofs.claims.work.Goals as goal
-use Rattle.dispatcher.proofs.Rising.{falls}
+use Rattle.dispatcher.proofs.Rising.{above, falls}
 
 pub loop-task-smaller : goal.loop-task-smaller
 loop-task-smaller c = let tasks : ℕ = tasks_of c.args.dispatcher.now in let before : List ℕ = claims c.loop-task.seat in

@@ -1,5 +1,5 @@
 use Rattle.std.proofs.Common.{◌-◌, ◌*◌}
-use Rattle.dispatcher.specs.Claims.{above}
+use Rattle.dispatcher.proofs.Rising.{above}
 use Rattle.dispatcher.specs.Seats.{claims, tasks_of, IsSameSeat, IsSeatOf, MayClaim}
 use Rattle.tests_of_gatherings.proofs.claims.work.Given as goal
 

@@ -1,4 +1,4 @@
-use Rattle.std.proofs.Common.{◌≡◌, ℕ, ◌<◌, false, eqb, map, length, List, arith, rules, ltb}
+use Rattle.std.proofs.Common.{◌<◌, eqb, map, length, List, arith, rules, ltb}
 use Rattle.std.specs.List.{AllPairs, IsDistinct}
 use Rattle.std.proofs.lemmas.List.{length-map, get_or-map}
 use Rattle.std.proofs.lemmas.List.Sorted.{answers_always}

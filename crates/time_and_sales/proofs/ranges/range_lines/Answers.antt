@@ -2,7 +2,7 @@ use Rattle.std.proofs.Common.{arith, ℕ, List, ◌<◌}
 use Rattle.std.proofs.lemmas.Result.{IfOk-weaker}
 use Rattle.lists.specs.declared.limits.TheConstants.{TIME_LIMIT}
 use Rattle.time_and_sales.specs.Names.{last_row, name_text}
-use Rattle.time_and_sales.specs.Parted.{is_in_first}
+use Rattle.time_and_sales.specs.Texts.{is_in_first}
 use Rattle.time_and_sales.specs.Texts.{Sale}
 use Rattle.time_and_sales.proofs.SalesInRanges.{listed, range_has, range_is, seen}
 use Rattle.time_and_sales.proofs.SortedByPlace.{place_of}

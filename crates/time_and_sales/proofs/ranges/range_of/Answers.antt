@@ -2,7 +2,7 @@ use Rattle.std.proofs.Common.{rules, ◌∙◌, filter, List, IsPermutation, ap,
 use Rattle.std.proofs.lemmas.List.Folds.{flat_map-map}
 use Rattle.std.proofs.lemmas.List.Sorted.{IsNonDecreasingBy-from_sort_by_key, IsPermutation-map}
 use Rattle.row_types.specs.declared.trade.Sale.{Sale}
-use Rattle.time_and_sales.specs.Parted.{is_in_first}
+use Rattle.time_and_sales.specs.Texts.{is_in_first}
 use Rattle.time_and_sales.proofs.SalesInRanges.{seen, seen_rise}
 use Rattle.time_and_sales.proofs.SortedByPlace.{place_of}
 use Rattle.time_and_sales.proofs.ranges.range_of.Goals as goal

@@ -1,6 +1,6 @@
 use Rattle.std.proofs.Common.{◌≡◌, List, Bor, take, filter, flat_map}
 use Rattle.row_types.specs.declared.trade.Sale.{Sale}
-use Rattle.time_and_sales.specs.Parted.{is_in_first}
+use Rattle.time_and_sales.specs.Texts.{is_in_first}
 use Rattle.time_and_sales.proofs.SalesInRanges.{seen}
 use Rattle.time_and_sales.proofs.SortedByPlace.{place_of}
 use Rattle.time_and_sales.proofs.ranges.range_of.Given as goal

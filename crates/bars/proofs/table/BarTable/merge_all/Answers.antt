@@ -4,7 +4,6 @@ use Rattle.std.proofs.lemmas.List.{map_more, map_push, take_all}
 use Rattle.bars.specs.Bars.{IsTraded}
 use Rattle.bars.proofs.BarsOfSales.{AreBarsOf-union}
 use Rattle.bars.proofs.JoinedTables.{joined_traded, table_has, traded_more}
-use Rattle.bars.proofs.SumsAreBounded.{each_joins}
 use Rattle.bars.proofs.table.BarTable.merge_all.Goals as goal
 
 pub loop-table-preserved : goal.loop-table-preserved
@@ -13,7 +12,7 @@ loop-table-preserved g c = grind (arith, common_steps, map_push, map_more, trade
 pub unite-requires : goal.unite-requires
 unite-requires g c =
     rw (c.as_slice.ensures.value, c.loop-table.invariant.parts, take_all c.loop-table.table-index c.args.tables.now c.loop-table-test.false)
-    (each_joins _ c.requires.sums)
+    c.requires.sums
 
 pub returns-clause-bars : goal.returns-clause-bars
 returns-clause-bars g c = λ width lists are. AreBarsOf-union width lists _ _ are

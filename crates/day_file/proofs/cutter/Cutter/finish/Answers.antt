@@ -1,8 +1,7 @@
 use Rattle.std.proofs.Common.{◌∙◌, length, ap, subst, arith}
 use Rattle.std.proofs.lemmas.Result.{err_from_is_err_and}
-use Rattle.day_file.specs.Cuts.{IsCutBy}
+use Rattle.day_file.specs.Cuts.{IsCutBy, rest_run}
 use Rattle.day_file.specs.Feeding.{CutterView}
-use Rattle.day_file.specs.Follow.{rest_run}
 use Rattle.day_file.proofs.Fed.{IsLast, end_of}
 use Rattle.day_file.proofs.cutter.Cutter.finish.Goals as goal
 

@@ -1,8 +1,7 @@
 use Rattle.std.proofs.Common.{◌≡◌, ℕ, ◌+◌, ◌≤◌, drop, vec_len, sym, ap, arith}
 use Rattle.std.proofs.lemmas.List.{drop-drop, length-drop}
-use Rattle.day_file.specs.Cutting.{IsTaken}
-use Rattle.day_file.specs.Follow.{IsFirstRun}
-use Rattle.day_file.specs.Feeding.{CutterView}
+use Rattle.day_file.specs.Feeding.{CutterView, IsTaken}
+use Rattle.day_file.specs.Cuts.{IsFirstRun}
 use Rattle.day_file.specs.declared.cutter.Cutter.TheInside.{Inside}
 use Rattle.day_file.proofs.Fed.{Taken-cutting, Taken-kept, Taken-past}
 use Rattle.day_file.proofs.cutter.Cutter.take_run.Goals as goal

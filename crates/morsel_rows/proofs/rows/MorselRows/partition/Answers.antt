@@ -16,7 +16,7 @@ returns-then-index-len g c =
     let below : c.args.number < inside.parts = omega (arith, c.if-number-self.false) in
     let past : length taken ≤ c.args.number = omega (arith, c.if-index-len.true, c.len.ensures, inside.partitions.ok.0) in
     subst (λ (v : MorselRowsView). slice_get v.partitions c.args.number ≡ Some inside.no_rows) c.self.view_is
-    (get_seen inside.parts taken c.args.number below ∙ ap Some (none_past taken c.args.number past ∙ sym c.self.invariant.2))
+    (get_seen inside.parts taken c.args.number below ∙ ap Some (none_past taken c.args.number past ∙ sym c.self.invariant.1))
 
 pub returns-in-Some : goal.returns-in-Some
 returns-in-Some g c =
@@ -38,4 +38,4 @@ returns-in-None g c =
     let none : rows_taken_at taken c.args.number ≡ no_rows_in =
     taken_is taken c.args.number c.index.result.now within c.index.ensures ∙ ap rows_of_taken c.in-None.is in
     subst (λ (v : MorselRowsView). slice_get v.partitions c.args.number ≡ Some inside.no_rows) c.self.view_is
-    (get_seen inside.parts taken c.args.number below ∙ ap Some (none ∙ sym c.self.invariant.2))
+    (get_seen inside.parts taken c.args.number below ∙ ap Some (none ∙ sym c.self.invariant.1))

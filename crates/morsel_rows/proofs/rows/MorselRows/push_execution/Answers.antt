@@ -1,9 +1,8 @@
 use Rattle.std.proofs.Common.{[], ◌∙◌, ap}
 use Rattle.std.proofs.lemmas.Result.{on_err_weaker, on_ok_weaker}
 use Rattle.std.specs.Box.{with_value}
-use Rattle.day_rows.specs.DayRows.{only_execution}
 use Rattle.morsel_rows.specs.MoreRows.{with_execution}
-use Rattle.morsel_rows.proofs.JoinedInPartitions.{execution_joins}
+use Rattle.morsel_rows.proofs.JoinedInPartitions.{execution_joins, only_execution}
 use Rattle.morsel_rows.proofs.TakenRows.{not_none, push_joins, push_same}
 use Rattle.morsel_rows.proofs.rows.MorselRows.push_execution.Goals as goal
 use Rattle.morsel_rows.proofs.rows.MorselRows.push_execution.Goals.{in-Some, in-None}

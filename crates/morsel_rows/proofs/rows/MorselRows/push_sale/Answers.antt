@@ -1,9 +1,8 @@
 use Rattle.std.proofs.Common.{[], ◌∙◌, ap}
 use Rattle.std.proofs.lemmas.Result.{on_err_weaker, on_ok_weaker}
 use Rattle.std.specs.Box.{with_value}
-use Rattle.day_rows.specs.DayRows.{only_sale}
 use Rattle.morsel_rows.specs.MoreRows.{with_sale}
-use Rattle.morsel_rows.proofs.JoinedInPartitions.{sale_joins}
+use Rattle.morsel_rows.proofs.JoinedInPartitions.{sale_joins, only_sale}
 use Rattle.morsel_rows.proofs.TakenRows.{not_none, push_joins, push_same}
 use Rattle.morsel_rows.proofs.rows.MorselRows.push_sale.Goals as goal
 use Rattle.morsel_rows.proofs.rows.MorselRows.push_sale.Goals.{in-Some, in-None}

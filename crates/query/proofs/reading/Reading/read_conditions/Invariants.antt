@@ -1,6 +1,6 @@
 use Rattle.std.proofs.Common.{◌≡◌, codes, length}
 use Rattle.query.specs.Faults.{read_from, condition, linked}
-use Rattle.query.specs.Taken.{IsLater}
+use Rattle.query.specs.Words.{IsLater}
 use Rattle.query.proofs.reading.Reading.read_conditions.Given as goal
 
 abbrev pub invariant-loop-word : goal.invariant-loop-word

@@ -1,6 +1,5 @@
 use Rattle.std.proofs.Common.{◌≡◌}
-use Rattle.query.specs.TextLeft.{words_left, IsInText}
-use Rattle.query.proofs.CutAtSeparator.{left}
+use Rattle.query.proofs.CutAtSeparator.{left, words_left, IsInText}
 use Rattle.query.proofs.words.Words.next.Given as goal
 
 abbrev pub invariant-loop-self : goal.invariant-loop-self

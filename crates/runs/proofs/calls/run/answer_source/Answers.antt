@@ -1,18 +1,30 @@
 use Rattle.std.proofs.Common.{subst}
 use Rattle.std.specs.List.{concat}
 use Rattle.meaning.specs.Meaning.{Meaning}
-use Rattle.runs.specs.FirstPipeline.{IsScanOf}
+use Rattle.runs.specs.Steps.{IsScanOf}
+use Rattle.runs.proofs.Answered.{given_of}
+use Rattle.runs.proofs.BlocksScanned.{of_cut}
 use Rattle.runs.proofs.calls.run.answer_source.Goals as goal
 
-pub answer_scans-requires-clause-total : goal.answer_scans-requires-clause-total
-answer_scans-requires-clause-total g c lifetimes within =
+pub run_second-requires-clause-total : goal.run_second-requires-clause-total
+run_second-requires-clause-total g c lifetimes within =
     let (runs, whole, of) = c.in-Ok.ensures.scanned in
-    (runs, subst (λ (m : Meaning). IsScanOf m.as_of c.args.settings.parts c.in-Ok.total runs) c.query.view_is of)
+    of_cut c.args.settings.parts_in_range.0 of
 
-pub returns-in-Ok-answer_scans-clause-answers : goal.returns-in-Ok-answer_scans-clause-answers
-returns-in-Ok-answer_scans-clause-answers g c =
-    let (runs, whole, of) = c.in-Ok.ensures.scanned in record {
-      day = concat runs;
-      read = whole;
-      answers = c.in-Ok-answer_scans.ensures runs (subst (λ (m : Meaning). IsScanOf m.as_of c.args.settings.parts c.in-Ok.total runs) c.query.view_is of);
-    }
+pub answer_of_outcome-requires-clause-outcome : goal.answer_of_outcome-requires-clause-outcome
+answer_of_outcome-requires-clause-outcome g c lifetimes within =
+    let (runs, whole, of) = c.in-Ok.ensures.scanned in (
+      runs,
+      given_of _ c.in-Ok-run_second.ensures.outcome c.dividing-link.ensures c.args.settings.parts_in_range.0
+          (λ first is. rw is (subst (λ (m : Meaning). IsScanOf 0 0 m.as_of c.args.settings.parts runs c.in-Ok.total) c.query.view_is of)),
+    )
+
+pub returns-in-Ok-answer_of_outcome-clause-answered : goal.returns-in-Ok-answer_of_outcome-clause-answered
+returns-in-Ok-answer_of_outcome-clause-answered g c =
+    let (runs, whole, of) = c.in-Ok.ensures.scanned in (
+      concat runs,
+      whole,
+      c.in-Ok-answer_of_outcome.ensures runs
+          (given_of _ c.in-Ok-run_second.ensures.outcome c.dividing-link.ensures c.args.settings.parts_in_range.0
+          (λ first is. rw is (subst (λ (m : Meaning). IsScanOf 0 0 m.as_of c.args.settings.parts runs c.in-Ok.total) c.query.view_is of))),
+    )

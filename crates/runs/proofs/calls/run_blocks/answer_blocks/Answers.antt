@@ -6,7 +6,7 @@ answer_of_outcome-requires-clause-outcome g c lifetimes within =
     let (runs, whole, of) = c.in-Ok.ensures.outcome in
     (runs, of)
 
-pub returns-in-Ok-answer_of_outcome-clause-answers : goal.returns-in-Ok-answer_of_outcome-clause-answers
-returns-in-Ok-answer_of_outcome-clause-answers g c =
+pub returns-in-Ok-answer_of_outcome : goal.returns-in-Ok-answer_of_outcome
+returns-in-Ok-answer_of_outcome g c =
     let (runs, whole, of) = c.in-Ok.ensures.outcome in
-    record { day = concat runs; read = whole; answers = c.in-Ok-answer_of_outcome.ensures runs of }
+    (concat runs, whole, c.in-Ok-answer_of_outcome.ensures runs of)

@@ -1,5 +1,5 @@
 use Rattle.std.proofs.Common.{take}
-use Rattle.scanning.specs.Picked.{bodies}
+use Rattle.scanning.proofs.PickedFrames.{bodies}
 use Rattle.scanning.specs.Scans.{TakesIn}
 use Rattle.scanning.proofs.open_scan.OpenScan.take_in_each.Given as goal
 

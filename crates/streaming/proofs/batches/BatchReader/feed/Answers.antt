@@ -1,4 +1,4 @@
-use Rattle.std.proofs.Common.{refl, ap, ◌∙◌, arith, rules}
+use Rattle.std.proofs.Common.{ap, ◌∙◌, arith, rules}
 use Rattle.std.proofs.lemmas.Result.{err_from_is_err_and}
 use Rattle.std.proofs.lemmas.Bool.{ltb-true}
 use Rattle.day_file.proofs.Fed.{fed_length_is}
@@ -44,11 +44,7 @@ invariant_of-self-2 g c =
 pub returns-clause-read : goal.returns-clause-read
 returns-clause-read g c =
     let (taken, long, gave, fed) = c.in_ok-taken.ensures.fed in
-    rw (← c.self.view_is) (record {
-      read = λ before runs to. read_on g.met.S.Source.gave_more to gave (fed to.has.fed to.has.has);
-      number = refl;
-      start = refl;
-    })
+    rw (← c.self.view_is) (λ before runs to. read_on g.met.S.Source.gave_more to gave (fed to.has.fed to.has.has))
 
 pub returns-clause-longer : goal.returns-clause-longer
 returns-clause-longer g c = λ some.

@@ -12,7 +12,8 @@ pub returns-in_err-feed-clause-fault : goal.returns-in_err-feed-clause-fault
 returns-in_err-feed-clause-fault g c =
     let p = err_from_is_err_and c.from_residual.result c.from_residual.ensures.1 in
     let inv = c.loop-self.invariant in
-    rw (p.1, p.2) (λ before runs to. rw (inv.limit, inv.target) at (c.in_err-feed.ensures.fault before runs (inv.on.read before runs to)))
+    rw (p.1, p.2) (λ before runs to. rw (ap (λ (v : ReaderView). v.limit) inv.same, ap (λ (v : ReaderView). v.target) inv.same)
+    at (c.in_err-feed.ensures.fault before runs (inv.read before runs to)))
 
 pub last_batch-requires-clause-within : goal.last_batch-requires-clause-within
 last_batch-requires-clause-within g c =
@@ -31,27 +32,30 @@ invariant_of-self g c =
 pub returns-clause-next : goal.returns-clause-next
 returns-clause-next g c = IfOk-weaker c.last_batch.result _ _ (λ batch (first, start, is_last, made).
     let inv = c.loop-self.invariant in
-    let on = c.in_ok-feed.ensures.read in
+    let kept = c.in_ok-feed.ensures.same ∙ ap (λ (v : ReaderView). record v { cutter = c.feed.new.self.cutter }) inv.same in
+    let limit = ap (λ (v : ReaderView). v.limit) kept in
     let same = subst (λ (v : ReaderView). v.cutter.target ≡ v.target) c.self.view_is c.self.invariant.0.same in
     let taken = c.replace-cutter.ensures.value ∙ ap (λ (v : ReaderView). v.cutter) c.self.view_is in record {
       more = λ e. absurd (false≢true (sym e ∙ is_last));
       last = λ e before runs to.
-          rw (← inv.target, ← c.in_ok-feed.ensures.same.1)
-          (last_cut g.S.Source.HasEnded (on.read before runs (inv.on.read before runs to)) same (c.in_ok-feed.ensures.end c.if-branch.false)
-          (omega (arith, c.in_ok-feed.ensures.within, c.in_ok-feed.ensures.same.0, inv.limit)) batch.cut
+          rw (← ap (λ (v : ReaderView). v.target) kept)
+          (last_cut g.S.Source.HasEnded (c.in_ok-feed.ensures.read before runs (inv.read before runs to)) same (c.in_ok-feed.ensures.end c.if-branch.false)
+          (omega (arith, c.in_ok-feed.ensures.within, limit)) batch.cut
           (subst (λ (k : CutterView). (fed : List ℕ) → HasFed k fed → IsCutBy k.target batch.cut fed) taken made));
-      number = first ∙ ap (λ (v : ReaderView). v.first) c.self.view_is ∙ on.number ∙ inv.on.number;
-      start = start ∙ ap (λ (v : ReaderView). v.start) c.self.view_is ∙ on.start ∙ inv.on.start;
+      number = first ∙ ap (λ (v : ReaderView). v.first) c.self.view_is ∙ ap (λ (v : ReaderView). v.first) kept;
+      start = start ∙ ap (λ (v : ReaderView). v.start) c.self.view_is ∙ ap (λ (v : ReaderView). v.start) kept;
       longer = λ e. absurd (false≢true (sym e ∙ is_last));
     }) c.last_batch.ensures.last
 
 pub returns-clause-fault : goal.returns-clause-fault
 returns-clause-fault g c = IfErr-weaker c.last_batch.result _ _ (λ f told before runs to.
     let inv = c.loop-self.invariant in
+    let kept = c.in_ok-feed.ensures.same ∙ ap (λ (v : ReaderView). record v { cutter = c.feed.new.self.cutter }) inv.same in
+    let limit = ap (λ (v : ReaderView). v.limit) kept in
     let same = subst (λ (v : ReaderView). v.cutter.target ≡ v.target) c.self.view_is c.self.invariant.0.same in
-    rw (← inv.target, ← c.in_ok-feed.ensures.same.1)
-    (last_fault g.S.Source.HasEnded (c.in_ok-feed.ensures.read.read before runs (inv.on.read before runs to)) same
-    (c.in_ok-feed.ensures.end c.if-branch.false) (omega (arith, c.in_ok-feed.ensures.within, c.in_ok-feed.ensures.same.0, inv.limit)) f
+    rw (← ap (λ (v : ReaderView). v.target) kept)
+    (last_fault g.S.Source.HasEnded (c.in_ok-feed.ensures.read before runs (inv.read before runs to)) same
+    (c.in_ok-feed.ensures.end c.if-branch.false) (omega (arith, c.in_ok-feed.ensures.within, limit)) f
     (subst (λ (v : ReaderView). (fed : List ℕ) → HasFed v.cutter fed → IsLastFault v.first v.start v.cutter.target fed f) c.self.view_is
     (subst (λ (k : CutterView). (fed : List ℕ) → HasFed k fed → IsLastFault c.self.inside.first c.self.inside.start k.target fed f)
     c.replace-cutter.ensures.value told)))) c.last_batch.ensures.fault

@@ -1,14 +1,14 @@
-use Rattle.std.proofs.Common.{◌≡◌, ◌≤◌, ◌-◌, false}
-use Rattle.streaming.specs.Batches.{IsReadOn, read_length}
+use Rattle.std.proofs.Common.{◌≡◌, ℕ, ◌≤◌, ◌-◌, List, false}
+use Rattle.streaming.specs.Batches.{IsReadTo, read_length}
 use Rattle.streaming.proofs.batches.BatchReader.next_batch.Given as goal
 
 -- what was read goes on, and no batch is taken yet
 abbrev pub invariant-loop-self : goal.invariant-loop-self
 invariant-loop-self g l = record {
   fine : g.S.Source.has_failed l.source ≡ false;
-  on : IsReadOn g.S.Source.Gave l.initial.source l.source l.initial.self l.self;
-  limit : l.self.limit ≡ l.initial.self.limit;
-  target : l.self.target ≡ l.initial.self.target;
+  read : (before : _) (runs : List (List ℕ)) → IsReadTo g.S.Source.Gave before l.initial.source runs l.initial.self
+      → IsReadTo g.S.Source.Gave before l.source runs l.self;
+  same : l.self ≡ record l.initial.self { cutter = l.self.cutter };
   longer : read_length l.initial.self ≤ read_length l.self;
 }
 

@@ -19,6 +19,5 @@ pub returns-in-Next : goal.returns-in-Next
 returns-in-Next g c asked are = (
   c.in-Ok.scans,
   c.in-Ok.ensures.scanned asked are,
-  subst (IsLinkedTo c.args.self.now c.in-Ok.scans) c.in-Next.is
-      (subst (λ to. IsLinkedTo to c.in-Ok.scans c.in_ok-inputs.field-0) c.self.view_is c.in_ok-inputs.ensures),
+  subst (IsLinkedTo _ c.in-Ok.scans) c.in-Next.is c.in_ok-inputs.ensures,
 )

@@ -1,0 +1,20 @@
+use Rattle.std.proofs.Common.{ℕ, List, get_or, map, arith}
+use Rattle.std.proofs.lemmas.Result.{IfOk-weaker}
+use Rattle.time_and_sales.specs.Names.{last_row, name_text}
+use Rattle.time_and_sales.proofs.MadeTexts.{both_ok}
+use Rattle.time_and_sales.proofs.RangesJoined.{ranges_join, told}
+use Rattle.bars.specs.Bars.{Bar}
+use Rattle.bars.specs.Texts.{lines_text}
+use Rattle.bars.proofs.BarsInRanges.{lines-append, locates_rise}
+use Rattle.bars.proofs.ranges.lines_in_ranges.Goals as goal
+
+pub returns : goal.returns
+returns g c =
+    let name : ℕ → List ℕ = λ locate. name_text locate (last_row c.args.names.now locate) in
+    let same = c.as_slice-bounds.ensures.value in
+    let made = c.in_ok-made.ensures in
+    IfOk-weaker c.texts_of.result _ _ (λ texts gave all union.
+    ranges_join (λ (b : Bar). b.locate) (lines_text name) (lines-append name) all (locates_rise all union.rise) c.as_slice-bounds.result.now texts.items
+    (rw same made.some) (rw same made.first) (rw same made.rise) (omega (arith, gave.0, texts.ok.0))
+    (λ n d h. IfOk-weaker (get_or (map told texts.items) n d) _ _ (λ text e. e all union) ((gave.1 n d h).1.met)))
+    (both_ok c.texts_of.result _ _ c.texts_of.ensures.len c.texts_of.ensures.each)

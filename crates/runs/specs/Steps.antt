@@ -1,0 +1,106 @@
+-- The steps of a run: what its query, its source, its pipelines and its answer give each other.
+-- Derived: what is promised of a run is `Ran`.
+use Rattle.std.specs.Prelude.{◌≡◌, ℕ, ◌+◌, ◌<◌, ◌≤◌, ◌↔◌, All, Bool, List, Option, Some, Result, Ok, Err, true, length}
+use Rattle.std.specs.Prelude.{IfErr, IfOk, IsErrOf}
+use Rattle.std.specs.List.{concat}
+use Rattle.lists.specs.declared.limits.TheConstants.{LONGEST_FILE}
+use Rattle.outcomes.specs.declared.run_fault.RunFault.{RunFault}
+use Rattle.outcomes.specs.declared.run_fault.RunFault.TheVariants as fault
+use Rattle.links.specs.declared.linked.Linked.{Linked}
+use Rattle.links.specs.declared.linked.Linked.TheVariants.{Next, Halt}
+use Rattle.pipelines.specs.Outcomes.{IsOutcome}
+use Rattle.pipelines.specs.declared.outcome.Outcome.{Outcome}
+use Rattle.lists.specs.Among.{AreBytes}
+use Rattle.day_file.specs.Cuts.{IsRun}
+use Rattle.streaming.specs.Batches.{IsNextBatch, IsReadTo, ReaderView}
+use Rattle.streaming.specs.Readings.{IsSourceFault, Reading, of_stream}
+use Rattle.streaming.specs.declared.batch.Batch.{Batch}
+use Rattle.streaming.specs.declared.fault.SourceFault.{SourceFault}
+use Rattle.streaming.specs.declared.fault.SourceFault.TheVariants as source
+use Rattle.row_types.specs.declared.directory.DirectoryRow.{DirectoryRow}
+use Rattle.meaning.specs.Meaning.{Meaning}
+use Rattle.query.specs.Faults.{first_query_fault}
+use Rattle.query.specs.Words.{words_of}
+use Rattle.answers.specs.Answers.{DayFault, Truncated, told_by}
+use Rattle.answers.specs.declared.answer.Answer.{Answer}
+use Rattle.scanning.specs.Scans.{ScanTotalView, inputs_from, total_of}
+use Rattle.scanning.specs.declared.wrong.WrongLength.{WrongLength}
+use Rattle.block_scan.specs.Attempts.{AreAttemptsOf, AttemptView}
+use Rattle.block_scan.specs.Blocks.{IsBlocksFault}
+use Rattle.block_scan.specs.Pieces.{Asked, IsScannedWhole}
+use Rattle.buckets.specs.BucketRows.{BucketView}
+use Rattle.buckets.specs.Buckets.{total_found}
+use Rattle.buckets.specs.FoundRows.{TotalView}
+use Rattle.planning.specs.Planned.{IsLinkedTo, LinkView, ToBuckets}
+use Rattle.runs.specs.Runs.{IsAnswered}
+
+-- what a refusal says of the words that should be a query
+abbrev pub IsQueryRefusal : List ℕ → RunFault → Type 0
+IsQueryRefusal words (fault.Query f) = first_query_fault (words_of words) ≡ Some f
+IsQueryRefusal words fault.OutOfMemory = Unit {0}
+IsQueryRefusal words _ = ⊥
+
+-- what is known of a source and a query if this is answered: the answer, or what a refusal says of the source
+abbrev pub IsAnsweredOrRefused : {A : Type 0} → Reading → Meaning → ℕ → Result (Answer A) RunFault → Type 0
+IsAnsweredOrRefused reading query limit (Ok answer) = IsAnswered reading query (told_by answer)
+IsAnsweredOrRefused reading query limit (Err fault.ReadFailed) = reading.failed
+IsAnsweredOrRefused reading query limit (Err (fault.TooLong most)) = reading.longer × (most ≡ limit)
+IsAnsweredOrRefused reading query limit (Err fault.TooManyMorsels) = reading.too_many
+IsAnsweredOrRefused reading query limit (Err fault.OutOfMemory) = reading.some
+IsAnsweredOrRefused reading query limit (Err _) = ⊥
+
+-- what a run with this limit reports of a source's fault: the place where it is truncated, or a refusal
+abbrev pub reported : ℕ → SourceFault → Result (Result (List ℕ) DayFault) RunFault
+reported limit source.ReadFailed = Err fault.ReadFailed
+reported limit source.TooLong = Err (fault.TooLong limit)
+reported limit (source.Truncated place) = Ok (Err (Truncated place))
+reported limit source.TooManyMorsels = Err fault.TooManyMorsels
+reported limit source.OutOfMemory = Err fault.OutOfMemory
+
+-- the total of the scans of runs of whole frames that follow each other in a file: the first one has this number, and
+-- begins at this place
+pub record IsScanOf (first start : ℕ) (as_of : Option ℕ) (parts : ℕ) (runs : List (List ℕ)) (total : ScanTotalView)
+    : Type 0 where
+  pub each : All IsRun runs
+  pub bytes : All AreBytes runs
+  pub within : start + length (concat runs) ≤ LONGEST_FILE
+  pub is : total ≡ total_of (inputs_from first start as_of parts runs)
+
+-- both pipelines gave this over a file that is cut into these runs, in some number of partitions, which may be divided
+pub record IsOutcomeOf (query : Meaning) (outcome : Outcome TotalView (List DirectoryRow) WrongLength)
+    (runs : List (List ℕ)) : Type 0 where
+  pub parts : ℕ
+  pub some : 0 < parts
+  pub is : IsOutcome (IsScanOf 0 0 query.as_of parts runs)
+      (IsLinkedTo (record { query = query; parts = parts; divides = true }))
+      (λ inputs total. total ≡ total_found inputs) outcome
+
+module _ {S : Type 0} (Gave : S → S → List ℕ → Type 0) (HasEnded : S → Type 0) where
+  -- what `next_batch` says of the source and of the reader, before and after it
+  pub record IsBatchRead (has_failed : S → Bool) (before after : S) (old new : ReaderView)
+      (read : Result Batch SourceFault) : Type 0 where
+    pub next : IfOk read (IsNextBatch Gave HasEnded before after old new)
+    pub same : (new.limit ≡ old.limit) × (new.target ≡ old.target)
+    pub told : IfErr read (λ f. (first : S) (runs : List (List ℕ)) → IsReadTo Gave first before runs old
+        → IsSourceFault (of_stream Gave HasEnded old.limit old.target first after) f)
+    pub failed : IsErrOf read SourceFault.ReadFailed ↔ (has_failed after ≡ true)
+
+-- S is sources, of which these relations say what they gave to readings at places
+module _ {S : Type 0} (GaveAt : S → ℕ → List ℕ → Type 0) (EndsAt : S → ℕ → Type 0) (FailsAt : S → ℕ → Type 0) where
+  -- some total of all that the source gave is linked to this
+  abbrev IsLinkedWhole : Asked S → LinkView → ToBuckets → Type 0
+  IsLinkedWhole asked link linked =
+      (total : ScanTotalView)
+      × IsScannedWhole GaveAt EndsAt asked.source asked.request total × IsLinkedTo link total linked
+
+  -- what the attempts at all blocks are linked to: why the source gives no rows, or what a total of all it gave is
+  abbrev pub IsLinked : Asked S → LinkView
+      → Linked (List BucketView) (List DirectoryRow) (Result WrongLength SourceFault) → Type 0
+  IsLinked asked link (Halt (Err fault)) = IsBlocksFault GaveAt EndsAt FailsAt asked.source asked.request.limit fault
+  IsLinked asked link (Halt (Ok wrong)) = IsLinkedWhole asked link (Halt wrong)
+  IsLinked asked link (Next inputs kept) = IsLinkedWhole asked link (Next inputs kept)
+
+  -- what attempts are linked to, whichever source and request they are of
+  abbrev pub LinksAttempts : LinkView → List (AttemptView S)
+      → Linked (List BucketView) (List DirectoryRow) (Result WrongLength SourceFault) → Type 0
+  LinksAttempts link attempts linked = (asked : Asked S) → AreAttemptsOf asked attempts → IsLinked asked link linked
