@@ -1,6 +1,6 @@
 -- What the definitions of an answer say of one small day. Each line is decided by computing it.
 use Rattle.std.proofs.Common.{◌≡◌, ℕ, List, [], ◌∷◌, Some, None, refl, true}
-use Rattle.bars.specs.Bars.{bar_of, start_of}
+use Rattle.bars.specs.Bars.{bar_of, interval_start}
 use Rattle.itch_messages.specs.Layout.{HeaderFields}
 use Rattle.itch_messages.specs.declared.message.Message.TheVariants.{Add, Executed, Broken}
 use Rattle.order_table.specs.Orders.{first_repeated}
@@ -73,7 +73,7 @@ second_repeats : first_repeated (order_rows twice) ≡ Some (record { place = 38
 second_repeats = refl
 
 -- 09:30:59.5 lies in the minute that starts at 09:30:00
-in_its_minute : start_of 60 34259500000000 ≡ 34200000000000
+in_its_minute : interval_start 60 34259500000000 ≡ 34200000000000
 in_its_minute = refl
 
 -- so many shares at a price, sold at a place

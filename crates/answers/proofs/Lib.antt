@@ -3,3 +3,4 @@ pub mod Examples
 pub mod MomentLaws
 pub mod OneAnswer
 pub mod SelectedSales
+mod WrittenLines

@@ -1,7 +1,6 @@
 -- What is listed is what the query asks for.
-use Rattle.std.proofs.Common.{◌≡◌, ◌<◌, ◌+◌, ◌^◌, ℕ, Bool, ◌&&◌, not, cond, ltb, List, [], ◌∷◌, ◌++◌, All, IsPermutation, length, map, nat_eq, refl}
+use Rattle.std.proofs.Common.{◌≡◌, ◌<◌, ◌+◌, ◌^◌, ℕ, Bool, ◌&&◌, not, cond, ltb, List, [], ◌∷◌, ◌++◌, All, IsPermutation, length, refl}
 use Rattle.std.proofs.Common.{arith, length-append}
-use Rattle.std.specs.List.{IsDistinct}
 use Rattle.std.specs.List.Sorted.{IsStrictlySortedBy}
 use Rattle.std.proofs.lemmas.List.Elements.{All-head, All-tail, All-weaker}
 use Rattle.std.proofs.lemmas.List.Sorted.{All-permutation, length_permutation}
@@ -14,7 +13,8 @@ use Rattle.probe.specs.Selection.{kept}
 use Rattle.probe.specs.declared.selection.Selection.{Selection}
 use Rattle.probe.proofs.KeptSales.{kept_have_shares, length-kept, length-priced}
 use Rattle.row_types.specs.SalesByPlace.{place_cmp}
-use Rattle.time_and_sales.specs.Names.{DirectoryRow, IsNamesOf, last_row, name_text}
+use Rattle.time_and_sales.specs.Lent.{AreApart}
+use Rattle.time_and_sales.specs.Names.{DirectoryRow, IsNamesOf, names_by}
 use Rattle.time_and_sales.specs.declared.directory.Names.{Names}
 use Rattle.meaning.specs.Meaning.{Meaning}
 use Rattle.meaning.specs.Selected.{locates_of}
@@ -28,7 +28,7 @@ use Rattle.day_rows.proofs.TradesOfRows.{listing_is}
 -- ---- a selection with the query's locates admits what the query asks for
 
 pub agrees : {A B : Type 0} (query : Meaning) (rows : List DirectoryRow) (names : Names A) (selection : Selection B) → IsNamesOf rows names
-    → selection.locates ≡ locates_of query.symbols (λ locate. name_text locate (last_row names locate)) → selection.span ≡ query.span
+    → selection.locates ≡ locates_of query.symbols (names_by names) → selection.span ≡ query.span
     → selection.kinds ≡ query.kinds → (sale : Sale) → sale.locate < 2 ^ 16 → admits selection sale ≡ asks_for query rows sale
 agrees {A} {B} query rows names selection are locates span kinds sale small = grind (arith, locates_agree)
 
@@ -47,7 +47,7 @@ keeps_asked breaks p q (x ∷ xs) agree fit =
 pub selected : {A B : Type 0} (messages : List Placed) (query : Meaning) (names : Names A) (selection : Selection B) (breaks : List ℕ)
     (all listing : List Sale) → AreByPlace messages → breaks ≡ break_numbers messages
     → all ≡ priced (order_rows messages) (executions messages) ++ own_priced_sales messages → All (λ s. IsStamped s.time s.locate) all
-    → IsNamesOf (directory_rows messages) names → selection.locates ≡ locates_of query.symbols (λ locate. name_text locate (last_row names locate))
+    → IsNamesOf (directory_rows messages) names → selection.locates ≡ locates_of query.symbols (names_by names)
     → selection.span ≡ query.span → selection.kinds ≡ query.kinds → IsStrictlySortedBy place_cmp listing
     → IsPermutation (kept breaks (admits selection) all) listing → listing ≡ selected_sales query messages
 selected messages query names selection breaks all listing up breaks_are all_are fit are locates span kinds rising permutation =
@@ -61,7 +61,7 @@ selected messages query names selection breaks all listing up breaks_are all_are
 pub times_fit : (sales : List Sale) → All (λ sale. IsStamped sale.time sale.locate) sales → All (λ sale. sale.time < TIME_LIMIT) sales
 times_fit sales stamped = All-weaker (λ (s : Sale). IsStamped s.time s.locate) (λ (s : Sale). s.time < TIME_LIMIT) (λ s fits. fits.0) sales stamped
 
-pub listing_places : (listing : List Sale) → IsStrictlySortedBy place_cmp listing → IsDistinct nat_eq (map (λ sale. sale.place) listing)
+pub listing_places : (listing : List Sale) → IsStrictlySortedBy place_cmp listing → AreApart listing
 listing_places listing rising = distinct_places (λ (s : Sale). s.place) listing rising
 
 pub listing_shares : (breaks : List ℕ) (asked : Sale → Bool) (all listing : List Sale) → IsPermutation (kept breaks asked all) listing

@@ -1,5 +1,5 @@
 ghost use Rattle.std.specs.Prelude.{◌≡◌, ◌<◌, ◌^◌, IfOk, IfSome, length};
-ghost use Rattle.std.specs.List.{flat_map};
+ghost use Rattle.time_and_sales.specs.Lent.{all_items};
 
 use crate::OutOfMemory;
 use std::alloc::{AllocError, Allocator, Global};
@@ -13,20 +13,20 @@ pub struct Text<A: Allocator = Global> {
 
 impl<A: Allocator> Model for Text<A> {
     ghost use Rattle.std.specs.Prelude.{ℕ, List, ◌<◌, ◌^◌, length};
-    ghost use Rattle.std.specs.List.{flat_map};
+    ghost use Rattle.time_and_sales.specs.Lent.{all_items};
 
     ghost Value = { List ℕ };
 
-    ghost view = { λ text. flat_map (λ piece. piece.items) text.pieces.items };
+    ghost view = { λ text. all_items text.pieces.items };
 
-    ghost invariant = { λ text. length (flat_map (λ piece. piece.items) text.pieces.items) < 2 ^ 64 };
+    ghost invariant = { λ text. length (all_items text.pieces.items) < 2 ^ 64 };
 }
 
 impl<A: Allocator> Text<A> {
     /// The text of these pieces. It is refused if they have 2^64 bytes or more, for which no machine
     /// has memory.
     pub fn of(pieces: Vec<Vec<u8, A>, A>) -> Result<Self, OutOfMemory>
-        ensures { IfOk result (λ text. text ≡ flat_map (λ piece. piece.items) pieces.items) }
+        ensures { IfOk result (λ text. text ≡ all_items pieces.items) }
     {
         match length_of(pieces.as_slice()) {
             Some(_) => Ok(Text { pieces }),
@@ -36,7 +36,7 @@ impl<A: Allocator> Text<A> {
 
     /// Its pieces, in order.
     pub fn pieces(&self) -> &[Vec<u8, A>]
-        ensures value { flat_map (λ piece. piece.items) result.now ≡ self.now }
+        ensures value { all_items result.now ≡ self.now }
         ensures short { length self.now < 2 ^ 64 }
     {
         self.pieces.as_slice()
@@ -52,8 +52,7 @@ impl<A: Allocator> Text<A> {
 
 /// How many bytes the pieces have, if fewer than 2^64.
 fn length_of<A: Allocator>(pieces: &[Vec<u8, A>]) -> Option<u64>
-    ensures { IfSome result (λ length_is. length_is
-        ≡ length (flat_map (λ piece. piece.items) pieces.now)) }
+    ensures { IfSome result (λ length_is. length_is ≡ length (all_items pieces.now)) }
 {
     let mut length = 0u64;
     for piece in pieces {
@@ -67,7 +66,7 @@ fn join<A: Allocator, B: Allocator>(
     alloc: B,
     pieces: &[Vec<u8, A>],
 ) -> Result<Vec<u8, B>, OutOfMemory>
-    ensures { IfOk result (λ bytes. bytes.items ≡ flat_map (λ piece. piece.items) pieces.now) }
+    ensures { IfOk result (λ bytes. bytes.items ≡ all_items pieces.now) }
 {
     let mut bytes = Vec::new(alloc);
     for piece in pieces {

@@ -1,13 +1,13 @@
-ghost use Rattle.std.specs.Prelude.{◌≡◌, ◌<◌, ◌++◌, All, IfOk, List, map, nat_eq};
-ghost use Rattle.std.specs.List.{IsDistinct, flat_map};
+ghost use Rattle.std.specs.Prelude.{◌≡◌, ◌<◌, ◌++◌, All, IfOk, List};
 ghost use Rattle.std.specs.List.Sorted.{IsPermutation};
 ghost use Rattle.lists.specs.declared.limits.TheConstants.{TIME_LIMIT};
-ghost use Rattle.bars.specs.Bars.{AllSumsFit, IsUnionOf, all_bars};
+ghost use Rattle.bars.specs.Bars.{FitIfTraded, IsUnionOf, all_bars};
 ghost use Rattle.bars.specs.Texts.{IsWritable, bars_text};
 ghost use Rattle.bars.specs.declared.bar.Bar.{Bar as TheBar};
 ghost use Rattle.row_types.specs.declared.trade.Sale.{Sale as TheSale};
 ghost use Rattle.row_types.specs.SalesByPlace.{IsByPlace};
-ghost use Rattle.time_and_sales.specs.Names.{last_row, name_text};
+ghost use Rattle.time_and_sales.specs.Lent.{AreApart, all_items, all_sales, lent};
+ghost use Rattle.time_and_sales.specs.Names.{names_by};
 ghost use Rattle.time_and_sales.specs.Texts.{listing_text};
 
 use crate::OutOfMemory;
@@ -19,15 +19,14 @@ use std::thread::Threads;
 use time_and_sales::{Listing, Names};
 
 /// The text of time and sales: a header line, then a line for each of these sales, in their order.
-#[tactic(auto, using(std::proofs::lemmas::Grind::common_steps, time_and_sales::proofs::RangesJoined::flat_map_push))]
+#[tactic(auto, using(std::proofs::lemmas::List::take_all))]
 pub fn text_of_sales<A: Allocator + Copy>(
     alloc: A,
     sales: &[Sale],
     names: &Names<A>,
 ) -> Result<Text<A>, OutOfMemory>
     requires { All (λ sale. sale.time < TIME_LIMIT) sales.now }
-    ensures { IfOk result (λ text. text
-        ≡ listing_text (λ locate. name_text locate (last_row names.now locate)) sales.now) }
+    ensures { IfOk result (λ text. text ≡ listing_text (names_by names.now) sales.now) }
 {
     let mut bytes = Vec::new(alloc);
     time_and_sales::write_header(&mut bytes)?;
@@ -38,14 +37,14 @@ pub fn text_of_sales<A: Allocator + Copy>(
 }
 
 /// The text of a table of bars: a header line, then a line for each of these bars, in their order.
+#[tactic(auto, using(std::proofs::lemmas::List::take_all))]
 pub fn text_of_bars<A: Allocator + Copy>(
     alloc: A,
     table: &[Bar],
     names: &Names<A>,
 ) -> Result<Text<A>, OutOfMemory>
     requires { All IsWritable table.now }
-    ensures { IfOk result (λ text. text
-        ≡ bars_text (λ locate. name_text locate (last_row names.now locate)) table.now) }
+    ensures { IfOk result (λ text. text ≡ bars_text (names_by names.now) table.now) }
 {
     let mut bytes = Vec::new(alloc);
     bars::write_header(&mut bytes)?;
@@ -64,13 +63,11 @@ pub fn text_of_listings<R: Threads + Sync>(
     names: &Names,
     ranges: u32,
 ) -> Result<Text, OutOfMemory>
-    requires apart { IsDistinct nat_eq (map (λ sale. sale.place)
-        (flat_map (λ listing. listing) (map (λ listing. listing.now) listings.now))) }
-    requires times { All (λ sale. sale.time < TIME_LIMIT)
-        (flat_map (λ listing. listing) (map (λ listing. listing.now) listings.now)) }
+    requires apart { AreApart (all_sales (lent listings.now)) }
+    requires times { All (λ sale. sale.time < TIME_LIMIT) (all_sales (lent listings.now)) }
     ensures { IfOk result (λ text. (all : List TheSale) → IsByPlace all →
-        IsPermutation (flat_map (λ listing. listing) (map (λ listing. listing.now) listings.now)) all →
-        text ≡ listing_text (λ locate. name_text locate (last_row names.now locate)) all) }
+        IsPermutation (all_sales (lent listings.now)) all →
+        text ≡ listing_text (names_by names.now) all) }
 {
     let mut header = Vec::new(alloc);
     time_and_sales::write_header(&mut header)?;
@@ -88,11 +85,11 @@ pub fn text_of_tables<R: Threads + Sync>(
     names: &Names,
     ranges: u32,
 ) -> Result<Text, OutOfMemory>
-    requires sums { AllSumsFit (all_bars (map (λ table. table.now) tables.now)) }
-    requires starts { All (λ bar. bar.start < TIME_LIMIT) (all_bars (map (λ table. table.now) tables.now)) }
+    requires sums { FitIfTraded (all_bars (lent tables.now)) }
+    requires starts { All (λ bar. bar.start < TIME_LIMIT) (all_bars (lent tables.now)) }
     ensures { IfOk result (λ text. (all : List TheBar) →
-        IsUnionOf (all_bars (map (λ table. table.now) tables.now)) all →
-        text ≡ bars_text (λ locate. name_text locate (last_row names.now locate)) all) }
+        IsUnionOf (all_bars (lent tables.now)) all →
+        text ≡ bars_text (names_by names.now) all) }
 {
     let mut header = Vec::new(alloc);
     bars::write_header(&mut header)?;
@@ -105,7 +102,7 @@ fn of_all<A: Allocator>(
     header: Vec<u8, A>,
     mut lines: Vec<Vec<u8, A>, A>,
 ) -> Result<Text<A>, OutOfMemory>
-    ensures { IfOk result (λ text. text ≡ header.items ++ flat_map (λ piece. piece.items) lines.items) }
+    ensures { IfOk result (λ text. text ≡ header.items ++ all_items lines.items) }
 {
     lines.insert(0, header)?;
     Text::of(lines)

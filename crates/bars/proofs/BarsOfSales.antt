@@ -1,8 +1,7 @@
 -- Bars of one sale each: joined, they are the bars of all the sales.
 use Rattle.std.proofs.Common.{◌≡◌, ℕ, ◌*◌, ◌+◌, ◌<◌, ◌≤◌, true, cond, ltb, All, List, [], ◌∷◌, ◌++◌, length, map}
-use Rattle.std.proofs.Common.{filter, get_or, None, Some, IsPermutation, fold, nat_eq, Bor, refl, sym, ap, ◌∙◌, arith}
+use Rattle.std.proofs.Common.{filter, get_or, None, Some, IsPermutation, fold, Bor, refl, sym, ap, ◌∙◌, arith}
 use Rattle.std.specs.Fn.{Mut, Called, ComputesKey}
-use Rattle.std.specs.List.{IsDistinct}
 use Rattle.std.specs.List.Sorted.{IsNonDecreasingBy, IsSorted, IsSortedByKey, IsStrictlySortedBy}
 use Rattle.std.proofs.lemmas.Bool.Decides.{nat_tests}
 use Rattle.std.proofs.lemmas.List.{get_or-map, length-map, map-append}
@@ -14,8 +13,9 @@ use Rattle.lists.specs.Least.{greatest_of, least_of}
 use Rattle.lists.proofs.Least.{TellsApart-permutation}
 use Rattle.lists.proofs.Order.{TellsApart-from_distinct}
 use Rattle.row_types.specs.declared.trade.Sale.{Sale}
+use Rattle.time_and_sales.specs.Lent.{AreApart, all_sales}
 use Rattle.time_and_sales.proofs.SortedByPlace.{no_sale, place_of}
-use Rattle.bars.specs.Bars.{Key, Bar, all_bars, all_sales, has_key, bar_of, joined_all, joined_bar, key_cmp, start_of}
+use Rattle.bars.specs.Bars.{Key, Bar, all_bars, has_key, bar_of, interval_start, joined_all, joined_bar, key_cmp}
 use Rattle.bars.specs.Bars.{AreBarsOf, AreBarsOfEach, IsTraded, IsUnionOf}
 use Rattle.bars.specs.declared.form.Form.{Form}
 use Rattle.bars.specs.declared.form.Form.TheVariants.{Sales, Bars}
@@ -127,7 +127,7 @@ form_traded (Bars table) of = of.1
 
 -- ---- sales by locate and time
 
-start_rises : (width a b : ℕ) → 0 < width → a ≤ b → start_of width a ≤ start_of width b
+start_rises : (width a b : ℕ) → 0 < width → a ≤ b → interval_start width a ≤ interval_start width b
 start_rises width a b some h = grind (arith, div-mul-le_self, mul-le-mul_right, le-div)
 
 pub ones_rise : {F : Type 0} {g : Mut F (Bor Sale × Unit {0}) (ℕ × ℕ)} {f : F} (width : ℕ) (sales : List Sale) → 0 < width
@@ -150,7 +150,7 @@ locates_rise width sales up =
     grind (arith, nat_tests, get_or-map one sales k d e, get_or-map one sales (k + 1) d e))
 
 -- the table of sales in another order is theirs
-pub AreBarsOf-sorted : (width : ℕ) (sales sorted : List Sale) (table : List Bar) → IsPermutation sales sorted → IsDistinct nat_eq (map place_of sales)
+pub AreBarsOf-sorted : (width : ℕ) (sales sorted : List Sale) (table : List Bar) → IsPermutation sales sorted → AreApart sales
     → AreBarsOf width sorted table → AreBarsOf width sales table
 AreBarsOf-sorted width sales sorted table perm apart =
     AreBarsOf-permutation width sorted sales table (TellsApart-permutation place_of sales sorted perm (TellsApart-from_distinct place_of sales apart))

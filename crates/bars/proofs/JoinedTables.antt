@@ -1,6 +1,6 @@
 -- Bars joined under each key: of lists one after another, and of tables, which are what lists are joined to.
 use Rattle.std.proofs.Common.{◌≡◌, ℕ, ◌+◌, ◌<◌, Bool, true, ◌&&◌, cond, not, All, List, [], ◌∷◌, ◌++◌, length, map, filter, take, eqb, get_or, Option}
-use Rattle.std.proofs.Common.{Some, None, option_to_list, Contains, IsPermutation, Ordering, Less, Equal, Greater, Bor, refl, sym, ap, ap₂, ◌∙◌, subst, arith}
+use Rattle.std.proofs.Common.{Some, None, Contains, IsPermutation, Ordering, Less, Equal, Greater, Bor, refl, sym, ap, ap₂, ◌∙◌, subst, arith}
 use Rattle.std.proofs.Common.{IfSome}
 use Rattle.std.specs.List.{AllByRecursion, sum_by}
 use Rattle.std.specs.List.Sorted.{IsSorted, IsStrictlySortedBy, IsStableByKey, IsSortedByKey}
@@ -12,6 +12,7 @@ use Rattle.std.proofs.lemmas.List.Sums.{sum_by-cons}
 use Rattle.std.proofs.lemmas.List.Elements.{All-append, All-contains_itself, All-filter, All-head, All-tail, All-weaker, filter_agree}
 use Rattle.std.proofs.lemmas.List.Sorted.{answers_always, IsPermutation-map}
 use Rattle.std.proofs.lemmas.Map.Keys.{sorted_head, sorted_tail}
+use Rattle.time_and_sales.specs.Lent.{lent}
 use Rattle.time_and_sales.proofs.RangesJoined.{flat_map_push}
 use Rattle.bars.specs.Bars.{Key, Bar, key_cmp, found, joined_bar, joined, joined_all, under, all_bars, IsByKey, IsUnionOf, IsTraded}
 use Rattle.bars.specs.Steps.{AreJoinedAlike, put}
@@ -62,18 +63,12 @@ none_above bar [] key above t = refl
 none_above bar (z ∷ bars) key above t = rw (higher_misses bar z key above.0 t) (none_above bar bars key above.1 t)
 
 -- a table has one bar of a key, or none
-pub under_found : (key : Key) (table : List Bar) → IsByKey table → under key table ≡ option_to_list (found table key)
-under_found key [] up = refl
-under_found key (bar ∷ table) up =
-    let more = under_found key table (sorted_tail key_cmp bar table up) in
-    let none = none_above bar table key (sorted_head key_cmp bar table up) in
-    grind arith
-
-joined_alone : (o : Option Bar) → joined_all None (option_to_list o) ≡ o
-joined_alone o = grind arith
-
 pub together_found : (key : Key) (table : List Bar) → IsByKey table → together key table ≡ found table key
-together_found key table up = ap (joined_all None) (under_found key table up) ∙ joined_alone (found table key)
+together_found key [] up = refl
+together_found key (bar ∷ table) up =
+    let more = together_found key table (sorted_tail key_cmp bar table up) in
+    let none = none_above bar table key (sorted_head key_cmp bar table up) in
+    grind (arith, together_cons, joined_none)
 
 -- ---- the table that bars are joined to
 
@@ -204,9 +199,8 @@ alike_behind so_far more other made alike = rw made (alike_parts so_far so_far m
 pub traded_behind : (so_far more : List Bar) {new : List Bar} → new ≡ so_far ++ more → All IsTraded so_far → All IsTraded more → All IsTraded new
 traded_behind so_far more made so all = rw made (All-append IsTraded so_far more so all)
 
-pub traded_more : (parts new : List (Bor (List Bar))) (part : Bor (List Bar)) → All IsTraded (all_bars (map (λ (p : Bor (List Bar)). p.now) parts))
-    → All IsTraded part.now → new ≡ parts ++ part ∷ []
-    → All IsTraded (all_bars (map (λ (p : Bor (List Bar)). p.now) new))
+pub traded_more : (parts new : List (Bor (List Bar))) (part : Bor (List Bar)) → All IsTraded (all_bars (lent parts))
+    → All IsTraded part.now → new ≡ parts ++ part ∷ [] → All IsTraded (all_bars (lent new))
 traded_more parts new part so_far one made =
     rw (made, map_push, flat_map_push) (All-append IsTraded _ part.now so_far one)
 
@@ -218,11 +212,6 @@ Below bar table = AllByRecursion (λ z. key_cmp bar z ≡ Less) table
 below_all : (x y : Bar) → ((z : Bar) → key_cmp y z ≡ Less → key_cmp x z ≡ Less) → (t : List Bar) → Below y t → Below x t
 below_all x y f [] p = tt
 below_all x y f (z ∷ t) p = (f z p.0, below_all x y f t p.1)
-
--- two bars of different keys may come in either order
-turned_alike : (a b : Bar) → key_cmp b a ≡ Less → AreJoinedAlike (b ∷ a ∷ []) (a ∷ b ∷ [])
-turned_alike a b less key =
-    let none = higher_misses b a key less in grind arith
 
 record Puts (bar : Bar) (table made : List Bar) : Type 0 where
   rise : IsByKey made
@@ -251,8 +240,7 @@ puts a (b ∷ table) up =
           record {
             rise = (m.above b turned up.0, m.rise);
             above = λ x p q. (q.0, m.above x p q.1);
-            alike = λ key. alike_parts (b ∷ []) (b ∷ []) (put a table) (a ∷ table) (λ key. refl) m.alike key
-                ∙ alike_parts (b ∷ a ∷ []) (a ∷ b ∷ []) table table (turned_alike a b turned) (λ key. refl) key;
+            alike = λ key. grind (arith, together_cons, joined_none, m.alike key, higher_misses b a key turned);
           }
     ] refl
 

@@ -6,8 +6,9 @@ use Rattle.std.proofs.lemmas.List.Sums.{count_by-le-length, length-filter, sum_b
 use Rattle.std.proofs.lemmas.List.Elements.{All-filter, All-head, All-map, All-tail, All-weaker, filter-append, filter_more}
 use Rattle.std.proofs.Math.Nat.{div-mul-le_self, div-le_of_le-mul}
 use Rattle.row_types.specs.declared.trade.Sale.{Sale}
-use Rattle.bars.specs.Bars.{Key, Bar, start_of, has_key, bar_of, key_cmp, AreBarsOf, AreBarsOfEach, CanJoin, IsUnionOf, AllSumsFit}
-use Rattle.bars.specs.Bars.{IsTraded, joined_all, under, all_bars, all_sales}
+use Rattle.time_and_sales.specs.Lent.{all_sales}
+use Rattle.bars.specs.Bars.{Key, Bar, interval_start, has_key, bar_of, key_cmp, AreBarsOf, AreBarsOfEach, CanJoin, IsUnionOf, AllSumsFit}
+use Rattle.bars.specs.Bars.{IsTraded, joined_all, under, all_bars}
 use Rattle.bars.specs.Steps.{AreJoinedAlike, bar_of_one}
 use Rattle.bars.specs.Texts.{IsWritable}
 use Rattle.bars.proofs.Bars.{found_itself, has, has_itself, key_of, same_has}
@@ -94,7 +95,7 @@ pub starts_of_sales : (width : ℕ) (sales : List Sale) (bars : List Bar) → Ar
     → All (λ (s : Sale). s.time < 2 ^ 48) sales → All (λ (b : Bar). b.start < 2 ^ 48) bars
 starts_of_sales width sales bars alike times =
     starts_alike (2 ^ 48) bars _ alike (All-map (λ (b : Bar). b.start < 2 ^ 48) (bar_of_one width) sales
-    (All-weaker (λ (s : Sale). s.time < 2 ^ 48) (λ s. start_of width s.time < 2 ^ 48)
+    (All-weaker (λ (s : Sale). s.time < 2 ^ 48) (λ s. interval_start width s.time < 2 ^ 48)
     (λ s h. omega (arith, h, div-mul-le_self s.time (width * 1000000000))) sales times))
 
 -- so each bar of a table of theirs can be written

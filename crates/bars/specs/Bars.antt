@@ -1,6 +1,6 @@
 -- What the bar of a list of sales is, and which tables are those of a list of sales.
 -- To be believed.
-use Rattle.std.specs.Prelude.{◌≡◌, ℕ, ◌+◌, ◌*◌, ◌/◌, ◌==◌, ◌<◌, ◌≤◌, ◌^◌, nat_lt, max, min, Bool, ◌&&◌}
+use Rattle.std.specs.Prelude.{◌≡◌, ℕ, ◌+◌, ◌*◌, ◌/◌, ◌==◌, ◌<◌, ◌≤◌, ◌^◌, nat_lt, max, min, All, Bool, ◌&&◌}
 use Rattle.std.specs.Prelude.{cond, List, [], ◌∷◌, length, Option, Some, None, filter, find, sum_by}
 use Rattle.std.specs.List.{AllZip, flat_map}
 use Rattle.std.specs.Ordering.{nat_cmp, ordering_then}
@@ -17,12 +17,12 @@ pub record Key : Type 0 where
   pub start : ℕ
 
 -- the start of the interval that a time lies in, both in nanoseconds, at a width in seconds
-abbrev pub start_of : ℕ → ℕ → ℕ
-start_of width time = time / (width * NANOSECONDS) * (width * NANOSECONDS)
+abbrev pub interval_start : ℕ → ℕ → ℕ
+interval_start width time = time / (width * NANOSECONDS) * (width * NANOSECONDS)
 
 -- the sale's locate and interval are the key's
 abbrev pub has_key : ℕ → Key → Sale → Bool
-has_key width key sale = (sale.locate == key.locate) && (start_of width sale.time == key.start)
+has_key width key sale = (sale.locate == key.locate) && (interval_start width sale.time == key.start)
 
 -- the bar of a sale and others of its key, in whatever order they come: first and last by place, high and low by
 -- price, the sums and the count
@@ -125,10 +125,10 @@ pub record AllSumsFit (bars : List Bar) : Type 0 where
   pub notional : (key : Key) → sum_by (λ bar. bar.notional) (under key bars) < 2 ^ 128
   pub trades : (key : Key) → sum_by (λ bar. bar.trades) (under key bars) < 2 ^ 64
 
+-- the sums of bars fit, if each bar is traded: what may be asked of bars that are known to be traded by their type
+abbrev pub FitIfTraded : List Bar → Type 0
+FitIfTraded bars = All IsTraded bars → AllSumsFit bars
+
 -- each table is that of the list of sales in its position
 abbrev pub AreBarsOfEach : ℕ → List (List Sale) → List (List Bar) → Type 0
 AreBarsOfEach width lists tables = AllZip (AreBarsOf width) lists tables
-
--- the sales of all lists, list by list
-abbrev pub all_sales : List (List Sale) → List Sale
-all_sales lists = flat_map (λ sales. sales) lists

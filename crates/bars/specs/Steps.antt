@@ -1,12 +1,12 @@
 -- What the steps of making tables compute: the bar of one sale, a bar put into a table, bars in order.
 -- To be believed of a crate used by itself: the table of a bucket is defined by them.
-use Rattle.std.specs.Prelude.{◌≡◌, ℕ, ◌<◌, ◌≤◌, All, List, [], ◌∷◌, None, length, map, nat_eq, if◌then◌else◌}
-use Rattle.std.specs.List.{IsDistinct}
+use Rattle.std.specs.Prelude.{◌≡◌, ℕ, ◌<◌, ◌≤◌, All, List, [], ◌∷◌, None, length, if◌then◌else◌}
 use Rattle.std.specs.List.Sorted.{IsNonDecreasingBy}
 use Rattle.std.specs.Ordering.{is_eq, is_lt}
 use Rattle.lists.specs.declared.limits.TheConstants.{SECONDS_OF_DAY, TRADE_LIMIT}
 use Rattle.row_types.specs.declared.trade.Sale.{Sale}
-use Rattle.bars.specs.Bars.{Bar, IsByKey, IsTraded, Key, bar_from, start_of, key_cmp, joined_all, joined_bar, under}
+use Rattle.time_and_sales.specs.Lent.{AreApart}
+use Rattle.bars.specs.Bars.{Bar, IsByKey, IsTraded, Key, bar_from, interval_start, key_cmp, joined_all, joined_bar, under}
 use Rattle.bars.specs.declared.form.Form.{Form}
 use Rattle.bars.specs.declared.form.Form.TheVariants.{Sales, Bars}
 use Rattle.bars.specs.declared.keyed.Keyed.{Keyed}
@@ -14,7 +14,7 @@ use Rattle.bars.specs.declared.keyed.Keyed.TheVariants.{OfSale, OfBar}
 
 -- the bar of one sale
 abbrev pub bar_of_one : ℕ → Sale → Bar
-bar_of_one width sale = bar_from (record { locate = sale.locate; start = start_of width sale.time }) sale []
+bar_of_one width sale = bar_from (record { locate = sale.locate; start = interval_start width sale.time }) sale []
 
 -- a bar put into a table, and joined to the one of its key
 abbrev pub put : Bar → List Bar → List Bar
@@ -34,7 +34,7 @@ bars_of width (sale ∷ sales) = put (bar_of_one width sale) (bars_of width sale
 -- sales that their bars can be made of: their places differ, they are fewer than a file has room for and each of some
 -- shares, their locates rise, the width is one of a day's, and the bar of each is traded
 pub record AreUnmade (width : ℕ) (sales : List Sale) : Type 0 where
-  pub places : IsDistinct nat_eq (map (λ sale. sale.place) sales)
+  pub places : AreApart sales
   pub count : length sales < TRADE_LIMIT
   pub shares : All (λ sale. 0 < sale.shares) sales
   pub within_day : (1 ≤ width) × (width ≤ SECONDS_OF_DAY)

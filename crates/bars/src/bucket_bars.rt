@@ -1,6 +1,6 @@
 //! Bars that are only to be joined and written: made, or kept as the sales that they are of.
-ghost use Rattle.std.specs.Prelude.{◌≡◌, ◌<◌, ◌≤◌, All, IfOk, length, map, nat_eq};
-ghost use Rattle.std.specs.List.{IsDistinct};
+ghost use Rattle.std.specs.Prelude.{◌≡◌, ◌<◌, ◌≤◌, All, IfOk, length};
+ghost use Rattle.time_and_sales.specs.Lent.{AreApart};
 ghost use Rattle.bars.specs.Bars.{AreBarsOf, IsTraded};
 ghost use Rattle.bars.specs.Steps.{AreOfForm, bars_of_form};
 
@@ -37,7 +37,7 @@ impl BucketBars {
     /// are put in order in place and have no more room than they need.
     #[tactic(auto, using(std::proofs::lemmas::List::Sorted::length_permutation))]
     pub fn of_vec(mut sales: Vec<Sale>, width: u32) -> BucketBars
-        requires places { IsDistinct nat_eq (map (λ sale. sale.place) sales.items) }
+        requires places { AreApart sales.items }
         requires count { length sales.items < TRADE_LIMIT }
         requires shares { All (λ sale. 0 < sale.shares) sales.items }
         requires width { (1 ≤ width) × (width ≤ SECONDS_OF_DAY) }

@@ -2,7 +2,7 @@
 ghost use Rattle.std.specs.Prelude.{◌≡◌, ◌<◌, All, IfOk, List, map};
 ghost use Rattle.std.specs.List.Sorted.{IsSorted};
 ghost use Rattle.lists.specs.declared.limits.TheConstants.{TIME_LIMIT};
-ghost use Rattle.time_and_sales.specs.Names.{last_row, name_text};
+ghost use Rattle.time_and_sales.specs.Names.{names_by};
 ghost use Rattle.bars.specs.Bars.{AllSumsFit, IsTraded, IsUnionOf, key_cmp};
 ghost use Rattle.bars.specs.Steps.{bar_at};
 ghost use Rattle.bars.specs.Texts.{lines_text};
@@ -28,7 +28,7 @@ pub(crate) fn joined_lines(
     requires told { All (λ bar. IsTraded bar × (bar.start < TIME_LIMIT)) (map bar_at sorted.now) }
     requires sums { AllSumsFit (map bar_at sorted.now) }
     ensures { IfOk result (λ text. (all : List TheBar) → IsUnionOf (map bar_at sorted.now) all →
-        text.items ≡ lines_text (λ locate. name_text locate (last_row names.now locate)) all) }
+        text.items ≡ lines_text (names_by names.now) all) }
 {
     if sorted.is_empty() {
         return Ok(Vec::new(alloc));
@@ -53,8 +53,8 @@ pub(crate) fn joined_lines(
 /// The name of a locate, which isn't looked up if it is the same locate as before.
 #[inline]
 fn next_name(names: &Names, name: Name, before: u16, locate: u16) -> Name
-    requires { name ≡ name_text before (last_row names.now before) }
-    ensures { result ≡ name_text locate (last_row names.now locate) }
+    requires { name ≡ names_by names.now before }
+    ensures { result ≡ names_by names.now locate }
 {
     if locate == before {
         name

@@ -3,7 +3,7 @@ ghost use Rattle.std.specs.Prelude.{◌≡◌, ◌<◌, ◌++◌, OnOk, map};
 ghost use Rattle.bars.specs.Steps.{bar_at, bar_of_one};
 
 use crate::OutOfMemory;
-use crate::bar::{Bar, start_of};
+use crate::bar::{Bar, interval_start};
 use row_types::Sale;
 
 /// A sale or a bar beside its key, so that they are sorted by key without a look at them. The locate
@@ -69,7 +69,7 @@ pub(crate) fn append_sales<'a>(
     for sale in sales {
         keyed.push(Keyed::OfSale {
             locate: sale.locate,
-            start: start_of(sale.time, width),
+            start: interval_start(sale.time, width),
             sale,
         })?;
     }

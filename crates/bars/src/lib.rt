@@ -4,6 +4,7 @@
 //! sales merge into the table of both lists together, whatever the order of the sales.
 #![tactic(auto)]
 
+mod average;
 mod bar;
 mod bucket_bars;
 mod form;

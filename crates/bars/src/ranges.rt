@@ -1,11 +1,11 @@
 //! The lines of many tables, of ranges of locates by threads.
 ghost use Rattle.std.specs.Prelude.{◌≡◌, ◌<◌, ◌++◌, All, IfOk, OnOk, List, drop, filter, length, map};
-ghost use Rattle.std.specs.List.{flat_map};
 ghost use Rattle.std.specs.List.Sorted.{IsSorted};
 ghost use Rattle.lists.specs.declared.limits.TheConstants.{TIME_LIMIT};
-ghost use Rattle.time_and_sales.specs.Names.{last_row, name_text};
+ghost use Rattle.time_and_sales.specs.Lent.{all_items, lent};
+ghost use Rattle.time_and_sales.specs.Names.{names_by};
 ghost use Rattle.time_and_sales.specs.Texts.{is_in_first};
-ghost use Rattle.bars.specs.Bars.{AllSumsFit, IsTraded, IsUnionOf, all_bars, key_cmp};
+ghost use Rattle.bars.specs.Bars.{FitIfTraded, IsTraded, IsUnionOf, all_bars, key_cmp};
 ghost use Rattle.bars.specs.Steps.{AreJoinedAlike, bar_at};
 ghost use Rattle.bars.specs.Texts.{lines_text};
 ghost use Rattle.bars.specs.declared.bar.Bar.{Bar as TheBar};
@@ -31,12 +31,11 @@ pub fn lines_in_ranges<R: Threads + Sync>(
     names: &Names,
     ranges: u32,
 ) -> Result<Vec<Vec<u8>>, OutOfMemory>
-    requires sums { AllSumsFit (all_bars (map (λ table. table.now) tables.now)) }
-    requires starts { All (λ bar. bar.start < TIME_LIMIT) (all_bars (map (λ table. table.now) tables.now)) }
+    requires sums { FitIfTraded (all_bars (lent tables.now)) }
+    requires starts { All (λ bar. bar.start < TIME_LIMIT) (all_bars (lent tables.now)) }
     ensures { IfOk result (λ texts. (all : List TheBar) →
-        IsUnionOf (all_bars (map (λ table. table.now) tables.now)) all →
-        flat_map (λ text. text.items) texts.items
-        ≡ lines_text (λ locate. name_text locate (last_row names.now locate)) all) }
+        IsUnionOf (all_bars (lent tables.now)) all →
+        all_items texts.items ≡ lines_text (names_by names.now) all) }
 {
     let locates = match longest(tables) {
         Some(form) => locates_of(alloc, form, ranges)?,
@@ -50,11 +49,11 @@ pub fn lines_in_ranges<R: Threads + Sync>(
         bounds.len(),
         &|i: usize| -> Result<Vec<u8>, OutOfMemory>
             requires { (i < length bounds.now)
-                × AllSumsFit (all_bars (map (λ table. table.now) tables.now))
-                × All (λ bar. bar.start < TIME_LIMIT) (all_bars (map (λ table. table.now) tables.now)) }
+                × FitIfTraded (all_bars (lent tables.now))
+                × All (λ bar. bar.start < TIME_LIMIT) (all_bars (lent tables.now)) }
             ensures { IfOk result (λ text. (all : List TheBar) →
-                IsUnionOf (all_bars (map (λ table. table.now) tables.entry.now)) all →
-                text.items ≡ lines_text (λ locate. name_text locate (last_row names.entry.now locate))
+                IsUnionOf (all_bars (lent tables.entry.now)) all →
+                text.items ≡ lines_text (names_by names.entry.now)
                 (filter (is_in_first (λ bar. bar.locate) (drop i bounds.entry.now)) all)) }
         { range_lines(alloc, tables, names, &bounds[i..]) },
     )
@@ -85,11 +84,11 @@ fn range_lines(
     names: &Names,
     bounds: &[u64],
 ) -> Result<Vec<u8>, OutOfMemory>
-    requires sums { AllSumsFit (all_bars (map (λ table. table.now) tables.now)) }
-    requires starts { All (λ bar. bar.start < TIME_LIMIT) (all_bars (map (λ table. table.now) tables.now)) }
+    requires sums { FitIfTraded (all_bars (lent tables.now)) }
+    requires starts { All (λ bar. bar.start < TIME_LIMIT) (all_bars (lent tables.now)) }
     ensures { IfOk result (λ text. (all : List TheBar) →
-        IsUnionOf (all_bars (map (λ table. table.now) tables.now)) all →
-        text.items ≡ lines_text (λ locate. name_text locate (last_row names.now locate))
+        IsUnionOf (all_bars (lent tables.now)) all →
+        text.items ≡ lines_text (names_by names.now)
         (filter (is_in_first (λ bar. bar.locate) bounds.now) all)) }
 {
     let sorted = range_of(alloc, tables, bounds)?;
@@ -104,8 +103,9 @@ fn range_of<'a>(
 ) -> Result<Vec<Keyed<'a>>, OutOfMemory>
     ensures rise { IfOk result (λ sorted. IsSorted key_cmp (map bar_at sorted.items)) }
     ensures alike { IfOk result (λ sorted. AreJoinedAlike (map bar_at sorted.items)
-        (filter (is_in_first (λ bar. bar.locate) bounds.now) (all_bars (map (λ table. table.now) tables.now)))) }
+        (filter (is_in_first (λ bar. bar.locate) bounds.now) (all_bars (lent tables.now)))) }
     ensures traded { IfOk result (λ sorted. All IsTraded (map bar_at sorted.items)) }
+    ensures tables { OnOk result (All IsTraded (all_bars (lent tables.now))) }
 {
     let mut keyed = gathered(alloc, tables, bounds)?;
     keyed.sort_by_key(|one| one.key())?;
@@ -120,8 +120,9 @@ fn gathered<'a>(
     bounds: &[u64],
 ) -> Result<Vec<Keyed<'a>>, OutOfMemory>
     ensures alike { IfOk result (λ keyed. AreJoinedAlike (map bar_at keyed.items)
-        (filter (is_in_first (λ bar. bar.locate) bounds.now) (all_bars (map (λ table. table.now) tables.now)))) }
+        (filter (is_in_first (λ bar. bar.locate) bounds.now) (all_bars (lent tables.now)))) }
     ensures traded { IfOk result (λ keyed. All IsTraded (map bar_at keyed.items)) }
+    ensures tables { OnOk result (All IsTraded (all_bars (lent tables.now))) }
 {
     let mut keyed = Vec::with_capacity(alloc, count_within(tables, bounds))?;
     for table in tables {
@@ -141,6 +142,7 @@ fn append_within<'a>(
         (map bar_at keyed.old.items ++ filter (is_in_first (λ bar. bar.locate) bounds.now) table.now)) }
     ensures traded { OnOk result
         (All IsTraded (map bar_at keyed.old.items) → All IsTraded (map bar_at keyed.new.items)) }
+    ensures table { All IsTraded table.now }
 {
     match table.form() {
         Form::Sales { sales, width } => {

@@ -1,13 +1,13 @@
 //! A table of bars.
 ghost use Rattle.std.specs.Prelude.{◌≡◌, ℕ, ◌<◌, ◌≤◌, List, [], ◌∷◌, ◌++◌, length, map};
-ghost use Rattle.std.specs.Prelude.{All, Contains, IfOk, OnErr, OnOk, false, nat_eq};
-ghost use Rattle.std.specs.List.{IsDistinct};
+ghost use Rattle.std.specs.Prelude.{All, Contains, IfOk, OnErr, OnOk, false};
 ghost use Rattle.row_types.specs.declared.trade.Sale.{Sale};
+ghost use Rattle.time_and_sales.specs.Lent.{AreApart, all_sales, lent};
 ghost use Rattle.std.specs.List.Sorted.{IsPermutation, IsSorted};
 ghost use Rattle.std.specs.Ordering.{is_gt};
 ghost use Rattle.std.specs.declared.cmp.Ordering.TheVariants.{Equal};
 ghost use Rattle.bars.specs.Bars.{AllSumsFit, AreBarsOf, AreBarsOfEach, CanJoin, IsByKey, IsTraded, IsUnionOf};
-ghost use Rattle.bars.specs.Bars.{all_bars, all_sales, key_cmp};
+ghost use Rattle.bars.specs.Bars.{FitIfTraded, all_bars, key_cmp};
 ghost use Rattle.bars.specs.Steps.{bar_of_one};
 ghost use Rattle.bars.specs.declared.bar.Bar.{Bar as TheBar};
 
@@ -73,7 +73,7 @@ impl<A: Allocator + Clone> BarTable<A> {
     /// The table of the sales, in whatever order they are, at a width in seconds. It is refused if
     /// there is no memory to sort a copy of them, or for the bars.
     pub fn of_sales(alloc: A, sales: &[Sale], width: u32) -> Result<BarTable<A>, OutOfMemory>
-        requires places { IsDistinct nat_eq (map (λ sale. sale.place) sales.now) }
+        requires places { AreApart sales.now }
         requires count { length sales.now < TRADE_LIMIT }
         requires shares { All (λ sale. 0 < sale.shares) sales.now }
         requires width { (1 ≤ width) × (width ≤ SECONDS_OF_DAY) }
@@ -92,7 +92,7 @@ impl<A: Allocator + Clone> BarTable<A> {
         mut sales: Vec<Sale, B>,
         width: u32,
     ) -> Result<BarTable<A>, OutOfMemory>
-        requires places { IsDistinct nat_eq (map (λ sale. sale.place) sales.items) }
+        requires places { AreApart sales.items }
         requires count { length sales.items < TRADE_LIMIT }
         requires shares { All (λ sale. 0 < sale.shares) sales.items }
         requires width { (1 ≤ width) × (width ≤ SECONDS_OF_DAY) }
@@ -141,11 +141,10 @@ impl<A: Allocator + Clone> BarTable<A> {
         alloc: A,
         tables: &[&BarTable<B>],
     ) -> Result<BarTable<A>, OutOfMemory>
-        requires sums { AllSumsFit (all_bars (map (λ table. table.now) tables.now)) }
-        ensures union { IfOk result
-            (λ all. IsUnionOf (all_bars (map (λ table. table.now) tables.now)) all) }
+        requires sums { FitIfTraded (all_bars (lent tables.now)) }
+        ensures union { IfOk result (λ all. IsUnionOf (all_bars (lent tables.now)) all) }
         ensures bars { IfOk result (λ all. (width : ℕ) (lists : List (List Sale)) →
-            AreBarsOfEach width lists (map (λ table. table.now) tables.now) →
+            AreBarsOfEach width lists (lent tables.now) →
             AreBarsOf width (all_sales lists) all) }
         ensures traded { IfOk result (λ all. All IsTraded all) }
     {
@@ -243,9 +242,8 @@ fn merge_bars<'a, A: Allocator + Clone>(
 
 /// One list of the bars of all parts, by key, those of one key made one.
 fn unite<A: Allocator + Clone>(alloc: A, parts: &[&[Bar]]) -> Result<Vec<Bar, A>, OutOfMemory>
-    requires { AllSumsFit (all_bars (map (λ part. part.now) parts.now)) }
-    ensures { IfOk result
-        (λ bars. IsUnionOf (all_bars (map (λ part. part.now) parts.now)) bars.items) }
+    requires { AllSumsFit (all_bars (lent parts.now)) }
+    ensures { IfOk result (λ bars. IsUnionOf (all_bars (lent parts.now)) bars.items) }
 {
     let mut sorted = all_of(alloc.clone()?, parts)?;
     sorted.sort_by_key(|bar| (bar.locate, bar.start))?;
@@ -254,8 +252,7 @@ fn unite<A: Allocator + Clone>(alloc: A, parts: &[&[Bar]]) -> Result<Vec<Bar, A>
 
 /// The bars of all parts, part by part.
 fn all_of<'a, A: Allocator>(alloc: A, parts: &[&'a [Bar]]) -> Result<Vec<&'a Bar, A>, OutOfMemory>
-    ensures { IfOk result (λ bars. map (λ bar. bar.now) bars.items
-        ≡ all_bars (map (λ part. part.now) parts.now)) }
+    ensures { IfOk result (λ bars. lent bars.items ≡ all_bars (lent parts.now)) }
 {
     let mut bars = Vec::with_capacity(alloc, count_bars(parts))?;
     for part in parts {
@@ -275,9 +272,9 @@ fn count_bars(parts: &[&[Bar]]) -> usize {
 /// Sorted bars in one list, those of one key made one.
 #[tactic(auto, using(std::proofs::lemmas::List::take_all, crate::proofs::JoinedTables::union_of_none))]
 fn join_all<A: Allocator>(alloc: A, sorted: &[&Bar]) -> Result<Vec<Bar, A>, OutOfMemory>
-    requires rise { IsSorted key_cmp (map (λ bar. bar.now) sorted.now) }
-    requires sums { AllSumsFit (map (λ bar. bar.now) sorted.now) }
-    ensures { IfOk result (λ bars. IsUnionOf (map (λ bar. bar.now) sorted.now) bars.items) }
+    requires rise { IsSorted key_cmp (lent sorted.now) }
+    requires sums { AllSumsFit (lent sorted.now) }
+    ensures { IfOk result (λ bars. IsUnionOf (lent sorted.now) bars.items) }
 {
     let mut bars = Vec::with_capacity(alloc, sorted.len())?;
     for bar in sorted {

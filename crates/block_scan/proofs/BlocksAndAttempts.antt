@@ -1,5 +1,6 @@
 -- All blocks of a source are of it, and so is what comes of them.
-use Rattle.std.proofs.Common.{◌≡◌, ℕ, zero, suc, ◌<◌, Option, Some, None, Result, Ok, Err, IsOk, true≢false, List, [], ◌∷◌, ◌++◌, All, length, map, get_or, refl, sym, ap, ap₂, ◌∙◌, arith}
+use Rattle.std.proofs.Common.{◌≡◌, ℕ, zero, suc, ◌<◌, Option, Some, None, Result, Ok, Err, IsOk, true≢false, List, [], ◌∷◌, ◌++◌, All, length, map, get_or}
+use Rattle.std.proofs.Common.{refl, sym, ap, ap₂, ◌∙◌, arith}
 use Rattle.std.specs.Arc.{arc_value}
 use Rattle.std.specs.declared.sync.Arc.{Arc}
 use Rattle.std.specs.List.{AllWithin}
@@ -12,10 +13,10 @@ use Rattle.lists.specs.Least.{numbers_below}
 use Rattle.block_scan.specs.Attempts.{AreAttemptsOf, AreBlocks, AreOf, AttemptView, BlockView, block_at, blocks_of, first_fault_of}
 use Rattle.block_scan.specs.Pieces.{Asked, IsAskable}
 use Rattle.streaming.specs.declared.fault.SourceFault.{SourceFault}
-use Rattle.block_scan.specs.declared.piece.Piece.{Piece}
+use Rattle.block_scan.specs.declared.scanned_block.ScannedBlock.{ScannedBlock}
 use Rattle.block_scan.specs.declared.request.Request.{Request}
 
-passed : (found : Result Piece SourceFault) (other : Option SourceFault) → IsOk found → option_or (result_err found) other ≡ other
+passed : (found : Result ScannedBlock SourceFault) (other : Option SourceFault) → IsOk found → option_or (result_err found) other ≡ other
 passed (Ok piece) other is = refl
 passed (Err fault) other is = absurd (true≢false (sym is))
 
@@ -53,7 +54,7 @@ module _ {S : Type 0} where
       → first_fault_of attempts ≡ Some fault
   first_found [] k v fault ok below here is = absurd (omega (arith, below))
   first_found (a ∷ attempts) zero v fault ok below here is =
-      ap (λ (found : Result Piece SourceFault). option_or (result_err found) (first_fault_of attempts)) (ap (λ (x : AttemptView S). x.found) here ∙ is)
+      ap (λ (found : Result ScannedBlock SourceFault). option_or (result_err found) (first_fault_of attempts)) (ap (λ (x : AttemptView S). x.found) here ∙ is)
   first_found (a ∷ attempts) (suc k) v fault ok below here is =
       passed a.found (first_fault_of attempts) (ok 0 a (omega arith) (omega arith))
       ∙ first_found attempts k v fault (λ n d low less. ok (suc n) d (omega arith) (omega (arith, less))) (omega (arith, below)) here is

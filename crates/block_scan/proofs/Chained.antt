@@ -19,9 +19,10 @@ use Rattle.scanning.proofs.TotalOfScans.{total_more}
 use Rattle.block_scan.specs.Blocks.{GaveWhole}
 use Rattle.block_scan.specs.Pieces.{Asked, IsChained, IsPiece, IsTried}
 use Rattle.streaming.specs.declared.fault.SourceFault.{SourceFault}
-use Rattle.block_scan.specs.declared.piece.Piece.{Piece}
-use Rattle.block_scan.specs.declared.piece.Tail.TheVariants.{Cut}
+use Rattle.block_scan.specs.declared.scanned_block.ScannedBlock.{ScannedBlock}
+use Rattle.block_scan.specs.declared.scanned_block.Tail.TheVariants.{Cut}
 use Rattle.block_scan.specs.declared.request.Request.{Request}
+use Rattle.block_scan.specs.declared.source.BlockSource.{Ghosts as BlockSourceOf}
 
 -- ---- one run more
 
@@ -45,18 +46,19 @@ total_with request place runs frames run stands here =
 
 -- ---- a piece more
 
-module _ {S : Type 0} (GaveAt : S → ℕ → List ℕ → Type 0) (EndsAt : S → ℕ → Type 0)
-    (gave_more : (s : S) (place : ℕ) (xs ys : List ℕ) → GaveAt s place xs → GaveAt s (place + length xs) ys → GaveAt s place (xs ++ ys))
-    (gave_front : (s : S) (place : ℕ) (xs ys : List ℕ) → GaveAt s place (xs ++ ys) → GaveAt s place xs)
-    {source : S} {request : Request} {at : ℕ} {old : ScanTotalView} {piece : Piece} (chained : IsChained GaveAt EndsAt source request at old)
-    (is : IsPiece GaveAt EndsAt source request piece) (begins : piece.start ≡ at) where
+module _ {S : Type 0} (device : BlockSourceOf S)
+    (gave_more : (s : S) (place : ℕ) (xs ys : List ℕ) → device.GaveAt s place xs → device.GaveAt s (place + length xs) ys
+    → device.GaveAt s place (xs ++ ys))
+    (gave_front : (s : S) (place : ℕ) (xs ys : List ℕ) → device.GaveAt s place (xs ++ ys) → device.GaveAt s place xs)
+    {source : S} {request : Request} {at : ℕ} {old : ScanTotalView} {piece : ScannedBlock} (chained : IsChained device source request at old)
+    (is : IsPiece device source request piece) (begins : piece.start ≡ at) where
   -- bytes of the piece behind those of the runs
-  gave_behind : (bytes : List ℕ) → GaveAt source piece.start bytes → GaveAt source 0 (concat chained.runs ++ bytes)
+  gave_behind : (bytes : List ℕ) → device.GaveAt source piece.start bytes → device.GaveAt source 0 (concat chained.runs ++ bytes)
   gave_behind bytes gave =
-      gave_more source 0 (concat chained.runs) bytes chained.gave (subst (λ k. GaveAt source k bytes) (omega (arith, chained.at_is, begins)) gave)
+      gave_more source 0 (concat chained.runs) bytes chained.gave (subst (λ k. device.GaveAt source k bytes) (omega (arith, chained.at_is, begins)) gave)
 
   -- with the piece, which has a frame
-  pub chain_more : piece.start < piece.end → IsChained GaveAt EndsAt source request piece.end (with_scan old piece.scanned)
+  pub chain_more : piece.start < piece.end → IsChained device source request piece.end (with_scan old piece.scanned)
   chain_more longer =
       let runs = chained.runs in
       let run = is.bytes in
@@ -71,7 +73,7 @@ module _ {S : Type 0} (GaveAt : S → ℕ → List ℕ → Type 0) (EndsAt : S �
       }
 
   -- where it ends at a frame that is cut off, the source is truncated there
-  pub chain_cut : piece.tail ≡ Cut → (day : List ℕ) × GaveWhole GaveAt EndsAt request.limit source day × IsTruncatedAt day piece.end
+  pub chain_cut : piece.tail ≡ Cut → (day : List ℕ) × GaveWhole device request.limit source day × Unit {0} × IsTruncatedAt day piece.end
   chain_cut cut =
       let tail = is.cut cut in
       let before = concat chained.runs in
@@ -89,16 +91,17 @@ module _ {S : Type 0} (GaveAt : S → ℕ → List ℕ → Type 0) (EndsAt : S �
         day,
         record {
           gave = gave_behind behind is.gave;
-          ended = subst (EndsAt source) (sym long) tail.2;
+          ended = subst (device.EndsAt source) (sym long) tail.2;
           within = omega (arith, long, is.within);
         },
+        tt,
         subst (IsTruncatedAt day) place
             (truncated_later day (length before) (length is.bytes) (subst IsWhole (sym (take_at before behind (length before) refl)) front)
             (subst (λ l. IsTruncatedAt l (length is.bytes)) (sym (drop_at before behind (length before) refl)) here)),
       )
 
 -- the same of another source, request and result
-pub tried_of : {S : Type 0} (GaveAt : S → ℕ → List ℕ → Type 0) (EndsAt FailsAt : S → ℕ → Type 0) {a b : Asked S} {f g : Result Piece SourceFault} → a ≡ b
-    → f ≡ g → IsTried GaveAt EndsAt FailsAt a.source a.request f → IsTried GaveAt EndsAt FailsAt b.source b.request g
-tried_of {S} GaveAt EndsAt FailsAt {g = g} same results tried =
-    subst (λ (x : Asked S). IsTried GaveAt EndsAt FailsAt x.source x.request g) same (subst (IsTried GaveAt EndsAt FailsAt _ _) results tried)
+pub tried_of : {S : Type 0} (device : BlockSourceOf S) {a b : Asked S} {f g : Result ScannedBlock SourceFault} → a ≡ b → f ≡ g
+    → IsTried device a.source a.request f → IsTried device b.source b.request g
+tried_of {S} device {g = g} same results tried =
+    subst (λ (x : Asked S). IsTried device x.source x.request g) same (subst (IsTried device _ _) results tried)

@@ -11,7 +11,7 @@ use Rattle.lists.proofs.Exact.{IsExact, exact_equiv, exact_list, exact_nat, exac
 use Rattle.lists.specs.Least.{numbers_below}
 use Rattle.gathering.specs.Adding.{same_inputs}
 use Rattle.streaming.specs.declared.fault.SourceFault.{SourceFault}
-use Rattle.block_scan.specs.declared.piece.Piece.{Piece}
+use Rattle.block_scan.specs.declared.scanned_block.ScannedBlock.{ScannedBlock}
 use Rattle.block_scan.specs.declared.request.Request.{Request}
 use Rattle.block_scan.specs.Pieces.{Asked, IsAskable}
 
@@ -26,7 +26,7 @@ module _ (S : Type 0) where
   -- what came of a block of this source: a piece, or why there is none
   pub record AttemptView : Type 0 where
     pub asked : Asked S
-    pub found : Result Piece SourceFault
+    pub found : Result ScannedBlock SourceFault
 
 -- both requests ask the same
 abbrev pub is_same_request : Request → Request → Bool

@@ -7,36 +7,38 @@ use Rattle.std.proofs.Common.{arith, refl, sym, ap, ◌∙◌}
 use Rattle.std.proofs.Math.Seq.{drop-append_seam, take-add, take-append_seam}
 use Rattle.std.proofs.lemmas.List.{drop-drop, drop-take, length-append, take-take}
 use Rattle.lists.proofs.Exact.{IsExact, exact_list, exact_nat, exact_option}
+use Rattle.block_scan.specs.declared.source.BlockSource.{Ghosts as BlockSourceOf}
 use Rattle.streaming.specs.Readings.{IsSourceFault, Reading}
 use Rattle.streaming.specs.declared.fault.SourceFault.{SourceFault}
 
--- S is a source, and `GaveAt` says which bytes it gave to readings from a place on.
-module _ {S : Type 0} (GaveAt : S → ℕ → List ℕ → Type 0) where
+-- S is sources, and `device` the members of their `BlockSource`: `device.GaveAt` says which bytes a source gave to
+-- readings from a place on, `device.EndsAt` that a reading at a place found none there, and `device.FailsAt` that one
+-- failed.
+module _ {S : Type 0} (device : BlockSourceOf S) where
   -- readings gave these bytes from the source's start on, no more than the limit, and one found no byte after them
-  pub record GaveWhole (EndsAt : S → ℕ → Type 0) (limit : ℕ) (source : S) (day : List ℕ) : Type 0 where
-    pub gave : GaveAt source 0 day
-    pub ended : EndsAt source (length day)
+  pub record GaveWhole (limit : ℕ) (source : S) (day : List ℕ) : Type 0 where
+    pub gave : device.GaveAt source 0 day
+    pub ended : device.EndsAt source (length day)
     pub within : length day ≤ limit
 
 -- what is known of a source S that is read at places. `all` says of bytes that readings gave them from its start up
 -- to where one found no byte, within the limit; `longer`, that one gave a byte at the limit; `failed`, that one
--- failed at some place. No reading changes the source, so `some` and `untouched` say nothing, and it is cut into no
--- morsels, so they are never too many. `GaveAt` says which bytes it gave to readings from a place on, `EndsAt` that a
--- reading at a place found none there, and `FailsAt` that one failed.
-abbrev pub of_blocks : {S : Type 0} → (S → ℕ → List ℕ → Type 0) → (S → ℕ → Type 0) → (S → ℕ → Type 0) → ℕ → S → Reading
-of_blocks GaveAt EndsAt FailsAt limit source = record {
-  all = GaveWhole GaveAt EndsAt limit source;
+-- failed at some place. It is cut into no morsels, so they are never too many (`too_many` never holds), and any bytes
+-- are `answerable`. No reading changes it, so `some` and `untouched` say nothing.
+abbrev pub of_blocks : {S : Type 0} → BlockSourceOf S → ℕ → S → Reading
+of_blocks device limit source = record {
+  all = GaveWhole device limit source;
+  answerable = λ day. Unit {0};
   some = Unit {0};
-  longer = (byte : ℕ) × GaveAt source limit (byte ∷ []);
-  failed = (place : ℕ) × FailsAt source place;
+  longer = (byte : ℕ) × device.GaveAt source limit (byte ∷ []);
+  failed = (place : ℕ) × device.FailsAt source place;
   too_many = ⊥;
   untouched = Unit {0};
 }
 
 -- what each refusal of a source that is read at places says
-abbrev pub IsBlocksFault : {S : Type 0} → (S → ℕ → List ℕ → Type 0) → (S → ℕ → Type 0) → (S → ℕ → Type 0)
-    → S → ℕ → SourceFault → Type 0
-IsBlocksFault GaveAt EndsAt FailsAt source limit = IsSourceFault (of_blocks GaveAt EndsAt FailsAt limit source)
+abbrev pub IsBlocksFault : {S : Type 0} → BlockSourceOf S → S → ℕ → SourceFault → Type 0
+IsBlocksFault device source limit = IsSourceFault (of_blocks device limit source)
 
 -- ---- what a device gives at places, if it is known what it holds
 

@@ -5,8 +5,8 @@ ghost use Rattle.streaming.specs.declared.fault.SourceFault.{SourceFault};
 ghost use Rattle.block_scan.specs.Attempts.{AttemptView};
 ghost use Rattle.block_scan.specs.Pieces.{IsAskable, IsTried};
 
-use crate::piece::Piece;
 use crate::request::Request;
+use crate::scanned_block::ScannedBlock;
 use crate::source::BlockSource;
 use std::alloc::Global;
 use std::marker::Model;
@@ -19,7 +19,7 @@ use streaming::SourceFault;
 pub struct Attempt<S: BlockSource> {
     pub(crate) source: Arc<S, Global>,
     pub(crate) request: Request,
-    pub(crate) found: Result<Piece, SourceFault>,
+    pub(crate) found: Result<ScannedBlock, SourceFault>,
 }
 
 impl<S: BlockSource> Model for Attempt<S> {
@@ -31,7 +31,7 @@ impl<S: BlockSource> Model for Attempt<S> {
     } };
 
     ghost invariant = { λ attempt. IsAskable attempt.request
-        × IsTried S.GaveAt S.EndsAt S.FailsAt (arc_value attempt.source) attempt.request attempt.found
+        × IsTried S.BlockSource (arc_value attempt.source) attempt.request attempt.found
         × (IsErrOf attempt.found SourceFault.OutOfMemory → ⊥) };
 }
 

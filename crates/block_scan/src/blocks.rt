@@ -39,7 +39,7 @@ pub fn block_inputs<S: BlockSource + Send + Sync>(
     // A reading at the limit found no byte there.
     ensures asked { OnOk result (S.EndsAt (arc_value source.now) limit) }
 
-    ensures fault { IfErr result (IsBlocksFault S.GaveAt S.EndsAt S.FailsAt (arc_value source.now) limit) }
+    ensures fault { IfErr result (IsBlocksFault S.BlockSource.own (arc_value source.now) limit) }
 {
     let mut byte = [0u8; 1];
     if source.read_at(limit, &mut byte)? > 0 {

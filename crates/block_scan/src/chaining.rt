@@ -7,9 +7,9 @@ ghost use Rattle.block_scan.specs.Blocks.{IsBlocksFault};
 ghost use Rattle.block_scan.specs.Pieces.{Asked, ChainedView, IsAskable, IsChained, IsGoneOn, IsPiece, IsScannedWhole};
 
 use crate::attempt::{Attempt, Attempts};
-use crate::piece::{Piece, Tail};
-use crate::reading::{scan_piece, zeros};
+use crate::block_reading::{scan_piece, zeros};
 use crate::request::Request;
+use crate::scanned_block::{ScannedBlock, Tail};
 use crate::source::BlockSource;
 use scanning::ScanTotal;
 use std::alloc::Global;
@@ -25,9 +25,9 @@ impl<S: BlockSource> Attempts<S> {
     pub fn join(&self, alloc: Global) -> Result<ScanTotal, SourceFault>
         requires { (asked : Asked S) × AreAttemptsOf asked self.now }
         ensures scanned { (asked : Asked S) → AreAttemptsOf asked self.now →
-            IfOk result (IsScannedWhole S.GaveAt S.EndsAt asked.source asked.request) }
+            IfOk result (IsScannedWhole S.BlockSource.own asked.source asked.request) }
         ensures fault { (asked : Asked S) → AreAttemptsOf asked self.now →
-            IfErr result (IsBlocksFault S.GaveAt S.EndsAt S.FailsAt asked.source asked.request.limit) }
+            IfErr result (IsBlocksFault S.BlockSource.own asked.source asked.request.limit) }
         ensures unread { Any (λ attempt. IsErr attempt.found) self.now → IsErr result }
         ensures first { (fault : TheFault) → first_fault_of self.now ≡ Some fault → result ≡ Err fault }
     {
@@ -44,7 +44,7 @@ impl<S: BlockSource> Attempts<S> {
         ensures first { result ≡ first_fault_of self.now }
         ensures fault { MatchOption result (All (λ attempt. IsOk attempt.found) self.now)
             (λ fault. (asked : Asked S) → AreAttemptsOf asked self.now →
-            IsBlocksFault S.GaveAt S.EndsAt S.FailsAt asked.source asked.request.limit fault) }
+            IsBlocksFault S.BlockSource.own asked.source asked.request.limit fault) }
     {
         for attempt in &self.items {
             if let Err(fault) = attempt.found {
@@ -65,8 +65,8 @@ fn chain<S: BlockSource>(
     requires request { IsAskable request }
     requires attempts { All (λ attempt. attempt.asked ≡ record { source = source.now; request = request })
         (map arc_value attempts.now) }
-    ensures scanned { IfOk result (IsScannedWhole S.GaveAt S.EndsAt source.now request) }
-    ensures fault { IfErr result (IsBlocksFault S.GaveAt S.EndsAt S.FailsAt source.now request.limit) }
+    ensures scanned { IfOk result (IsScannedWhole S.BlockSource.own source.now request) }
+    ensures fault { IfErr result (IsBlocksFault S.BlockSource.own source.now request.limit) }
 {
     let mut chain = Chained {
         alloc,
@@ -109,7 +109,7 @@ impl<'a, S: BlockSource> Model for Chained<'a, S> {
     } };
 
     ghost invariant = { λ chain. IsAskable chain.request × (65537 < vec_len chain.buffer)
-        × IsChained S.GaveAt S.EndsAt chain.source.now chain.request chain.at chain.total };
+        × IsChained S.BlockSource chain.source.now chain.request chain.at chain.total };
 }
 
 impl<'a, S: BlockSource> Chained<'a, S> {
@@ -117,7 +117,7 @@ impl<'a, S: BlockSource> Chained<'a, S> {
     /// is read from here to where that ends.
     fn go_on(&mut self, attempt: &Attempt<S>) -> Result<bool, SourceFault>
         requires attempt { attempt.now.asked ≡ self.old.asked }
-        ensures gone_on { IsGoneOn S.GaveAt S.EndsAt S.FailsAt self.old self.new result }
+        ensures gone_on { IsGoneOn S.BlockSource.own self.old self.new result }
     {
         match &attempt.found {
             Err(fault) => Err(*fault),
@@ -128,7 +128,7 @@ impl<'a, S: BlockSource> Chained<'a, S> {
 
     /// Reads a piece from here on up to the target, takes it in, and says whether more is to come.
     fn read_on(&mut self, target: u64) -> Result<bool, SourceFault>
-        ensures gone_on { IsGoneOn S.GaveAt S.EndsAt S.FailsAt self.old self.new result }
+        ensures gone_on { IsGoneOn S.BlockSource.own self.old self.new result }
         ensures past { IfOk result (λ more. more ≡ true → (target ≤ self.new.at)
             × (self.new.at ≤ self.new.asked.request.limit)) }
     {
@@ -144,10 +144,10 @@ impl<'a, S: BlockSource> Chained<'a, S> {
     }
 
     /// Takes in the piece, which begins here, and says whether more is to come. One without a frame adds nothing.
-    fn follow(&mut self, piece: &Piece) -> Result<bool, SourceFault>
-        requires piece { IsPiece S.GaveAt S.EndsAt self.old.asked.source self.old.asked.request piece.now }
+    fn follow(&mut self, piece: &ScannedBlock) -> Result<bool, SourceFault>
+        requires piece { IsPiece S.BlockSource.own self.old.asked.source self.old.asked.request piece.now }
         requires begins { piece.now.start ≡ self.old.at }
-        ensures gone_on { IsGoneOn S.GaveAt S.EndsAt S.FailsAt self.old self.new result }
+        ensures gone_on { IsGoneOn S.BlockSource.own self.old self.new result }
         ensures more { IfOk result (λ more. more ≡ true → piece.now.tail ≡ Tail.More) }
         ensures end { IfOk result (λ more. self.new.at ≡ piece.now.end) }
     {

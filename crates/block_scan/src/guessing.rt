@@ -2,7 +2,7 @@
 ghost use Rattle.std.specs.Prelude.{◌≤◌, length, IfErr, IfOk};
 ghost use Rattle.lists.specs.declared.limits.TheConstants.{LONGEST_FILE};
 
-use crate::reading::SEEN;
+use crate::block_reading::SEEN;
 use crate::source::BlockSource;
 use day_file::{DeviceFailed, Frames};
 use itch_messages::read;
@@ -27,12 +27,21 @@ pub(crate) fn guess<S: BlockSource>(source: &S, from: u64, limit: u64) -> Result
     }
     let mut seen = [0u8; SEEN];
     let count = source.read_at(from, &mut seen)?;
-    for offset in 0..count {
-        if is_likely(&seen[offset..count]) {
-            return Ok(limit.min(from.saturating_add(offset as u64)));
+    let offset = likely_offset(&seen[..count]);
+    Ok(limit.min(from.saturating_add(offset as u64)))
+}
+
+/// How many bytes stand before the first that a frame seems to begin with: none, if there is no such byte.
+pub(crate) fn likely_offset(bytes: &[u8]) -> usize
+    requires { length bytes.now ≤ LONGEST_FILE }
+    ensures { result ≤ length bytes.now }
+{
+    for offset in 0..bytes.len() {
+        if is_likely(&bytes[offset..]) {
+            return offset;
         }
     }
-    Ok(from)
+    0
 }
 
 /// Whether bytes begin with so many frames, each of which looks like one of a message.

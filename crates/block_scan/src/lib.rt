@@ -4,14 +4,15 @@
 
 mod attempt;
 mod block;
+mod block_reading;
 mod blocks;
 mod chaining;
 mod division;
 mod file_blocks;
 mod guessing;
-mod piece;
-mod reading;
+mod looking;
 mod request;
+mod scanned_block;
 mod source;
 mod work;
 
@@ -22,6 +23,7 @@ pub use day_file::DeviceFailed;
 pub use division::Division;
 pub use file_blocks::{FileBlocks, ReadsAt};
 pub use lists::OutOfMemory;
+pub use looking::partitions_of;
 pub use source::BlockSource;
 pub use streaming::SourceFault;
 pub use work::BlockWork;

@@ -6,7 +6,7 @@ ghost use Rattle.block_scan.specs.Attempts.{AreBlocks, AreOf, equal_attempts, eq
 use crate::OutOfMemory;
 use crate::attempt::{Attempt, Attempts};
 use crate::block::Block;
-use crate::reading::scan_block;
+use crate::block_reading::scan_block;
 use crate::source::BlockSource;
 use gathering::Work;
 use std::alloc::{AllocError, Global};

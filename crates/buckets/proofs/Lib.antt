@@ -4,5 +4,4 @@ pub mod RowsOfParts
 pub mod RowsApart
 pub mod RisingRows
 pub mod RisingNumbers
-pub mod GatheredRows
 mod NeededRows

@@ -9,7 +9,7 @@ use Rattle.lists.proofs.Least.{best_by-append, better_option}
 use Rattle.order_table.specs.declared.table.Repeated.{Repeated}
 use Rattle.row_types.specs.declared.trade.Unknown.{Unknown}
 use Rattle.buckets.specs.Buckets.{found, total_found}
-use Rattle.buckets.specs.FoundRows.{FoundView, all_found, with_found}
+use Rattle.buckets.specs.FoundRows.{FoundView, TotalView, all_found}
 use Rattle.buckets.specs.BucketRows.{BucketView}
 use Rattle.buckets.specs.declared.product.Product.{Product}
 use Rattle.std.proofs.lemmas.List.{map_push}
@@ -30,6 +30,14 @@ module _ {W : Type 0} (place : W → ℕ) where
       ∙ best_by-append beats ranks (filter_map f front) (option_to_list (f x))
       ∙ ap (λ o. better_option beats ranks o (least_by place (option_to_list (f x)))) (sym (least_itself (least_by place (filter_map f front))))
       ∙ sym (best_by-append beats ranks (option_to_list (least_by place (filter_map f front))) (option_to_list (f x)))
+
+-- a total with what is found in one more partition
+abbrev pub with_found : TotalView → FoundView → TotalView
+with_found total one = record {
+  repeated = least_by (λ (repeated : Repeated). repeated.place) (option_to_list total.repeated ++ option_to_list one.repeated);
+  unknown = least_by (λ (unknown : Unknown). unknown.place) (option_to_list total.unknown ++ option_to_list one.unknown);
+  products = total.products ++ one.product ∷ [];
+}
 
 -- the total of one bucket more
 pub total_found_more : (before : List BucketView) (next : BucketView) → total_found (before ++ next ∷ []) ≡ with_found (total_found before) (found next)

@@ -3,7 +3,6 @@
 use Rattle.std.specs.Prelude.{◌≡◌, Bool, true, ◌==◌, ◌&&◌, List, All, length, map, nat_eq}
 use Rattle.std.specs.Cmp.{IsEquivalence}
 use Rattle.std.specs.Cmp.Lexicographic.{pointwise}
-use Rattle.std.specs.declared.alloc.Global.{Global}
 use Rattle.std.proofs.Common.{ap, arith, sym, ◌∙◌}
 use Rattle.std.proofs.lemmas.Bool.Decides.{nat_tests}
 use Rattle.gathering.specs.Adding.{same_inputs}
@@ -45,7 +44,7 @@ exact_bucket : IsExact is_same_bucket
 exact_bucket =
     let rows = exact_list exact_partition in
     let breaks = exact_list exact_nat in
-    let selection = exact_selection {A = Global} in
+    let selection = exact_selection in
     record {
       itself = λ a. grind (arith, nat_tests, rows.itself, breaks.itself, selection.itself, exact_what.itself);
       one = λ a b h. grind (arith, nat_tests, rows.one, breaks.one, selection.one, exact_what.one);

@@ -1,6 +1,6 @@
 -- What is found in the rows of one partition, and in those of several.
 -- To be believed of a crate used by itself: the answer isn't defined by partitions.
-use Rattle.std.specs.Prelude.{ℕ, Bool, List, [], ◌∷◌, ◌++◌, map, Option, option_map, option_to_list, filter_map}
+use Rattle.std.specs.Prelude.{ℕ, Bool, List, ◌++◌, map, Option, option_map, filter_map}
 use Rattle.lists.specs.Least.{least_by}
 use Rattle.order_table.specs.Orders.{first_repeated, repeated_of}
 use Rattle.order_table.specs.declared.table.Repeated.{Repeated}
@@ -55,12 +55,4 @@ all_found found = record {
   repeated = least_by (λ repeated. repeated.place) (filter_map (λ one. one.repeated) found);
   unknown = least_by (λ unknown. unknown.place) (filter_map (λ one. one.unknown) found);
   products = map (λ one. one.product) found;
-}
-
--- a total with what is found in one more partition
-abbrev pub with_found : TotalView → FoundView → TotalView
-with_found total one = record {
-  repeated = least_by (λ repeated. repeated.place) (option_to_list total.repeated ++ option_to_list one.repeated);
-  unknown = least_by (λ unknown. unknown.place) (option_to_list total.unknown ++ option_to_list one.unknown);
-  products = total.products ++ one.product ∷ [];
 }

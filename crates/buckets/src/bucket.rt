@@ -9,7 +9,6 @@ ghost use Rattle.buckets.specs.Buckets.{bucket_equiv, is_same_bucket};
 
 use crate::OutOfMemory;
 use crate::plan::Plan;
-use crate::questions::{same_selection, same_what};
 use crate::rows::{parts_of, same_rows};
 use broken_trades::Breaks;
 use meaning::What;
@@ -87,12 +86,13 @@ impl PartialEq for Bucket {
 
     ghost laws = { partial_equiv_from_equiv bucket_equiv };
 
+    #[tactic(auto, unfolding(crate::specs::SameQuestions::is_same_selection))]
     fn eq(&self, other: &Bucket) -> bool {
         self.number == other.number
             && same_rows(self.number, &self.plan.rows, &other.plan.rows)
             && self.plan.breaks == other.plan.breaks
-            && same_selection(&self.plan.selection, &other.plan.selection)
-            && same_what(self.plan.what, other.plan.what)
+            && self.plan.selection == other.plan.selection
+            && self.plan.what == other.plan.what
     }
 }
 

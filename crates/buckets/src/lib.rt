@@ -12,7 +12,6 @@ mod names;
 mod needed;
 mod plan;
 mod product;
-mod questions;
 mod rising;
 mod rows;
 mod trading;

@@ -1,6 +1,5 @@
 //! The work of buckets.
-ghost use Rattle.std.specs.Prelude.{◌≡◌, ◌++◌, option_to_list};
-ghost use Rattle.lists.specs.Least.{least_by};
+ghost use Rattle.std.specs.Prelude.{◌≡◌};
 ghost use Rattle.buckets.specs.Buckets.{AreNumbered, found, same_found, same_total_found, total_found};
 
 use crate::OutOfMemory;
@@ -9,8 +8,8 @@ use crate::found::{BucketTotal, Found};
 use crate::making::product;
 use crate::trading::{Traded, trade};
 use gathering::Work;
-use order_table::Repeated;
-use probe::{Unknown, keep};
+use lists::earlier;
+use probe::keep;
 use std::alloc::Global;
 use std::sync::Arc;
 
@@ -62,30 +61,8 @@ impl Work for BucketWork {
     fn add(total: &mut BucketTotal, output: &Found) -> Result<(), OutOfMemory> {
         let product = Arc::try_clone(&output.product)?;
         total.products.push(product)?;
-        total.repeated = earlier_repeated(total.repeated, output.repeated);
-        total.unknown = earlier_unknown(total.unknown, output.unknown);
+        total.repeated = earlier(total.repeated, output.repeated, |repeated| repeated.place);
+        total.unknown = earlier(total.unknown, output.unknown, |unknown| unknown.place);
         Ok(())
-    }
-}
-
-/// Of both, the one of smaller place.
-fn earlier_repeated(first: Option<Repeated>, other: Option<Repeated>) -> Option<Repeated>
-    ensures { result ≡ least_by (λ repeated. repeated.place) (option_to_list first ++ option_to_list other) }
-{
-    match (first, other) {
-        (Some(one), Some(two)) if two.place < one.place => Some(two),
-        (Some(one), _) => Some(one),
-        (None, other) => other,
-    }
-}
-
-/// Of both, the one of smaller place.
-fn earlier_unknown(first: Option<Unknown>, other: Option<Unknown>) -> Option<Unknown>
-    ensures { result ≡ least_by (λ unknown. unknown.place) (option_to_list first ++ option_to_list other) }
-{
-    match (first, other) {
-        (Some(first), Some(second)) if second.place < first.place => Some(second),
-        (Some(first), _) => Some(first),
-        (None, other) => other,
     }
 }

@@ -12,6 +12,7 @@ use Rattle.std.proofs.lemmas.List.Elements.{All-weaker}
 use Rattle.std.proofs.lemmas.List.Folds.{list_all-append}
 use Rattle.std.proofs.lemmas.List.Splits.{slice_split_none, slice_split_at}
 use Rattle.std.proofs.lemmas.List.Sums.{AllPass-from_list_all, list_all-from_AllPass}
+use Rattle.lists.specs.declared.limits.TheConstants.{SECONDS_OF_DAY}
 use Rattle.query.specs.Words.{parts, words_of_parts, words_from, words_of}
 use Rattle.query.specs.Values.{number_from, count_of, unit_of, pair_at, clock_of, time_of, symbols_of, kinds_of}
 use Rattle.meaning.specs.Meaning.{CanBeSpelled, Kinds, Meaning, Span, are_symbols, has_some, is_symbol_byte, is_symbol, is_width}
@@ -113,7 +114,7 @@ clock_value : (h m s : ℕ) → h < 24 → m < 60 → s < 60 → clock_of (pair_
 unfolding clock_of pair_at
 clock_value h m s hours minutes seconds = grind (arith, nat_tests, pair_value, lt-ltb)
 
-time_value : (t : ℕ) → t ≤ 86400 → time_of (clock_text t) ≡ Some t
+time_value : (t : ℕ) → t ≤ SECONDS_OF_DAY → time_of (clock_text t) ≡ Some t
 unfolding time_of clock_text
 time_value t within = grind (arith, nat_tests, cases_lt, false_from_ne_true, bytes_eq-Decides, clock_value)
 
@@ -159,7 +160,7 @@ kinds_say said e c p q h =
     record { says = λ at. kind refl (kinds_spelled e c p q h).0 done; plain = λ link l. rw (l, (kinds_spelled e c p q h).1) refl }
 
 span_says : (said : Said) (span : Option Span) (kinds : Kinds)
-    → ((some : Span) → span ≡ Some some → (some.since < some.until) × (some.until ≤ 86400)) → has_some kinds ≡ true
+    → ((some : Span) → span ≡ Some some → (some.since < some.until) × (some.until ≤ SECONDS_OF_DAY)) → has_some kinds ≡ true
     → IsSpelled (record said { span = None; kinds = None }) (time_condition span ++ kind_condition kinds)
     (meaning_of (record said { span = span; kinds = Some kinds }))
 span_says said None kinds bound some = kinds_say (record said { span = None }) kinds.e kinds.c kinds.p kinds.q some
@@ -174,7 +175,7 @@ span_says said (Some span) kinds bound some =
 
 symbols_say : (said : Said) (symbols : Option (List (List ℕ))) (kinds : Kinds)
     → ((some : List (List ℕ)) → symbols ≡ Some some → are_symbols some ≡ true)
-    → ((some : Span) → said.span ≡ Some some → (some.since < some.until) × (some.until ≤ 86400)) → has_some kinds ≡ true
+    → ((some : Span) → said.span ≡ Some some → (some.since < some.until) × (some.until ≤ SECONDS_OF_DAY)) → has_some kinds ≡ true
     → IsSpelled (record said { symbols = None; span = None; kinds = None }) (symbol_condition symbols ++ (time_condition said.span ++ kind_condition kinds))
     (meaning_of (record said { symbols = symbols; kinds = Some kinds }))
 symbols_say said None kinds listed bound some = span_says (record said { symbols = None }) said.span kinds bound some
@@ -197,7 +198,7 @@ abbrev at_moment : What → Option ℕ → Said
 at_moment what moment = record { what = what; as_of = moment; symbols = None; span = None; kinds = None }
 
 moment_says : (what : What) (moment : Option ℕ) (conditions : List (List (List ℕ))) (query : Meaning) (at : ℕ)
-    → ((last : ℕ) → moment ≡ Some last → last ≤ 86400) → Says (at_moment what moment) conditions query
+    → ((last : ℕ) → moment ≡ Some last → last ≤ SECONDS_OF_DAY) → Says (at_moment what moment) conditions query
     → Moment (only what) (words_of_parts at (from_moment moment conditions)) query
 moment_says what None conditions query at bound h = any_moment (linked_says (codes "where") (only what) conditions query at h)
 moment_says what (Some last) conditions query at bound h =
@@ -212,7 +213,7 @@ unfolding unit_of
 what_means Sales rest query fits plain says = rw (words_joined (codes "sales") rest plain) (sales (says _))
 what_means (Bars width) rest query fits plain says =
     let fit = fits width refl in
-    let within : width ≤ 86400 = leb-true _ _ (and_parts (nat_le 1 width) _ fit).1 in
+    let within : width ≤ SECONDS_OF_DAY = leb-true _ _ (and_parts (nat_le 1 width) _ fit).1 in
     let same : width ≡ width * 1 = omega arith in
     let said : (at : ℕ) → Moment (only (Bars (width * 1))) (words_of_parts at rest) query =
     λ at. subst (λ n. Moment (only (Bars n)) (words_of_parts at rest) query) same (says at) in

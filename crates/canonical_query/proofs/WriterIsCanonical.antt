@@ -7,6 +7,7 @@ use Rattle.std.proofs.lemmas.List.{take_more}
 use Rattle.canonical_query.specs.Canonical.{clock_text, what_words, linked, symbol_condition, time_condition, spaced, next_link}
 use Rattle.std.proofs.lemmas.Bool.{lt-ltb}
 use Rattle.std.proofs.lemmas.Bool.Decides.{nat_tests}
+use Rattle.lists.specs.declared.limits.TheConstants.{SECONDS_OF_DAY}
 use Rattle.meaning.specs.Meaning.{CanBeSpelled, Meaning, Span}
 use Rattle.meaning.specs.declared.query.What.TheVariants.{Bars, Sales}
 use Rattle.meaning.specs.declared.query.What.{What}
@@ -69,7 +70,7 @@ joined_next (x ∷ xs) zero name within is = sym is
 joined_next (x ∷ xs) (suc i) name within is = let next = take_more (x ∷ xs) (suc i) name within in grind (arith, joined_push (take i xs) x name, lt-ltb)
 
 -- times that a query has are no later than the day's end
-pub span_fits : {query : Meaning} → CanBeSpelled query → (some : Span) → query.span ≡ Some some → (some.since ≤ 86400) × (some.until ≤ 86400)
+pub span_fits : {query : Meaning} → CanBeSpelled query → (some : Span) → query.span ≡ Some some → (some.since ≤ SECONDS_OF_DAY) × (some.until ≤ SECONDS_OF_DAY)
 span_fits sound some e = let bound = sound.span some e in (omega (arith, bound.0, bound.1), bound.1)
 
 pub ruleset text = (written_is, span_fits)

@@ -1,1 +1,2 @@
 pub mod Canonical
+pub mod WrongWords

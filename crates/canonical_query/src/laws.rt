@@ -1,7 +1,8 @@
 //! Laws of the grammar.
-ghost use Rattle.std.specs.Prelude.{◌≡◌, List, None};
+ghost use Rattle.std.specs.Prelude.{◌≡◌, List, None, Some};
 ghost use Rattle.canonical_query.specs.Canonical.{canonical};
-ghost use Rattle.query.specs.Faults.{first_query_fault};
+ghost use Rattle.canonical_query.specs.WrongWords.{IsFirstFault};
+ghost use Rattle.query.specs.Faults.{first_query_fault, QueryFault};
 ghost use Rattle.query.specs.Grammar.{Means};
 ghost use Rattle.meaning.specs.Meaning.{CanBeSpelled, Meaning};
 ghost use Rattle.query.specs.Words.{Word, words_of};
@@ -20,6 +21,16 @@ pub fn meaning_or_fault()
         Means words meaning → first_query_fault words ≡ None }
     ensures one_of_them { (words : List Word) → first_query_fault words ≡ None →
         (meaning : Meaning) × Means words meaning }
+{}
+
+/// The first fault of the words of a text is that of the first word with which no query goes on, as
+/// the grammar has it; or none of them is wrong, and they mean no query.
+#[tactic(auto, using(crate::proofs::FirstWrongWord::of_grammar, crate::proofs::FirstWrongWord::only_of_grammar))]
+pub fn fault_of_first_wrong_word()
+    ensures wrong { (words : List Word) (fault : QueryFault) →
+        first_query_fault words ≡ Some fault → IsFirstFault words fault }
+    ensures first { (words : List Word) (fault : QueryFault) →
+        IsFirstFault words fault → first_query_fault words ≡ Some fault }
 {}
 
 /// The canonical text of a query is in the grammar, with that query as its meaning.

@@ -1,8 +1,8 @@
 -- What contracts see of a dispatcher, of its seats and of what their claims give.
 -- To be believed of a crate used by itself.
 use Rattle.std.specs.Prelude.{◌≡◌, ℕ, ◌*◌, ◌%◌, ◌<◌, ◌≤◌, ◌==◌, ◌&&◌, nat_lt, List, [], slice_index, All, Contains, count_by}
-use Rattle.dispatcher.specs.declared.claim.Claim.{Claim}
-use Rattle.dispatcher.specs.declared.claim.Claim.TheVariants.{Task, NoMore}
+use Rattle.dispatcher.specs.declared.dispatcher.claiming.Claim.{Claim}
+use Rattle.dispatcher.specs.declared.dispatcher.claiming.Claim.TheVariants.{Task, NoMore}
 use Rattle.dispatcher.specs.declared.seat.Seat.{Seat}
 use Rattle.dispatcher.specs.declared.dispatcher.Dispatcher.{Dispatcher}
 

@@ -6,9 +6,12 @@ use crate::rule::{EachOnce, Size, View};
 use atomic_table::Table;
 use std::alloc::{Allocator, Global};
 
+mod claiming;
 mod make;
+mod marking;
 mod settle;
-mod steps;
+
+pub use claiming::Claim;
 
 /// Deals each task at most twice, and notes which tasks are done. Contracts see its numbers of tasks and of seats.
 #[derive(Drop)]

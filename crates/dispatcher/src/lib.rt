@@ -5,14 +5,12 @@
 //! `claim`, `mark` and `is_marked` are one atomic step each: they take no memory and wait for nobody.
 #![tactic(auto)]
 
-mod claim;
 mod dispatcher;
 mod rule;
 mod seat;
 mod tally;
 
-pub use claim::Claim;
-pub use dispatcher::Dispatcher;
+pub use dispatcher::{Claim, Dispatcher};
 pub use lists::OutOfMemory;
 pub use seat::Seat;
 pub use tally::{Marks, SettleRefused, Tally};

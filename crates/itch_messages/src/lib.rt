@@ -4,20 +4,20 @@
 //! fields are padded on the right with spaces.
 #![tactic(auto)]
 
+mod body_reading;
 mod draft;
 mod fields;
 pub mod header;
 mod law;
 pub mod layout;
 pub mod message;
-mod reading;
 mod time;
 mod writing;
 
+pub use body_reading::{is_read, kind_of, read, read_of_kind};
 pub use header::Header;
 pub use law::one_body_each;
 pub use layout::LengthFault;
 pub use lists::OutOfMemory;
 pub use message::{Add, Broken, Cross, Directory, Executed, ExecutedAt, Message, Replace, Trade};
-pub use reading::{is_read, kind_of, read, read_of_kind};
 pub use writing::append;

@@ -10,10 +10,10 @@ use Rattle.lists.proofs.Order.{TellsApart-from_distinct}
 use Rattle.order_table.specs.Orders.{OrderRow, first_repeated, repeated_of}
 use Rattle.probe.specs.Pricing.{Execution, Sale, first_unknown, priced, unknown_of}
 use Rattle.probe.specs.Selection.{kept}
-use Rattle.time_and_sales.specs.Names.{DirectoryRow, IsNamesOf, last_row, name_of, name_text}
+use Rattle.time_and_sales.specs.Lent.{all_sales}
+use Rattle.time_and_sales.specs.Names.{DirectoryRow, IsNamesOf, name_of, name_text, names_by}
 use Rattle.time_and_sales.specs.declared.directory.Names.{Names}
 use Rattle.time_and_sales.specs.Texts.{listing_text}
-use Rattle.bars.specs.Bars.{all_sales}
 use Rattle.bars.proofs.Bars.{AreBarsOf-permutation}
 use Rattle.meaning.specs.Meaning.{Meaning}
 use Rattle.meaning.specs.declared.query.What.TheVariants.{Bars, Sales}
@@ -75,15 +75,15 @@ text_is (Bars width) query names messages sales text up h (table, are, written) 
 
 pub text_gathered : {A : Type 0} (query : Meaning) (total : TotalView) (rows : List DirectoryRow) (messages : List Placed) (names : Names A) (text : List ℕ)
     (what : What) → (are : AreGatheredOf query total rows messages) → query.what ≡ what → fault_from total.repeated total.unknown ≡ None → IsNamesOf rows names
-    → IsTextOfAll what (λ locate. name_text locate (last_row names locate)) (all_sales (lists_in are.parts query messages)) text
+    → IsTextOfAll what (names_by names) (all_sales (lists_in are.parts query messages)) text
     → IsAnswerToMessages messages query (Ok text)
 text_gathered query total rows messages names text what are same none named is =
     let no = neither (first_repeated (order_rows messages)) (first_unknown (order_rows messages) (executions messages))
     (fault_is query total rows messages are ∙ none) in
     text_answers messages query text no.0 no.1
-    (text_asked messages query (selected_sales query messages) (λ locate. name_text locate (last_row names locate)) text refl
+    (text_asked messages query (selected_sales query messages) (names_by names) text refl
     (λ locate. ap (name_text locate) (named locate) ∙ ap (λ l. name_of l locate) are.names_are)
-    (rw same (text_is what query (λ locate. name_text locate (last_row names locate)) messages (all_sales (lists_in are.parts query messages)) text are.by_place
+    (rw same (text_is what query (names_by names) messages (all_sales (lists_in are.parts query messages)) text are.by_place
     (lists_are are.parts query messages are.some are.stamped) is)))
 
 -- ---- lists of numbers

@@ -12,6 +12,7 @@ use Rattle.lists.proofs.Lists.{filter-flat_map, filter_map-flat_map, filter_map-
 use Rattle.lists.proofs.Lists.{IsPermutation-filter_map}
 use Rattle.lists.proofs.Order.{TellsApart-from_distinct}
 use Rattle.lists.proofs.Parts.{parts_are_all}
+use Rattle.time_and_sales.specs.Lent.{all_sales}
 use Rattle.order_table.specs.Orders.{OrderRow, first_repeated, repeated_of}
 use Rattle.order_table.specs.declared.table.Repeated.{Repeated}
 use Rattle.order_table.proofs.PartRows.{repeated_of_parts}
@@ -21,7 +22,6 @@ use Rattle.probe.specs.Selection.{is_kept, kept}
 use Rattle.probe.proofs.KeptSales.{length-kept, length-priced}
 use Rattle.probe.proofs.PartSales.{first_unknown_of_parts, priced_in_part}
 use Rattle.time_and_sales.proofs.SortedByPlace.{differ_in_order}
-use Rattle.bars.specs.Bars.{all_sales}
 use Rattle.meaning.specs.Meaning.{Meaning}
 use Rattle.answers.specs.Answers.{asks_for}
 use Rattle.day_rows.specs.DayRows.{AreByPlace, AreStamped, DayRows, IsStamped, rows_of}

@@ -1,12 +1,11 @@
 -- What is listed of many lists of sales, joined: one listing, or one table.
-use Rattle.std.proofs.Common.{◌≡◌, ℕ, ◌<◌, All, List, [], ◌∷◌, filter_map, map, nat_eq, IsPermutation, refl, sym, ap, ◌∙◌, subst, arith}
+use Rattle.std.proofs.Common.{◌≡◌, ℕ, ◌<◌, All, List, [], ◌∷◌, filter_map, map, IsPermutation, refl, sym, ap, ◌∙◌, subst, arith}
 use Rattle.std.proofs.Common.{Option, Some}
-use Rattle.std.specs.List.{IsDistinct}
 use Rattle.std.proofs.lemmas.List.Sorted.{All-permutation, IsPermutation-append, IsPermutation-refl, IsPermutation-sym, IsPermutation-trans}
 pub use Rattle.std.proofs.lemmas.Result.{IfOk-weaker as on_ok}
 use Rattle.lists.specs.declared.limits.TheConstants.{TIME_LIMIT}
 use Rattle.row_types.specs.declared.trade.Sale.{Sale}
-use Rattle.bars.specs.Bars.{AllSumsFit, AreBarsOfEach, IsTraded, IsUnionOf, all_bars, all_sales}
+use Rattle.bars.specs.Bars.{AreBarsOfEach, FitIfTraded, IsUnionOf, all_bars}
 use Rattle.bars.specs.declared.bar.Bar.{Bar}
 use Rattle.bars.specs.Steps.{bars_of}
 use Rattle.bars.proofs.BarsOfSales.{bars_of_are, each_alike, union_of_bars}
@@ -17,6 +16,7 @@ use Rattle.meaning.specs.Meaning.{Meaning}
 use Rattle.meaning.specs.declared.query.What.TheVariants.{Bars, Sales}
 use Rattle.meaning.specs.declared.query.What.{What}
 use Rattle.row_types.specs.declared.directory.DirectoryRow.{DirectoryRow}
+use Rattle.time_and_sales.specs.Lent.{AreApart, all_sales}
 use Rattle.day_rows.specs.Messages.{Placed}
 use Rattle.buckets.specs.FoundRows.{TotalView}
 use Rattle.buckets.specs.Products.{by_place, product_of}
@@ -43,7 +43,7 @@ module _ (width : ℕ) (lists : List (List Sale)) (products : List Product) (tab
       subst (AreBarsOfEach width lists)
       (sym (same ∙ ap (filter_map table_of) of.are ∙ given table_of (Bars width) (bars_of width) (λ sales. refl) lists)) (each_bars width lists)
 
-  pub tables_sums : All IsTraded (all_bars tables) → AllSumsFit (all_bars tables)
+  pub tables_sums : FitIfTraded (all_bars tables)
   tables_sums traded = all_sums_fit width lists tables tables_are traded (omega (arith, of.few))
 
   pub tables_starts : All (λ bar. bar.start < TIME_LIMIT) (all_bars tables)
@@ -67,7 +67,7 @@ module _ (lists : List (List Sale)) (products : List Product) (listings : List (
       subst (λ l. IsPermutation (all_sales lists) (all_sales l))
       (sym (same ∙ ap (filter_map listing_of) of.are ∙ given listing_of Sales by_place (λ sales. refl) lists)) (all_by_place lists)
 
-  pub listings_apart : IsDistinct nat_eq (map (λ sale. sale.place) (all_sales listings))
+  pub listings_apart : AreApart (all_sales listings)
   listings_apart = differ_in_order _ _ listings_are of.apart
 
   pub listings_times : All (λ sale. sale.time < TIME_LIMIT) (all_sales listings)

@@ -1,16 +1,16 @@
 -- What all buckets of a message list have found, and the text of what they list.
 -- To be believed of a crate used by itself: the answer isn't defined by buckets.
-use Rattle.std.specs.Prelude.{◌≡◌, ℕ, ◌<◌, ◌+◌, List, length, map, All, Option, Some, None, nat_eq, IsPermutation}
-use Rattle.std.specs.List.{IsDistinct}
+use Rattle.std.specs.Prelude.{◌≡◌, ℕ, ◌<◌, ◌+◌, List, length, map, All, Option, Some, None, IsPermutation}
 use Rattle.lists.specs.Least.{numbers_below}
 use Rattle.lists.specs.declared.limits.TheConstants.{TRADE_LIMIT}
 use Rattle.order_table.specs.declared.table.Repeated.{Repeated}
 use Rattle.probe.specs.Selection.{admits}
 use Rattle.row_types.specs.declared.trade.Unknown.{Unknown}
 use Rattle.row_types.specs.SalesByPlace.{IsByPlace}
+use Rattle.time_and_sales.specs.Lent.{AreApart, all_sales}
 use Rattle.time_and_sales.specs.Texts.{Sale, listing_text}
 use Rattle.row_types.specs.declared.directory.DirectoryRow.{DirectoryRow}
-use Rattle.bars.specs.Bars.{AreBarsOf, all_sales}
+use Rattle.bars.specs.Bars.{AreBarsOf}
 use Rattle.bars.specs.declared.bar.Bar.{Bar}
 use Rattle.bars.specs.Texts.{bars_text}
 use Rattle.meaning.specs.Meaning.{Meaning}
@@ -66,7 +66,7 @@ table_of (Tabled bars) = Some bars
 -- what a query lists of each of some lists of sales, which can be listed together: no place occurs twice, they are
 -- fewer than a file has room for, and times and locates fit
 pub record AreProductsOf (what : What) (lists : List (List Sale)) (products : List Product) : Type 0 where
-  pub apart : IsDistinct nat_eq (map (λ sale. sale.place) (all_sales lists))
+  pub apart : AreApart (all_sales lists)
   pub few : length (all_sales lists) < TRADE_LIMIT
   pub stamped : All (λ sale. IsStamped sale.time sale.locate) (all_sales lists)
   pub are : products ≡ map (product_of what) lists

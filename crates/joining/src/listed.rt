@@ -1,7 +1,7 @@
 //! What all buckets have found: the first fault in the references, and the tables.
-ghost use Rattle.std.specs.Prelude.{◌≡◌, IfOk, All, filter_map, map};
+ghost use Rattle.std.specs.Prelude.{◌≡◌, IfOk, filter_map, map};
 ghost use Rattle.std.specs.Arc.{arc_value};
-ghost use Rattle.bars.specs.Bars.{IsTraded, all_bars};
+ghost use Rattle.time_and_sales.specs.Lent.{lent};
 ghost use Rattle.joining.specs.Gathered.{fault_from, table_of};
 
 use crate::OutOfMemory;
@@ -34,25 +34,14 @@ pub fn tables<'a>(
     alloc: Global,
     products: &'a [Arc<Product, Global>],
 ) -> Result<Vec<&'a BucketBars>, OutOfMemory>
-    ensures tables { IfOk result (λ tables. map (λ table. table.now) tables.items
-        ≡ filter_map table_of (map arc_value products.now)) }
-    ensures traded { IfOk result (λ tables. All IsTraded (all_bars (map (λ table. table.now) tables.items))) }
+    ensures { IfOk result (λ tables. lent tables.items ≡ filter_map table_of (map arc_value products.now)) }
 {
     let mut tables = Vec::with_capacity(alloc, products.len())?;
     for product in products {
         match &**product {
-            Product::Tabled(table) => tables.push(traded(table))?,
+            Product::Tabled(table) => tables.push(table)?,
             Product::Listed(_) => {}
         }
     }
     Ok(tables)
-}
-
-/// The same table. Each of its bars is of one sale or more, as its type keeps.
-fn traded(table: &BucketBars) -> &BucketBars
-    ensures same { result.now ≡ table.now }
-    ensures traded { All IsTraded result.now }
-{
-    table.form();
-    table
 }

@@ -2,8 +2,8 @@
 ghost use Rattle.std.specs.Prelude.{◌≡◌, List, IfOk, filter_map, map};
 ghost use Rattle.std.specs.Arc.{arc_value};
 ghost use Rattle.row_types.specs.declared.trade.Sale.{Sale};
-ghost use Rattle.time_and_sales.specs.Names.{last_row, name_text};
-ghost use Rattle.bars.specs.Bars.{all_sales};
+ghost use Rattle.time_and_sales.specs.Lent.{all_sales, lent};
+ghost use Rattle.time_and_sales.specs.Names.{names_by};
 ghost use Rattle.answers.specs.Answers.{IsAnswerToMessages, told_by};
 ghost use Rattle.day_rows.specs.Messages.{Placed};
 ghost use Rattle.joining.specs.Gathered.{AreGatheredOf, AreProductsOf, IsTextOfAll, listing_of};
@@ -55,7 +55,7 @@ fn text_of<R: Threads + Sync>(
     requires products { (lists : List (List Sale)) × AreProductsOf what lists (map arc_value products.now) }
     ensures { IfOk result (λ text. (lists : List (List Sale)) →
         AreProductsOf what lists (map arc_value products.now) →
-        IsTextOfAll what (λ locate. name_text locate (last_row names.now locate)) (all_sales lists) text) }
+        IsTextOfAll what (names_by names.now) (all_sales lists) text) }
 {
     match what {
         What::Sales => {
@@ -75,22 +75,14 @@ fn listings<'a>(
     alloc: Global,
     products: &'a [Arc<Product, Global>],
 ) -> Result<Vec<&'a Listing>, OutOfMemory>
-    ensures { IfOk result (λ listings. map (λ listing. listing.now) listings.items
-        ≡ filter_map listing_of (map arc_value products.now)) }
+    ensures { IfOk result (λ listings. lent listings.items ≡ filter_map listing_of (map arc_value products.now)) }
 {
     let mut listings = Vec::with_capacity(alloc, products.len())?;
     for product in products {
         match &**product {
-            Product::Listed(listing) => listings.push(lent(listing))?,
+            Product::Listed(listing) => listings.push(listing)?,
             Product::Tabled(_) => {}
         }
     }
     Ok(listings)
-}
-
-/// The same listing.
-fn lent(listing: &Listing) -> &Listing
-    ensures { result.now ≡ listing.now }
-{
-    listing
 }

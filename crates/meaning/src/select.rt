@@ -2,7 +2,7 @@
 ghost use Rattle.std.specs.Prelude.{◌≡◌, IfOk, None};
 ghost use Rattle.std.specs.Result.{IsOk};
 ghost use Rattle.meaning.specs.Selected.{locates_of, selected_locates};
-ghost use Rattle.time_and_sales.specs.Names.{last_row, name_text};
+ghost use Rattle.time_and_sales.specs.Names.{names_by};
 
 use crate::OutOfMemory;
 use crate::query::Query;
@@ -21,7 +21,7 @@ pub fn selection<A: Allocator + Clone, B: Allocator, C: Allocator + Clone>(
     names: &Names<C>,
 ) -> Result<Selection<A>, OutOfMemory>
     ensures locates { IfOk result (λ selection. selection.locates
-        ≡ locates_of query.now.symbols (λ locate. name_text locate (last_row names.now locate))) }
+        ≡ locates_of query.now.symbols (names_by names.now)) }
     ensures memory { query.now.symbols ≡ None → IsOk result }
     ensures span { IfOk result (λ selection. selection.span ≡ query.now.span) }
     ensures kinds { IfOk result (λ selection. selection.kinds ≡ query.now.kinds) }
@@ -46,7 +46,7 @@ fn listed<A: Allocator + Clone, B: Allocator, C: Allocator + Clone>(
     names: &Names<C>,
 ) -> Result<Vec<u16, A>, OutOfMemory>
     ensures { IfOk result (λ rows. rows.items
-        ≡ selected_locates symbols.now (λ locate. name_text locate (last_row names.now locate))) }
+        ≡ selected_locates symbols.now (names_by names.now)) }
 {
     let sorted = SortedSymbols::of(alloc.clone()?, symbols)?;
     let mut rows = Vec::new(alloc);

@@ -7,9 +7,9 @@ use Rattle.std.proofs.lemmas.Bool.Decides.{nat_tests}
 use Rattle.std.proofs.lemmas.List.{length-map}
 use Rattle.row_types.specs.declared.order.OrderRow.{OrderRow}
 use Rattle.order_table.proofs.RowsInOrder.{rising_does_not_fall}
-use Rattle.morsel_rows.specs.LeanRows.{row_of_lean}
+use Rattle.morsel_rows.specs.ShortRows.{row_of_lean}
 use Rattle.morsel_rows.specs.declared.lean.Lean.{Lean}
-use Rattle.morsel_rows.specs.declared.lean.Origin.{Origin}
+use Rattle.morsel_rows.specs.declared.offsets.Origin.{Origin}
 
 none : Lean
 none = record { reference = 0; price = 0; offset = 0 }

@@ -1,10 +1,12 @@
 -- Partitions that have taken memory, and those that haven't, as callers see them.
 use Rattle.std.proofs.Common.{◌≡◌, ℕ, zero, suc, ◌<◌, ◌≤◌, ◌%◌, List, [], ◌∷◌, ◌++◌, length, map, Option, None, Some, Box, slice_get, slice_index_or, slice_set}
-use Rattle.std.proofs.Common.{true, is_some, refl, subst, sym, ap, ◌∙◌, arith}
+use Rattle.std.proofs.Common.{OnErr, OnOk, Result, true, is_some, refl, subst, sym, ap, ◌∙◌, arith}
+use Rattle.std.specs.Box.{with_value}
 use Rattle.std.proofs.lemmas.List.{get_or_default, get_or-set_same, get_or-set_other}
 use Rattle.std.proofs.lemmas.List.FromFn.{get_or-map-range_with_len, length-map-range_with_len}
 use Rattle.std.proofs.lemmas.Option.{slice_get-get_or}
 use Rattle.std.proofs.lemmas.Nat.{mod_below}
+use Rattle.std.proofs.lemmas.Result.{on_err_weaker, on_ok_weaker}
 use Rattle.lists.specs.Least.{numbers_below}
 use Rattle.row_types.specs.declared.directory.DirectoryRow.{DirectoryRow}
 use Rattle.day_rows.specs.DayRows.{DayRows, no_rows}
@@ -144,3 +146,15 @@ module _ {Z : Type 0} (n : ℕ) (before taken : List (Option (Box PartitionView 
       subst (λ (v : MorselRowsView). BecomesJoined more v (seen (slice_set taken number (Some next)))) same_seen
       (set_joins key more change joins n taken breaks directory number next some number_is (taken_within taken number has)
       (next_is ∙ ap change (sym (ap rows_of_taken (stands ∙ is)))))
+
+  -- what a push does to all rows, if the row is added to the partition and if it is refused
+  pub pushed : {E : Type 0} (old : MorselRowsView) → seen before ≡ old → (key : ℕ) (more : DayRows) (change : PartitionView → PartitionView)
+      → Joins key more change → 0 < n → number ≡ key % n → (part : Box PartitionView Z) → here ≡ Some part → (lent next : PartitionView) → lent ≡ part.value
+      → (r : Result (Unit {0}) E) → OnOk r (next ≡ change lent) → OnErr r (next ≡ lent)
+      → OnOk r (BecomesJoined more old (seen (slice_set taken number (Some (with_value part next)))))
+      × OnErr r (seen (slice_set taken number (Some (with_value part next))) ≡ old)
+  pushed old old_is key more change joins some number_is part is lent next lent_is r added unchanged = (
+    on_ok_weaker r (λ next_is. rw (← old_is) (push_joins key more change joins some number_is part (with_value part next) is (next_is ∙ ap change lent_is)))
+        added,
+    on_err_weaker r (λ same_part. push_same part (with_value part next) is (ap (with_value part) (same_part ∙ lent_is)) ∙ old_is) unchanged,
+  )

@@ -1,6 +1,5 @@
 pub mod Partitions
-pub mod LeanRows
-pub mod NarrowRows
+pub mod ShortRows
 pub mod MoreRows
 pub mod SameRows
 pub mod TakenPartitions

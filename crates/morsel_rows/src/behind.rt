@@ -117,7 +117,7 @@ impl<A: Allocator> RowsBehind<A> {
         ensures { result ≡ lean.now ++ self.now }
     {
         OrderRows {
-            start: self.narrow.start,
+            behind: self.narrow.origin,
             narrow: self.narrow.rows.as_slice(),
             wide: self.wide.as_slice(),
             origin: lean.origin,

@@ -17,6 +17,7 @@ mod pushing;
 mod rising;
 mod rows;
 mod same;
+mod short;
 
 pub use lists::OutOfMemory;
 pub use order_rows::OrderRows;

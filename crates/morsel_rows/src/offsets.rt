@@ -2,6 +2,13 @@
 ghost use Rattle.std.specs.Prelude.{◌≡◌, ◌+◌, ◌^◌, ◌≤◌};
 ghost use Rattle.std.specs.Option.{IfSome};
 
+/// What the places of order rows in few bytes count from, and the references of lean ones.
+#[derive(Clone, Copy, Debug, PartialEq, Eq)]
+pub(crate) struct Origin {
+    pub(crate) place: u64,
+    pub(crate) order_no: u64,
+}
+
 /// How many numbers an offset reaches, from the one that it counts from on.
 const RANGE: u64 = 1 << 32;
 

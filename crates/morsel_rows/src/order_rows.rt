@@ -2,8 +2,10 @@
 ghost use Rattle.std.specs.Prelude.{◌≡◌, ◌++◌};
 ghost use Rattle.std.specs.Iterator.{YieldsFirst, item_count};
 
-use crate::lean::{Lean, Origin};
+use crate::lean::Lean;
 use crate::narrow::Narrow;
+use crate::offsets::Origin;
+use crate::short::ShortRow;
 use row_types::OrderRow;
 use std::marker::Model;
 
@@ -12,24 +14,23 @@ use std::marker::Model;
 pub struct OrderRows<'a> {
     pub(crate) origin: Origin,
     pub(crate) lean: &'a [Lean],
-    /// The place that offsets of narrow rows count from.
-    pub(crate) start: u64,
+    /// What narrow rows count from.
+    pub(crate) behind: Origin,
     pub(crate) narrow: &'a [Narrow],
     pub(crate) wide: &'a [OrderRow],
 }
 
 impl<'a> Model for OrderRows<'a> {
-    ghost use Rattle.std.specs.Prelude.{List, ◌++◌, ◌+◌, ◌^◌, ◌≤◌, map};
+    ghost use Rattle.std.specs.Prelude.{List, ◌++◌, map};
     ghost use Rattle.row_types.specs.declared.order.OrderRow.{OrderRow};
-    ghost use Rattle.morsel_rows.specs.LeanRows.{IsOrigin, row_of_lean};
-    ghost use Rattle.morsel_rows.specs.NarrowRows.{row_of_narrow};
+    ghost use Rattle.morsel_rows.specs.ShortRows.{IsOrigin, row_of_lean, row_of_narrow};
 
     ghost Value = { List OrderRow };
 
     ghost view = { λ rows. map (row_of_lean rows.origin) rows.lean.now
-        ++ (map (row_of_narrow rows.start) rows.narrow.now ++ rows.wide.now) };
+        ++ (map (row_of_narrow rows.behind) rows.narrow.now ++ rows.wide.now) };
 
-    ghost invariant = { λ rows. IsOrigin rows.origin × (rows.start + 2 ^ 32 ≤ 2 ^ 64) };
+    ghost invariant = { λ rows. IsOrigin rows.origin × IsOrigin rows.behind };
 }
 
 impl<'a> Iterator for OrderRows<'a> {
@@ -47,7 +48,7 @@ impl<'a> Iterator for OrderRows<'a> {
         }
         if let Some((first, rest)) = self.narrow.split_first() {
             self.narrow = rest;
-            return Some(first.row(self.start));
+            return Some(first.row(self.behind));
         }
         let (first, rest) = self.wide.split_first()?;
         self.wide = rest;

@@ -31,7 +31,7 @@ pub struct OrderList<A: Allocator = Global> {
 impl<A: Allocator> Model for OrderList<A> {
     ghost use Rattle.std.specs.Prelude.{List, ◌++◌};
     ghost use Rattle.row_types.specs.declared.order.OrderRow.{OrderRow};
-    ghost use Rattle.morsel_rows.specs.NarrowRows.{rows_behind};
+    ghost use Rattle.morsel_rows.specs.ShortRows.{rows_behind};
 
     ghost Value = { List OrderRow };
 

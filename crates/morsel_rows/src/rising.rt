@@ -2,9 +2,11 @@
 ghost use Rattle.std.specs.Prelude.{◌≡◌, ◌==◌, ◌<◌, ◌≤◌, All, IsTrue, length, map};
 ghost use Rattle.std.specs.List.{AllPairs, find};
 ghost use Rattle.std.specs.Option.{IfSome};
-ghost use Rattle.morsel_rows.specs.LeanRows.{IsOrigin, row_of_lean};
+ghost use Rattle.morsel_rows.specs.ShortRows.{IsOrigin, row_of_lean};
 
-use crate::lean::{Lean, Origin};
+use crate::lean::Lean;
+use crate::offsets::Origin;
+use crate::short::ShortRow;
 use order_table::{Referenced, Spread, first_of};
 use row_types::OrderRow;
 use std::marker::Model;
@@ -31,7 +33,7 @@ impl<'a> Model for RisingRows<'a> {
     ghost use Rattle.std.specs.Prelude.{List, ◌+◌, ◌^◌, ◌<◌, ◌≤◌, length, map};
     ghost use Rattle.std.specs.List.{AllPairs};
     ghost use Rattle.row_types.specs.declared.order.OrderRow.{OrderRow};
-    ghost use Rattle.morsel_rows.specs.LeanRows.{IsOrigin, row_of_lean};
+    ghost use Rattle.morsel_rows.specs.ShortRows.{IsOrigin, row_of_lean};
 
     ghost Value = { List OrderRow };
 

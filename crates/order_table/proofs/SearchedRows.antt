@@ -1,5 +1,6 @@
 -- Rows whose references don't fall, and what a search finds that begins in a part of them.
-use Rattle.std.proofs.Common.{◌≡◌, ◌≢◌, ℕ, suc, ◌+◌, ◌-◌, ◌<◌, ◌≤◌, true, false, eqb, ltb, List, [], ◌∷◌, length, get_or, slice_get, take, drop, Some, None, ⊎_elim, arith, ap, sym, subst, ◌∙◌, refl}
+use Rattle.std.proofs.Common.{◌≡◌, ◌≢◌, ℕ, suc, ◌+◌, ◌-◌, ◌<◌, ◌≤◌, true, false, eqb, ltb, List, [], ◌∷◌, length, get_or, slice_get, take, drop, Some, None}
+use Rattle.std.proofs.Common.{⊎_elim, arith, ap, sym, subst, ◌∙◌, refl}
 use Rattle.std.specs.List.{AllWithin, find}
 use Rattle.std.specs.List.Sorted.{IsNonDecreasingBy, IsPartitionPoint, IsPartitionedBy}
 use Rattle.std.proofs.lemmas.Bool.{cases_lt, eq-eqb, le-ltb, lt-ltb, ltb-false, ltb-true, ne_eqb}

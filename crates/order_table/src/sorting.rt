@@ -1,11 +1,11 @@
 //! Rows in the order of their references.
-ghost use Rattle.std.specs.Prelude.{◌≡◌, ◌<◌, ◌++◌, ◌∷◌, [], IsTrue, Some, map, nat_eq, option_to_list};
+ghost use Rattle.std.specs.Prelude.{◌≡◌, ◌<◌, IsTrue, map, nat_eq};
 ghost use Rattle.std.specs.List.{AllPairs, IsDistinct};
 ghost use Rattle.std.specs.List.Sorted.{IsPermutation};
-ghost use Rattle.lists.specs.Least.{least_by};
 ghost use Rattle.order_table.specs.Orders.{first_repeated};
 ghost use Rattle.order_table.specs.RowsInOrder.{IsInOrder};
 
+use lists::earlier;
 use row_types::OrderRow;
 use std::alloc::Allocator;
 
@@ -34,18 +34,8 @@ pub(crate) fn first_repeated(rows: &[OrderRow]) -> Option<OrderRow>
     let mut repeated = None;
     for at in 1..rows.len() {
         if rows[at - 1].order_no == rows[at].order_no {
-            repeated = Some(earlier(repeated, rows[at]));
+            repeated = earlier(repeated, Some(rows[at]), |row| row.place);
         }
     }
     repeated
-}
-
-/// The earlier of the row so far, if there is one, and one more.
-fn earlier(kept: Option<OrderRow>, row: OrderRow) -> OrderRow
-    ensures { Some result ≡ least_by (λ row. row.place) (option_to_list kept ++ row ∷ []) }
-{
-    match kept {
-        Some(kept) if kept.place <= row.place => kept,
-        _ => row,
-    }
 }

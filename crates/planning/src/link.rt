@@ -84,7 +84,7 @@ impl<'a> PlanLink<'a> {
         if !self.divides {
             return Ok((morsels, 1));
         }
-        match pieces_of(alloc, &morsels, self.parts)? {
+        match pieces_of(&morsels, self.parts) {
             Some(pieces) => Ok((divided(alloc, morsels, pieces)?, pieces)),
             None => Ok((morsels, 1)),
         }

@@ -1,3 +1,4 @@
 mod OneMoreExecution
 pub mod KeptSales
 pub mod PartSales
+pub mod ExactSelections

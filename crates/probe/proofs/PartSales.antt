@@ -5,8 +5,7 @@ use Rattle.lists.specs.Least.{least_by, numbers_below, part}
 use Rattle.lists.proofs.Lists.{filters_commute, filter_map_on_filter}
 use Rattle.lists.proofs.Order.{TellsApart, TellsApart-filter}
 use Rattle.lists.proofs.Parts.{least_of_parts}
-use Rattle.order_table.specs.Parts.{part_rows}
-use Rattle.order_table.proofs.PartRows.{price_where}
+use Rattle.order_table.proofs.PartRows.{part_rows, price_where}
 use Rattle.probe.specs.Pricing.{Execution, first_unknown, is_unknown, priced, sale_at, sale_of}
 
 -- the executions whose reference modulo n is b

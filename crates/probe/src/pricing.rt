@@ -1,13 +1,13 @@
 //! Prices executions by the orders that gave their references.
-ghost use Rattle.std.specs.Prelude.{◌≡◌, ◌+◌, ◌≤◌, ◌∷◌, ◌++◌, [], IfOk, List, OnErr, OnOk, length, map};
-ghost use Rattle.std.specs.Prelude.{nat_eq, option_map, option_to_list, vec_capacity, vec_len};
+ghost use Rattle.std.specs.Prelude.{◌≡◌, ◌+◌, ◌≤◌, ◌++◌, IfOk, List, OnErr, OnOk, length, map};
+ghost use Rattle.std.specs.Prelude.{nat_eq, option_map, vec_capacity, vec_len};
 ghost use Rattle.std.specs.List.{IsDistinct};
-ghost use Rattle.lists.specs.Least.{least_by};
 ghost use Rattle.order_table.specs.declared.OrderRow.{OrderRow};
 ghost use Rattle.order_table.specs.Orders.{IsTableOf};
 ghost use Rattle.probe.specs.Pricing.{IsPricingOf};
 ghost use Rattle.probe.specs.Pricing.{Execution as TheExecution, first_unknown, priced, sale_at, unknown_of};
 
+use lists::earlier;
 use order_table::{OrderTable, OutOfMemory, PricesExecutions};
 use row_types::{Execution, Kind, Sale, Unknown};
 use std::alloc::{Allocator, Global};
@@ -42,15 +42,6 @@ fn unknown_of(execution: &Execution) -> Unknown
     Unknown {
         place: execution.place,
         order_no: execution.order_no,
-    }
-}
-
-fn earlier(first: Option<Unknown>, other: Unknown) -> Option<Unknown>
-    ensures { result ≡ least_by (λ unknown. unknown.place) (option_to_list first ++ other ∷ []) }
-{
-    match first {
-        Some(first) if first.place <= other.place => Some(first),
-        _ => Some(other),
     }
 }
 
@@ -106,7 +97,10 @@ fn price_each<A: Allocator, P: PricesExecutions>(
     for execution in executions {
         match prices.price_before(execution.order_no, execution.place) {
             Some(price) => priced.sales.push_reserved(sale_of(execution, price)),
-            None => priced.unknown = earlier(priced.unknown, unknown_of(execution)),
+            None => {
+                let other = Some(unknown_of(execution));
+                priced.unknown = earlier(priced.unknown, other, |unknown| unknown.place);
+            }
         }
     }
 }

@@ -5,7 +5,7 @@
 //! bytes from the text's start, times and widths in seconds.
 #![tactic(auto)]
 
-mod reading;
+mod parsing;
 mod values;
 mod words;
 
@@ -14,6 +14,6 @@ pub use meaning::{
     selection,
 };
 pub use outcomes::QueryFault;
-pub use reading::parse;
+pub use parsing::parse;
 pub use values::COLON;
 pub use words::SPACE;

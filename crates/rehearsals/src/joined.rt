@@ -2,8 +2,9 @@
 ghost use Rattle.std.specs.Prelude.{◌≡◌, ℕ, All, List, IfOk, filter_map, map};
 ghost use Rattle.std.specs.Arc.{arc_value};
 ghost use Rattle.row_types.specs.declared.trade.Sale.{Sale};
-ghost use Rattle.time_and_sales.specs.Names.{last_row, name_text};
-ghost use Rattle.bars.specs.Bars.{AllSumsFit, AreBarsOf, AreBarsOfEach, IsTraded, all_bars, all_sales};
+ghost use Rattle.time_and_sales.specs.Lent.{all_sales, lent};
+ghost use Rattle.time_and_sales.specs.Names.{names_by};
+ghost use Rattle.bars.specs.Bars.{AreBarsOf, AreBarsOfEach, FitIfTraded, IsTraded, all_bars};
 ghost use Rattle.meaning.specs.declared.query.What.TheVariants.{Bars, Sales};
 ghost use Rattle.answers.specs.Answers.{IsAnswerToMessages, told_by};
 ghost use Rattle.day_rows.specs.Messages.{Placed};
@@ -50,7 +51,7 @@ fn text_of(
     requires { (lists : List (List Sale)) × AreProductsOf what lists (map arc_value products.items) }
     ensures { IfOk result (λ text. (lists : List (List Sale)) →
         AreProductsOf what lists (map arc_value products.items) →
-        IsTextOfAll what (λ locate. name_text locate (last_row names.now locate)) (all_sales lists) text) }
+        IsTextOfAll what (names_by names.now) (all_sales lists) text) }
 {
     match what {
         What::Sales => text_of_listings(alloc, products, names),
@@ -67,7 +68,7 @@ fn text_of_listings(
     requires { (lists : List (List Sale)) × AreProductsOf Sales lists (map arc_value products.items) }
     ensures { IfOk result (λ text. (lists : List (List Sale)) →
         AreProductsOf Sales lists (map arc_value products.items) →
-        IsTextOfAll Sales (λ locate. name_text locate (last_row names.now locate)) (all_sales lists) text) }
+        IsTextOfAll Sales (names_by names.now) (all_sales lists) text) }
 {
     let listing = Listing::merge_all(alloc, listings(alloc, products)?)?;
     text_of_sales(alloc, listing.items(), names)
@@ -83,7 +84,7 @@ fn text_of_tables(
     requires { (lists : List (List Sale)) × AreProductsOf (Bars width) lists (map arc_value products.items) }
     ensures { IfOk result (λ text. (lists : List (List Sale)) →
         AreProductsOf (Bars width) lists (map arc_value products.items) →
-        IsTextOfAll (Bars width) (λ locate. name_text locate (last_row names.now locate)) (all_sales lists) text) }
+        IsTextOfAll (Bars width) (names_by names.now) (all_sales lists) text) }
 {
     let tables = tables(alloc, &products)?;
     let table = merged(alloc, &tables)?;
@@ -92,9 +93,9 @@ fn text_of_tables(
 
 /// One table of the bars of all buckets, those of one locate and start joined.
 fn merged(alloc: Global, kept: &[&BucketBars]) -> Result<BarTable, OutOfMemory>
-    requires sums { AllSumsFit (all_bars (map (λ bars. bars.now) kept.now)) }
+    requires sums { FitIfTraded (all_bars (lent kept.now)) }
     ensures bars { IfOk result (λ all. (width : ℕ) (lists : List (List Sale)) →
-        AreBarsOfEach width lists (map (λ bars. bars.now) kept.now) → AreBarsOf width (all_sales lists) all) }
+        AreBarsOfEach width lists (lent kept.now) → AreBarsOf width (all_sales lists) all) }
     ensures traded { IfOk result (λ all. All IsTraded all) }
 {
     let tables = made(alloc, kept)?;
@@ -104,7 +105,7 @@ fn merged(alloc: Global, kept: &[&BucketBars]) -> Result<BarTable, OutOfMemory>
 
 /// The table of the bars of each bucket.
 fn made(alloc: Global, kept: &[&BucketBars]) -> Result<Vec<BarTable>, OutOfMemory>
-    ensures { IfOk result (λ tables. tables.items ≡ map (λ table. table.now) kept.now) }
+    ensures { IfOk result (λ tables. tables.items ≡ lent kept.now) }
 {
     let mut tables = Vec::with_capacity(alloc, kept.len())?;
     for bars in kept {
@@ -115,7 +116,7 @@ fn made(alloc: Global, kept: &[&BucketBars]) -> Result<Vec<BarTable>, OutOfMemor
 
 /// Where each of the tables stands.
 fn lent<'a>(alloc: Global, tables: &'a [BarTable]) -> Result<Vec<&'a BarTable>, OutOfMemory>
-    ensures { IfOk result (λ lent. map (λ table. table.now) lent.items ≡ tables.now) }
+    ensures { IfOk result (λ references. lent references.items ≡ tables.now) }
 {
     let mut lent = Vec::with_capacity(alloc, tables.len())?;
     for table in tables {

@@ -15,6 +15,7 @@ use Rattle.planning.specs.Planned.{LinkView}
 use Rattle.block_scan.specs.Attempts.{AreAttemptsOf, AreOf, AttemptView, BlockView, blocks_of}
 use Rattle.block_scan.specs.Blocks.{GaveWhole, IsBlocksFault}
 use Rattle.block_scan.specs.Pieces.{Asked, IsAskable, IsChained, IsScannedWhole}
+use Rattle.block_scan.specs.declared.source.BlockSource.{Ghosts as BlockSourceOf}
 use Rattle.streaming.specs.declared.fault.SourceFault.{SourceFault}
 use Rattle.block_scan.proofs.BlocksAndAttempts.{attempts_of, blocks_are}
 use Rattle.runs.specs.Steps.{IsOutcomeOf, IsScanOf, LinksAttempts}
@@ -29,30 +30,30 @@ of_cut {as_of} {parts} {runs} some of = (
   of.is,
 )
 
-module _ {S : Type 0} (GaveAt : S → ℕ → List ℕ → Type 0) (EndsAt : S → ℕ → Type 0) (asked : Asked S) (asks : IsAskable asked.request) where
-  scanned : {at : ℕ} {total : ScanTotalView} (chained : IsChained GaveAt EndsAt asked.source asked.request at total)
+module _ {S : Type 0} (device : BlockSourceOf S) (asked : Asked S) (asks : IsAskable asked.request) where
+  scanned : {at : ℕ} {total : ScanTotalView} (chained : IsChained device asked.source asked.request at total)
       → IsScanOf 0 0 asked.request.as_of asked.request.parts chained.runs total
   scanned chained =
       record { each = chained.each; bytes = chained.bytes; within = omega (arith, chained.at_is, chained.within, asks.limit); is = chained.are }
 
   -- a total of all that a source gave is that of the scans of some cut
-  pub of_one_cut : {total : ScanTotalView} → IsScannedWhole GaveAt EndsAt asked.source asked.request total
+  pub of_one_cut : {total : ScanTotalView} → IsScannedWhole device asked.source asked.request total
       → IsTotal (λ inputs t. t ≡ total_of inputs) AreOfOneCut total
   of_one_cut (at, chained, ended) = of_cut asks.some (scanned chained)
 
-  module _ (FailsAt : S → ℕ → Type 0) (query : Meaning) (same : asked.request.as_of ≡ query.as_of) where
+  module _ (query : Meaning) (same : asked.request.as_of ≡ query.as_of) where
     -- this comes of all that the source gave
     abbrev IsOfAll : Pair → Type 0
-    IsOfAll r = (runs : List (List ℕ)) × GaveWhole GaveAt EndsAt asked.request.limit asked.source (concat runs) × IsOutcomeOf query r runs
+    IsOfAll r = (runs : List (List ℕ)) × GaveWhole device asked.request.limit asked.source (concat runs) × IsOutcomeOf query r runs
 
     -- what comes of a total of all that the source gave
-    whole : {total : ScanTotalView} (r : Pair) → IsScannedWhole GaveAt EndsAt asked.source asked.request total
+    whole : {total : ScanTotalView} (r : Pair) → IsScannedWhole device asked.source asked.request total
         → IsGiven (λ (first : ScanTotalView). first ≡ total) (link_of query asked.request.parts) r → IsOfAll r
     whole {total} r (at, chained, ended) given = (
       chained.runs,
       record {
         gave = chained.gave;
-        ended = subst (EndsAt asked.source) chained.at_is ended;
+        ended = subst (device.EndsAt asked.source) chained.at_is ended;
         within = omega (arith, chained.at_is, chained.within);
       },
       given_of r given refl asks.some (λ first is. rw (is, ← same) (scanned chained)),
@@ -66,9 +67,9 @@ module _ {S : Type 0} (GaveAt : S → ℕ → List ℕ → Type 0) (EndsAt : S �
     module _ (count : ℕ) (some : 0 < count) {blocks : List (BlockView S)} {link : LinkView}
         {outcome : Outcome TotalView (List DirectoryRow) (Result WrongLength SourceFault)}
         (all : blocks ≡ blocks_of asked.source asked.request count) (to : link ≡ link_of query asked.request.parts)
-        (given : IsOutcome (AreOf blocks) (LinksAttempts GaveAt EndsAt FailsAt link) (λ inputs total. total ≡ total_found inputs) outcome) where
+        (given : IsOutcome (AreOf blocks) (LinksAttempts device link) (λ inputs total. total ≡ total_found inputs) outcome) where
       by : {o : Outcome TotalView (List DirectoryRow) (Result WrongLength SourceFault)} → outcome ≡ o
-          → IsOutcome (AreOf (blocks_of asked.source asked.request count)) (LinksAttempts GaveAt EndsAt FailsAt (link_of query asked.request.parts))
+          → IsOutcome (AreOf (blocks_of asked.source asked.request count)) (LinksAttempts device (link_of query asked.request.parts))
           (λ inputs total. total ≡ total_found inputs) o
       by e = rw (← e, ← all, ← to) given
 
@@ -84,5 +85,5 @@ module _ {S : Type 0} (GaveAt : S → ℕ → List ℕ → Type 0) (EndsAt : S �
           let (total, scanned, is) = links asked (are count some of) in
           whole (Stopped _) scanned (total, refl, is)
 
-      pub refused : {fault : SourceFault} → outcome ≡ Stopped (Err fault) → IsBlocksFault GaveAt EndsAt FailsAt asked.source asked.request.limit fault
+      pub refused : {fault : SourceFault} → outcome ≡ Stopped (Err fault) → IsBlocksFault device asked.source asked.request.limit fault
       refused e = let (first, of, links) = by e in links asked (are count some of)

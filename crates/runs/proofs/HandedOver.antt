@@ -4,6 +4,7 @@ use Rattle.outcomes.specs.declared.day_fault.DayFault.{DayFault}
 use Rattle.query.specs.Grammar.{Means}
 use Rattle.meaning.specs.Meaning.{Meaning}
 use Rattle.query.specs.Words.{words_of}
+use Rattle.sinks.specs.declared.sink.Sink.{Ghosts as SinkOf}
 use Rattle.streaming.specs.Readings.{Reading}
 use Rattle.runs.specs.Runs.{Answers, IsAnswered, IsHandedOver, Ran}
 use Rattle.outcomes.specs.declared.run_fault.RunFault.{RunFault}
@@ -14,13 +15,13 @@ module _ (reading : Reading) {query : Meaning} (words : List ℕ) {answer : Resu
   told : {r : Result (List ℕ) DayFault} → answer ≡ r → Answers reading words r
   told is = (query, means, subst (IsAnswered reading query) is answered)
 
-  pub ran : {K : Type 0} (Took : K → K → List ℕ → Type 0) (HasFlushed : K → Type 0) (limit : ℕ) (before after : K) (outcome : Result (Unit {0}) RunFault)
-      → IsHandedOver Took HasFlushed (λ r. answer ≡ r) before after outcome → Ran reading Took HasFlushed words limit before after outcome
-  ran Took HasFlushed limit before after (Ok done) (text, is, took, flushed) = (text, told is, took, flushed)
-  ran Took HasFlushed limit before after (Err (fault.Day f)) w = (told w.0, w.1)
-  ran Took HasFlushed limit before after (Err (fault.WriteFailed written)) (text, is, within, took) = (text, told is, within, took)
-  ran Took HasFlushed limit before after (Err (fault.Query f)) w = absurd w
-  ran Took HasFlushed limit before after (Err fault.ReadFailed) w = absurd w
-  ran Took HasFlushed limit before after (Err (fault.TooLong most)) w = absurd w
-  ran Took HasFlushed limit before after (Err fault.TooManyMorsels) w = absurd w
-  ran Took HasFlushed limit before after (Err fault.OutOfMemory) w = absurd w
+  pub ran : {K : Type 0} (sink : SinkOf K) (limit : ℕ) (before after : K) (outcome : Result (Unit {0}) RunFault)
+      → IsHandedOver sink (λ r. answer ≡ r) before after outcome → Ran reading sink words limit before after outcome
+  ran sink limit before after (Ok done) (text, is, took, flushed) = (text, told is, took, flushed)
+  ran sink limit before after (Err (fault.Day f)) w = (told w.0, w.1)
+  ran sink limit before after (Err (fault.WriteFailed written)) (text, is, within, took) = (text, told is, within, took)
+  ran sink limit before after (Err (fault.Query f)) w = absurd w
+  ran sink limit before after (Err fault.ReadFailed) w = absurd w
+  ran sink limit before after (Err (fault.TooLong most)) w = absurd w
+  ran sink limit before after (Err fault.TooManyMorsels) w = absurd w
+  ran sink limit before after (Err fault.OutOfMemory) w = absurd w

@@ -6,22 +6,23 @@ use Rattle.std.proofs.lemmas.List.Elements.{All-append}
 use Rattle.lists.specs.declared.limits.TheConstants.{LONGEST_FILE}
 use Rattle.lists.specs.Among.{AreBytes}
 use Rattle.day_file.specs.Cuts.{IsCutBy, IsRun}
+use Rattle.day_file.specs.declared.source.Source.{Ghosts as SourceOf}
 use Rattle.scanning.specs.Scans.{ScanTotalView, inputs_from, inputs_of, total_of, with_scans}
 use Rattle.scanning.proofs.TotalOfScans.{total_joined}
 use Rattle.streaming.specs.Batches.{IsNextBatch, IsReadTo, ReaderView, read_length}
 use Rattle.streaming.specs.Readings.{GaveAll, GaveSome, of_stream}
 use Rattle.streaming.specs.declared.batch.Batch.{Batch}
 use Rattle.streaming.proofs.JoinedBatches.{read_length_is}
-use Rattle.runs.specs.Steps.{IsScanOf}
+use Rattle.runs.specs.Steps.{IsScanOf, IsScanOfAll}
 
-module _ {S : Type 0} (Gave : S → S → List ℕ → Type 0) (HasEnded : S → Type 0) where
+module _ {S : Type 0} (stream : SourceOf S) where
   -- the batch comes after these runs, and the source was read to its end
   pub record IsAhead (limit target : ℕ) (before now : S) (reader : ReaderView) (runs : List (List ℕ))
       (batch : Batch) : Type 0 where
     pub number : batch.first ≡ length runs
     pub start : batch.start ≡ length (concat runs)
-    pub more : batch.is_last ≡ false → IsReadTo Gave before now (runs ++ batch.cut) reader
-    pub last : batch.is_last ≡ true → GaveAll Gave HasEnded limit before now (concat (runs ++ batch.cut))
+    pub more : batch.is_last ≡ false → IsReadTo stream before now (runs ++ batch.cut) reader
+    pub last : batch.is_last ≡ true → GaveAll stream limit before now (concat (runs ++ batch.cut))
         × IsCutBy target (runs ++ batch.cut) (concat (runs ++ batch.cut))
     pub same : (reader.limit ≡ limit) × (reader.target ≡ target)
     pub has_room : batch.is_last ≡ false → read_length reader ≤ limit
@@ -50,17 +51,17 @@ with_batch {as_of} {parts} runs batch number start is scan =
     ap₂ with_scans is (scan.is ∙ ap₂ (λ n s. total_of (inputs_from n s as_of parts batch.cut)) number start)
     ∙ sym (total_joined as_of parts runs batch.cut)
 
-module _ {S : Type 0} {Gave : S → S → List ℕ → Type 0} {HasEnded : S → Type 0} {limit target : ℕ} {before : S} where
+module _ {S : Type 0} {stream : SourceOf S} {limit target : ℕ} {before : S} where
   -- the batch that is read once these runs are read comes after them
-  pub read_ahead : {was now : S} {old new : ReaderView} {runs : List (List ℕ)} {batch : Batch} → IsReadTo Gave before was runs old
+  pub read_ahead : {was now : S} {old new : ReaderView} {runs : List (List ℕ)} {batch : Batch} → IsReadTo stream before was runs old
       → (old.limit ≡ limit) × (old.target ≡ target) → (new.limit ≡ old.limit) × (new.target ≡ old.target)
-      → IsNextBatch Gave HasEnded was now old new batch → IsAhead Gave HasEnded limit target before now new runs batch
+      → IsNextBatch stream was now old new batch → IsAhead stream limit target before now new runs batch
   read_ahead {now = now} {runs = runs} {batch = batch} to is same next = record {
     number = next.number ∙ to.has.first;
     start = next.start ∙ to.has.start;
     more = λ e. next.more e before runs to;
     last = λ e. (
-      subst (λ l. GaveAll Gave HasEnded l before now (concat (runs ++ batch.cut))) is.0 (next.last e before runs to).0,
+      subst (λ l. GaveAll stream l before now (concat (runs ++ batch.cut))) is.0 (next.last e before runs to).0,
       subst (λ t. IsCutBy t (runs ++ batch.cut) (concat (runs ++ batch.cut))) is.1 (next.last e before runs to).1,
     );
     same = (same.0 ∙ is.0, same.1 ∙ is.1);
@@ -69,16 +70,16 @@ module _ {S : Type 0} {Gave : S → S → List ℕ → Type 0} {HasEnded : S →
 
   -- and so does the next one
   pub next_ahead : {was now : S} {old new : ReaderView} {runs : List (List ℕ)} {batch next : Batch}
-      → IsAhead Gave HasEnded limit target before was old runs batch → batch.is_last ≡ false → (new.limit ≡ old.limit) × (new.target ≡ old.target)
-      → IsNextBatch Gave HasEnded was now old new next → IsAhead Gave HasEnded limit target before now new (runs ++ batch.cut) next
+      → IsAhead stream limit target before was old runs batch → batch.is_last ≡ false → (new.limit ≡ old.limit) × (new.target ≡ old.target)
+      → IsNextBatch stream was now old new next → IsAhead stream limit target before now new (runs ++ batch.cut) next
   next_ahead ahead is_not_last same read = read_ahead (ahead.more is_not_last) ahead.same same read
 
   -- how much the source may have given
   pub gave_some : {now : S} {reader : ReaderView} {runs : List (List ℕ)} {batch : Batch}
-      → IsAhead Gave HasEnded limit target before now reader runs batch → GaveSome Gave limit before now
+      → IsAhead stream limit target before now reader runs batch → GaveSome stream limit before now
   gave_some {now = now} {batch = batch} ahead = by_end batch.is_last refl
     where
-      by_end : (b : Bool) → batch.is_last ≡ b → GaveSome Gave limit before now
+      by_end : (b : Bool) → batch.is_last ≡ b → GaveSome stream limit before now
       by_end true e = let all = (ahead.last e).0 in record { bytes = _; gave = all.gave; within = omega (arith, all.within) }
       by_end false e =
           let to = ahead.more e in
@@ -87,10 +88,10 @@ module _ {S : Type 0} {Gave : S → S → List ℕ → Type 0} {HasEnded : S →
   module _ {as_of : Option ℕ} {parts : ℕ} where
     -- a batch is scanned, and the next one was read
     pub went_on : {was now : S} {old new : ReaderView} {total more : ScanTotalView} {batch next : Batch}
-        → IsScannedTo Gave HasEnded limit target as_of parts before was old total batch → batch.is_last ≡ false
+        → IsScannedTo stream limit target as_of parts before was old total batch → batch.is_last ≡ false
         → IsScanOf batch.first batch.start as_of parts batch.cut more → (new.limit ≡ old.limit) × (new.target ≡ old.target)
-        → IsNextBatch Gave HasEnded was now old new next
-        → IsScannedTo Gave HasEnded limit target as_of parts before now new (with_scans total more) next
+        → IsNextBatch stream was now old new next
+        → IsScannedTo stream limit target as_of parts before now new (with_scans total more) next
     went_on {batch = batch} to is_not_last scan same read = record {
       runs = to.runs ++ batch.cut;
       each = All-append IsRun to.runs batch.cut to.each scan.each;
@@ -101,13 +102,14 @@ module _ {S : Type 0} {Gave : S → S → List ℕ → Type 0} {HasEnded : S →
 
     -- the last batch is scanned
     pub ended : {now : S} {reader : ReaderView} {total more : ScanTotalView} {batch : Batch} → limit ≤ LONGEST_FILE
-        → IsScannedTo Gave HasEnded limit target as_of parts before now reader total batch → batch.is_last ≡ true
+        → IsScannedTo stream limit target as_of parts before now reader total batch → batch.is_last ≡ true
         → IsScanOf batch.first batch.start as_of parts batch.cut more
-        → (runs : List (List ℕ)) × (of_stream Gave HasEnded limit target before now).all (concat runs) × IsScanOf 0 0 as_of parts runs (with_scans total more)
+        → IsScanOfAll (of_stream stream limit target before now) as_of parts (with_scans total more)
     ended {batch = batch} most to is_last scan =
         let all = to.ahead.last is_last in (
           to.runs ++ batch.cut,
-          (all.0, inr (_, all.1, omega (arith, length-append to.runs batch.cut, to.ahead.number, batch.few))),
+          all.0,
+          inr (_, all.1, omega (arith, length-append to.runs batch.cut, to.ahead.number, batch.few)),
           record {
             each = All-append IsRun to.runs batch.cut to.each scan.each;
             bytes = All-append AreBytes to.runs batch.cut to.bytes scan.bytes;

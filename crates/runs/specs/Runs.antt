@@ -6,6 +6,7 @@ use Rattle.query.specs.Faults.{first_query_fault}
 use Rattle.query.specs.Grammar.{Means}
 use Rattle.meaning.specs.Meaning.{Meaning}
 use Rattle.query.specs.Words.{words_of}
+use Rattle.sinks.specs.declared.sink.Sink.{Ghosts as SinkOf}
 use Rattle.streaming.specs.Readings.{Reading}
 use Rattle.outcomes.specs.declared.run_fault.RunFault.{RunFault}
 use Rattle.outcomes.specs.declared.run_fault.RunFault.TheVariants as fault
@@ -14,44 +15,53 @@ use Rattle.outcomes.specs.declared.run_fault.RunFault.TheVariants as fault
 abbrev pub IsQuery : List ℕ → Type 0
 IsQuery words = (query : Meaning) × Means (words_of words) query
 
--- all that the source had to give was read, and this is the answer to the query over it
+-- all that the source had to give was read, it may be answered over, and this is the answer to the query over it
 abbrev pub IsAnswered : Reading → Meaning → Result (List ℕ) DayFault → Type 0
-IsAnswered reading query answer = (day : List ℕ) × reading.all day × IsAnswer day query answer
+IsAnswered reading query answer =
+    (day : List ℕ) × reading.all day × reading.answerable day × IsAnswer day query answer
 
 -- the words mean a query, and this is the answer to it over all that the source had to give
 abbrev pub Answers : Reading → List ℕ → Result (List ℕ) DayFault → Type 0
 Answers reading words answer = (query : Meaning) × Means (words_of words) query × IsAnswered reading query answer
 
--- K is the states of a sink. `Took` says which bytes it took from one state to a later one, and `HasFlushed` that it
--- has passed on what it took. `before` and `after` are its states then.
-module _ {K : Type 0} (Took : K → K → List ℕ → Type 0) (HasFlushed : K → Type 0) where
+-- K is the states of a sink, `before` and `after` those that it had before and after the run, and `sink` the members
+-- of its `Sink`: `sink.Took` says which bytes it took from one state to a later one, and `sink.HasFlushed` that it has
+-- passed on what it took
+module _ {K : Type 0} (sink : SinkOf K) where
   -- what comes of the answer that is handed to a sink. If it is a text, the sink took all of it and passed it on; or
   -- the sink failed, and took its first `written` bytes: perhaps none, perhaps all. If it is a fault of the day, that
   -- is reported, and the sink was left alone.
   abbrev pub IsHandedOver : (Result (List ℕ) DayFault → Type 0) → K → K → Result (Unit {0}) RunFault → Type 0
   IsHandedOver IsTheAnswer before after (Ok done) =
-      (text : List ℕ) × IsTheAnswer (Ok text) × Took before after text × HasFlushed after
+      (text : List ℕ) × IsTheAnswer (Ok text) × sink.Took before after text × sink.HasFlushed after
   IsHandedOver IsTheAnswer before after (Err (fault.WriteFailed written)) =
-      (text : List ℕ) × IsTheAnswer (Ok text) × (written ≤ length text) × Took before after (take written text)
+      (text : List ℕ) × IsTheAnswer (Ok text) × (written ≤ length text) × sink.Took before after (take written text)
   IsHandedOver IsTheAnswer before after (Err (fault.Day f)) = IsTheAnswer (Err f) × (after ≡ before)
   IsHandedOver IsTheAnswer before after (Err _) = ⊥
 
 -- `reading` is what is known of the source
-module _ {K : Type 0} (reading : Reading) (Took : K → K → List ℕ → Type 0) (HasFlushed : K → Type 0) where
+module _ {K : Type 0} (reading : Reading) (sink : SinkOf K) where
   -- what each outcome of a run says: the answer was handed over; or what the refusal says holds, and the sink was left
-  -- alone. `OutOfMemory` says nothing of memory: only that the source was untouched or the words are a query, and what
-  -- is known of a source that was read in part. Over `of_blocks`, whose `untouched` and `some` say nothing, the cases
-  -- `Query` and `OutOfMemory` say less.
+  -- alone. What a line says of the source is a field of `reading`: `of_stream` says what that means of a stream, and
+  -- `of_blocks` of a file that is read at places. Of a file `untouched` and `some` say nothing, so `Query` and
+  -- `OutOfMemory` say less of it; and `too_many` never holds, so it never has the outcome `TooManyMorsels`.
   abbrev pub Ran : List ℕ → ℕ → K → K → Result (Unit {0}) RunFault → Type 0
+  -- the words mean no query, and this is their first fault; and nothing was read of a stream
   Ran words limit before after (Err (fault.Query f)) =
       (first_query_fault (words_of words) ≡ Some f) × reading.untouched × (after ≡ before)
+  -- a call of a stream failed, which had given no more than the limit and a byte; a reading of a file failed
   Ran words limit before after (Err fault.ReadFailed) = IsQuery words × reading.failed × (after ≡ before)
+  -- a stream gave the limit and a byte, a reading of a file gave a byte at the limit; and this is the limit
   Ran words limit before after (Err (fault.TooLong most)) =
       IsQuery words × reading.longer × (most ≡ limit) × (after ≡ before)
+  -- all that a stream had to give was read, and has too many morsels; of a file that never holds
   Ran words limit before after (Err fault.TooManyMorsels) = IsQuery words × reading.too_many × (after ≡ before)
+  -- of memory nothing. Of a stream, that nothing was read of it or the words mean a query, and that it gave no more
+  -- than the limit and a byte; of a file and of the words beside it nothing.
   Ran words limit before after (Err fault.OutOfMemory) =
       (reading.untouched ⊎ IsQuery words) × reading.some × (after ≡ before)
-  Ran words limit before after handed = IsHandedOver Took HasFlushed (Answers reading words) before after handed
+  -- the others come of an answer: its text was written, or a part of it; or it is a fault of the day
+  Ran words limit before after handed = IsHandedOver sink (Answers reading words) before after handed
 
 -- the run's sink failed
 abbrev pub is_write_failed : {T : Type 0} → Result T RunFault → Bool

@@ -1,6 +1,6 @@
 -- The steps of a run: what its query, its source, its pipelines and its answer give each other.
 -- Derived: what is promised of a run is `Ran`.
-use Rattle.std.specs.Prelude.{◌≡◌, ℕ, ◌+◌, ◌<◌, ◌≤◌, ◌↔◌, All, Bool, List, Option, Some, Result, Ok, Err, true, length}
+use Rattle.std.specs.Prelude.{◌≡◌, ℕ, ◌+◌, ◌<◌, ◌≤◌, ◌↔◌, All, List, Option, Some, Result, Ok, Err, true, length}
 use Rattle.std.specs.Prelude.{IfErr, IfOk, IsErrOf}
 use Rattle.std.specs.List.{concat}
 use Rattle.lists.specs.declared.limits.TheConstants.{LONGEST_FILE}
@@ -12,6 +12,7 @@ use Rattle.pipelines.specs.Outcomes.{IsOutcome}
 use Rattle.pipelines.specs.declared.outcome.Outcome.{Outcome}
 use Rattle.lists.specs.Among.{AreBytes}
 use Rattle.day_file.specs.Cuts.{IsRun}
+use Rattle.day_file.specs.declared.source.Source.{Ghosts as SourceOf}
 use Rattle.streaming.specs.Batches.{IsNextBatch, IsReadTo, ReaderView}
 use Rattle.streaming.specs.Readings.{IsSourceFault, Reading, of_stream}
 use Rattle.streaming.specs.declared.batch.Batch.{Batch}
@@ -28,6 +29,7 @@ use Rattle.scanning.specs.declared.wrong.WrongLength.{WrongLength}
 use Rattle.block_scan.specs.Attempts.{AreAttemptsOf, AttemptView}
 use Rattle.block_scan.specs.Blocks.{IsBlocksFault}
 use Rattle.block_scan.specs.Pieces.{Asked, IsScannedWhole}
+use Rattle.block_scan.specs.declared.source.BlockSource.{Ghosts as BlockSourceOf}
 use Rattle.buckets.specs.BucketRows.{BucketView}
 use Rattle.buckets.specs.Buckets.{total_found}
 use Rattle.buckets.specs.FoundRows.{TotalView}
@@ -75,28 +77,33 @@ pub record IsOutcomeOf (query : Meaning) (outcome : Outcome TotalView (List Dire
       (IsLinkedTo (record { query = query; parts = parts; divides = true }))
       (λ inputs total. total ≡ total_found inputs) outcome
 
-module _ {S : Type 0} (Gave : S → S → List ℕ → Type 0) (HasEnded : S → Type 0) where
-  -- what `next_batch` says of the source and of the reader, before and after it
-  pub record IsBatchRead (has_failed : S → Bool) (before after : S) (old new : ReaderView)
-      (read : Result Batch SourceFault) : Type 0 where
-    pub next : IfOk read (IsNextBatch Gave HasEnded before after old new)
-    pub same : (new.limit ≡ old.limit) × (new.target ≡ old.target)
-    pub told : IfErr read (λ f. (first : S) (runs : List (List ℕ)) → IsReadTo Gave first before runs old
-        → IsSourceFault (of_stream Gave HasEnded old.limit old.target first after) f)
-    pub failed : IsErrOf read SourceFault.ReadFailed ↔ (has_failed after ≡ true)
+-- all that a source gave was read and may be answered over, and this is the total of the scans of its cut
+abbrev pub IsScanOfAll : Reading → Option ℕ → ℕ → ScanTotalView → Type 0
+IsScanOfAll reading as_of parts total =
+    (runs : List (List ℕ)) × reading.all (concat runs) × reading.answerable (concat runs)
+    × IsScanOf 0 0 as_of parts runs total
 
--- S is sources, of which these relations say what they gave to readings at places
-module _ {S : Type 0} (GaveAt : S → ℕ → List ℕ → Type 0) (EndsAt : S → ℕ → Type 0) (FailsAt : S → ℕ → Type 0) where
+-- what `next_batch` says of the source and of the reader, before and after it
+pub record IsBatchRead {S : Type 0} (stream : SourceOf S) (before after : S) (old new : ReaderView)
+    (read : Result Batch SourceFault) : Type 0 where
+  pub next : IfOk read (IsNextBatch stream before after old new)
+  pub same : (new.limit ≡ old.limit) × (new.target ≡ old.target)
+  pub told : IfErr read (λ f. (first : S) (runs : List (List ℕ)) → IsReadTo stream first before runs old
+      → IsSourceFault (of_stream stream old.limit old.target first after) f)
+  pub failed : IsErrOf read SourceFault.ReadFailed ↔ (stream.has_failed after ≡ true)
+
+-- S is sources that are read at places
+module _ {S : Type 0} (device : BlockSourceOf S) where
   -- some total of all that the source gave is linked to this
   abbrev IsLinkedWhole : Asked S → LinkView → ToBuckets → Type 0
   IsLinkedWhole asked link linked =
       (total : ScanTotalView)
-      × IsScannedWhole GaveAt EndsAt asked.source asked.request total × IsLinkedTo link total linked
+      × IsScannedWhole device asked.source asked.request total × IsLinkedTo link total linked
 
   -- what the attempts at all blocks are linked to: why the source gives no rows, or what a total of all it gave is
   abbrev pub IsLinked : Asked S → LinkView
       → Linked (List BucketView) (List DirectoryRow) (Result WrongLength SourceFault) → Type 0
-  IsLinked asked link (Halt (Err fault)) = IsBlocksFault GaveAt EndsAt FailsAt asked.source asked.request.limit fault
+  IsLinked asked link (Halt (Err fault)) = IsBlocksFault device asked.source asked.request.limit fault
   IsLinked asked link (Halt (Ok wrong)) = IsLinkedWhole asked link (Halt wrong)
   IsLinked asked link (Next inputs kept) = IsLinkedWhole asked link (Next inputs kept)
 

@@ -12,17 +12,17 @@ use streaming::Source;
 pub fn one_run<S: Source>()
     ensures { ((a b : S) (xs ys : List ℕ) → S.Gave a b xs → S.Gave a b ys → xs ≡ ys) →
         (limit target : ℕ) (before after : S) (words : List ℕ) (one other : Result (List ℕ) TheDayFault) →
-        Answers (of_stream S.Gave S.HasEnded limit target before after) words one →
-        Answers (of_stream S.Gave S.HasEnded limit target before after) words other → one ≡ other }
+        Answers (of_stream S.Source limit target before after) words one →
+        Answers (of_stream S.Source limit target before after) words other → one ≡ other }
 {}
 
 /// A source that is read at places, and can have given only one list of bytes up to its end, has
 /// one answer.
 pub fn one_run_of_blocks<S: BlockSource>()
     ensures { (limit : ℕ) (source : S) →
-        ((xs ys : List ℕ) → GaveWhole S.GaveAt S.EndsAt limit source xs →
-        GaveWhole S.GaveAt S.EndsAt limit source ys → xs ≡ ys) →
+        ((xs ys : List ℕ) → GaveWhole S.BlockSource.own limit source xs →
+        GaveWhole S.BlockSource.own limit source ys → xs ≡ ys) →
         (words : List ℕ) (one other : Result (List ℕ) TheDayFault) →
-        Answers (of_blocks S.GaveAt S.EndsAt S.FailsAt limit source) words one →
-        Answers (of_blocks S.GaveAt S.EndsAt S.FailsAt limit source) words other → one ≡ other }
+        Answers (of_blocks S.BlockSource.own limit source) words one →
+        Answers (of_blocks S.BlockSource.own limit source) words other → one ≡ other }
 {}

@@ -2,7 +2,8 @@
 use Rattle.std.proofs.Common.{◌≡◌, ℕ, ◌+◌, ◌<◌, ◌≤◌, Bool, true, false, cond, is_some, List, [], ◌∷◌, ◌++◌, Option, None, filter, filter_map, length}
 use Rattle.std.proofs.Common.{zero, suc, map, ◌⊎◌, take, drop, set, get_or, Result, Ok, Err, OnErr, refl, sym, ap, ap₂, ◌∙◌, subst, arith, inl, inr}
 use mir.Val.{bool_byte}
-use Rattle.std.proofs.lemmas.List.{append-nil, append_assoc, length-append, length-set, map-append, take-append-drop, take-set, take_at, take_more, take_more_set}
+use Rattle.std.proofs.lemmas.List.{append-nil, append_assoc, length-append, length-set, map-append, take-append-drop, take-set, take_at}
+use Rattle.std.proofs.lemmas.List.{take_more, take_more_set}
 use Rattle.std.proofs.lemmas.List.Elements.{filter-append}
 use Rattle.itch_messages.specs.Body.{kind_of, message_of}
 use Rattle.itch_messages.specs.Layout.{length_of}

@@ -9,9 +9,10 @@ ghost use Rattle.scanning.specs.declared.open_scan.TheConstants.{AT_ONCE, BYTES_
 
 use crate::OutOfMemory;
 use crate::output::Scanned;
-use crate::wrong::{WrongLength, earlier};
+use crate::wrong::WrongLength;
 use day_file::{Frame, Frames, LENGTH_BYTES};
 use itch_messages::{is_read, kind_of, read_of_kind};
+use lists::earlier;
 use lists::limits::MOST_PARTITIONS;
 use morsel_rows::MorselRows;
 use std::alloc::Global;
@@ -179,7 +180,8 @@ impl OpenScan {
             Ok(message) => self.rows.add_counted(as_of, frame.place, &message)?,
             Err(fault) => {
                 let place = frame.place;
-                self.wrong = earlier(self.wrong, Some(WrongLength { place, fault }));
+                let wrong = WrongLength { place, fault };
+                self.wrong = earlier(self.wrong, Some(wrong), |wrong| wrong.place);
             }
         }
         Ok(())

@@ -5,7 +5,8 @@ ghost use Rattle.scanning.specs.Scans.{total_of, with_scan, with_scans};
 
 use crate::OutOfMemory;
 use crate::output::Scanned;
-use crate::wrong::{WrongLength, earlier};
+use crate::wrong::WrongLength;
+use lists::earlier;
 use morsel_rows::MorselRows;
 use std::alloc::Global;
 use std::marker::Model;
@@ -47,7 +48,7 @@ impl ScanTotal {
     {
         let rows = Arc::try_clone(scanned.rows())?;
         self.morsels.push(rows)?;
-        self.wrong = earlier(self.wrong, scanned.wrong());
+        self.wrong = earlier(self.wrong, scanned.wrong(), |wrong| wrong.place);
         Ok(())
     }
 
@@ -59,7 +60,7 @@ impl ScanTotal {
     {
         let ScanTotal { mut morsels, wrong } = other;
         self.morsels.append(&mut morsels)?;
-        self.wrong = earlier(self.wrong, wrong);
+        self.wrong = earlier(self.wrong, wrong, |wrong| wrong.place);
         Ok(())
     }
 

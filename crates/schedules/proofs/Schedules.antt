@@ -1,6 +1,7 @@
 -- The tasks that have arrived are those that some gatherer covers.
 use Rattle.std.proofs.Common.{◌≡◌, ◌≢◌, ℕ, zero, suc, ◌+◌, ◌<◌, ◌≤◌, ◌==◌, ◌&&◌, ◌||◌, nat_lt, Bool, true, false, not, cond, List, [], ◌∷◌, ◌++◌}
-use Rattle.std.proofs.Common.{Some, None, remove, length, fold, get_or, set, slice_index_or, replicate, find, refl, sym, ◌∙◌, ap, arith, rules, inl, inr, nat_cmp}
+use Rattle.std.proofs.Common.{Some, None, remove, length, fold, get_or, set, slice_index_or, replicate, find, refl, sym, ◌∙◌, ap, arith, rules, inl, inr}
+use Rattle.std.proofs.Common.{nat_cmp}
 use Rattle.std.proofs.lemmas.Bool.{cases_lt, cases_Bool, lt-ltb}
 use Rattle.std.proofs.lemmas.Bool.Decides.{nat_tests}
 use Rattle.std.proofs.lemmas.List.{length-map, length-replicate, length-set, map_push, map-set, get_or-map, get_or-set_other, set_past}

@@ -1,4 +1,4 @@
-ghost use Rattle.std.specs.Prelude.{◌≡◌, ℕ, ◌<◌, ◌++◌, List, All, IfErr, IfOk, length, map, nat_eq, Ok, Err, OnOk};
+ghost use Rattle.std.specs.Prelude.{◌≡◌, ◌<◌, ◌++◌, List, All, IfErr, IfOk, length, map, nat_eq, Ok, Err, OnOk};
 ghost use Rattle.std.specs.List.{IsDistinct};
 ghost use Rattle.std.specs.List.Sorted.{IsPermutation};
 ghost use Rattle.order_table.specs.Orders.{first_repeated};
@@ -7,7 +7,8 @@ ghost use Rattle.probe.specs.Selection.{admits};
 ghost use Rattle.probe.specs.Selection.{kept};
 ghost use Rattle.meaning.specs.Meaning.{Meaning};
 ghost use Rattle.row_types.specs.SalesByPlace.{IsByPlace};
-ghost use Rattle.time_and_sales.specs.Names.{last_row, name_text};
+ghost use Rattle.time_and_sales.specs.Lent.{AreApart};
+ghost use Rattle.time_and_sales.specs.Names.{names_by};
 ghost use Rattle.answers.specs.Answers.{IsAnswer, IsAnswerToMessages, IsTextOfSales, told_by};
 ghost use Rattle.day_rows.specs.DayRows.{AreByPlace, IsStamped, rows_of};
 ghost use Rattle.day_rows.specs.Messages.{Placed};
@@ -155,8 +156,7 @@ fn list<A: Allocator + Copy>(
     breaks: Vec<u64, A>,
     selection: &Selection<A>,
 ) -> Listing<A>
-    requires { IsDistinct nat_eq (map (λ sale. sale.place)
-        (kept breaks.items (admits selection.now) trades.items)) }
+    requires { AreApart (kept breaks.items (admits selection.now) trades.items) }
     ensures permutation { IsPermutation
         (kept breaks.items (admits selection.now) trades.items) result }
     ensures by_place { IsByPlace result }
@@ -175,8 +175,7 @@ fn text_of<A: Allocator + Copy>(
     requires stamped { All (λ sale. IsStamped sale.time sale.locate) listing.now }
     requires shares { All (λ sale. 0 < sale.shares) listing.now }
     requires few { length listing.now < TRADE_LIMIT }
-    ensures { IfOk result (λ text. IsTextOfSales query.now.what
-        (λ locate. name_text locate (last_row names.now locate)) listing.now text) }
+    ensures { IfOk result (λ text. IsTextOfSales query.now.what (names_by names.now) listing.now text) }
 {
     let sales = listing.items();
     match query.what {

@@ -7,6 +7,7 @@ use Rattle.std.proofs.lemmas.List.Elements.{All-append}
 use Rattle.day_file.specs.Cuts.{IsCutBy}
 use Rattle.day_file.specs.Feeding.{CutterView, HasFed, IsFullRun, fed_length}
 use Rattle.day_file.specs.Frames.{IsTruncatedAt}
+use Rattle.day_file.specs.declared.source.Source.{Ghosts as SourceOf}
 use Rattle.day_file.proofs.Fed.{fed_length_is, truncated_after_full}
 use Rattle.day_file.proofs.CutsBy.{cut_after}
 use Rattle.streaming.specs.Batches.{HasRead, IsLastFault, IsReadTo, IsReading, ReaderView, read_length}
@@ -29,26 +30,28 @@ pub read_length_is : {reader : ReaderView} {runs : List (List ℕ)} {bytes : Lis
 read_length_is {reader} {runs} h =
     omega (arith, h.start, fed_length_is reader.cutter h.fed h.has, ap length h.joined, length-append (concat runs) h.fed)
 
-module _ {S : Type 0} (Gave : S → S → List ℕ → Type 0) where
+module _ {S : Type 0} (stream : SourceOf S) where
   -- a reader that has read nothing, of a source that gave nothing yet
-  pub read_to_none : (now : S) (reader : ReaderView) → Gave now now [] → HasRead reader [] [] → IsReadTo Gave now now [] reader
+  pub read_to_none : (now : S) (reader : ReaderView) → stream.Gave now now [] → HasRead reader [] [] → IsReadTo stream now now [] reader
   read_to_none now reader gave has = record { bytes = []; gave = gave; has = has }
 
 -- the source gives one piece more
-module _ {S : Type 0} {Gave : S → S → List ℕ → Type 0} (gave_more : (a b c : S) (xs ys : List ℕ) → Gave a b xs → Gave b c ys → Gave a c (xs ++ ys))
-    {before was now : S} {bytes piece : List ℕ} (so_far : Gave before was bytes) (gave : Gave was now piece) where
-  pub gave_some : {limit : ℕ} → length bytes + length piece ≤ limit + 1 → GaveSome Gave limit before now
+module _ {S : Type 0} (stream : SourceOf S)
+    (gave_more : (a b c : S) (xs ys : List ℕ) → stream.Gave a b xs → stream.Gave b c ys → stream.Gave a c (xs ++ ys))
+    {before was now : S} {bytes piece : List ℕ} (so_far : stream.Gave before was bytes) (gave : stream.Gave was now piece) where
+  pub gave_some : {limit : ℕ} → length bytes + length piece ≤ limit + 1 → GaveSome stream limit before now
   gave_some within =
       record { bytes = bytes ++ piece; gave = gave_more _ _ _ _ _ so_far gave; within = omega (arith, length-append bytes piece, within) }
 
-  pub gave_longer : (limit : ℕ) → length bytes + length piece ≡ limit + 1 → (all : List ℕ) × Gave before now all × (length all ≡ limit + 1)
+  pub gave_longer : (limit : ℕ) → length bytes + length piece ≡ limit + 1 → (all : List ℕ) × stream.Gave before now all × (length all ≡ limit + 1)
   gave_longer limit longer = (bytes ++ piece, gave_more _ _ _ _ _ so_far gave, length-append bytes piece ∙ longer)
 
 -- and the cutter of a reader is fed it
-pub read_on : {S : Type 0} {Gave : S → S → List ℕ → Type 0} → ((a b c : S) (xs ys : List ℕ) → Gave a b xs → Gave b c ys → Gave a c (xs ++ ys))
-    → {before was now : S} {runs : List (List ℕ)} {reader : ReaderView} {cutter : CutterView} {piece : List ℕ} (to : IsReadTo Gave before was runs reader)
-    → Gave was now piece → HasFed cutter (to.has.fed ++ piece) → IsReadTo Gave before now runs (record reader { cutter = cutter })
-read_on gave_more {runs = runs} {piece = piece} to gave has = record {
+pub read_on : {S : Type 0} (stream : SourceOf S)
+    → ((a b c : S) (xs ys : List ℕ) → stream.Gave a b xs → stream.Gave b c ys → stream.Gave a c (xs ++ ys))
+    → {before was now : S} {runs : List (List ℕ)} {reader : ReaderView} {cutter : CutterView} {piece : List ℕ} (to : IsReadTo stream before was runs reader)
+    → stream.Gave was now piece → HasFed cutter (to.has.fed ++ piece) → IsReadTo stream before now runs (record reader { cutter = cutter })
+read_on stream gave_more {runs = runs} {piece = piece} to gave has = record {
   bytes = to.bytes ++ piece;
   gave = gave_more _ _ _ _ _ to.gave gave;
   has = record {
@@ -77,10 +80,10 @@ batch_taken {reader} {runs = runs} cut full left h =
     }
 
 -- the source is at its end
-module _ {S : Type 0} {Gave : S → S → List ℕ → Type 0} (HasEnded : S → Type 0) {limit : ℕ} {before now : S} {runs : List (List ℕ)}
-    {reader : ReaderView} (h : IsReadTo Gave before now runs reader) (same : reader.cutter.target ≡ reader.target) (ended : HasEnded now)
+module _ {S : Type 0} (stream : SourceOf S) {limit : ℕ} {before now : S} {runs : List (List ℕ)}
+    {reader : ReaderView} (h : IsReadTo stream before now runs reader) (same : reader.cutter.target ≡ reader.target) (ended : stream.HasEnded now)
     (within : read_length reader ≤ limit) where
-  gave_all : GaveAll Gave HasEnded limit before now h.bytes
+  gave_all : GaveAll stream limit before now h.bytes
   gave_all = record { gave = h.gave; ended = ended; within = omega (arith, within, read_length_is h.has) }
 
   behind : (cut : List (List ℕ)) → IsCutBy reader.cutter.target cut h.has.fed → IsCutBy reader.target (runs ++ cut) h.bytes
@@ -88,18 +91,18 @@ module _ {S : Type 0} {Gave : S → S → List ℕ → Type 0} (HasEnded : S →
 
   -- the rest is the last batch
   pub last_cut : (cut : List (List ℕ)) → ((fed : List ℕ) → HasFed reader.cutter fed → IsCutBy reader.cutter.target cut fed)
-      → GaveAll Gave HasEnded limit before now (concat (runs ++ cut)) × IsCutBy reader.target (runs ++ cut) (concat (runs ++ cut))
+      → GaveAll stream limit before now (concat (runs ++ cut)) × IsCutBy reader.target (runs ++ cut) (concat (runs ++ cut))
   last_cut cut made =
       let all = behind cut (made h.has.fed h.has.has) in
-      (subst (GaveAll Gave HasEnded limit before now) all.cut.joined gave_all, subst (IsCutBy reader.target (runs ++ cut)) all.cut.joined all)
+      (subst (GaveAll stream limit before now) all.cut.joined gave_all, subst (IsCutBy reader.target (runs ++ cut)) all.cut.joined all)
 
   -- a refusal at the end
   pub last_fault : (f : SourceFault) → ((fed : List ℕ) → HasFed reader.cutter fed → IsLastFault reader.first reader.start reader.cutter.target fed f)
-      → IsSourceFault (of_stream Gave HasEnded limit reader.target before now) f
+      → IsSourceFault (of_stream stream limit reader.target before now) f
   last_fault (fault.Truncated place) told =
       let (k, cut, at) = told h.has.fed h.has.has in
       let here : IsTruncatedAt h.bytes place = rw (at, h.has.joined, h.has.start) (truncated_after_full reader.target runs h.has.fed k h.has.full cut) in
-      (h.bytes, (gave_all, inl (place, here)), here)
+      (h.bytes, gave_all, inl (place, here), here)
   last_fault fault.TooManyMorsels told =
       let (cut, made, many) = told h.has.fed h.has.has in
       (h.bytes, gave_all, (runs ++ cut, behind cut made, omega (arith, many, h.has.first, length-append runs cut)))

@@ -6,6 +6,7 @@ use Rattle.lists.specs.declared.limits.TheConstants.{LONGEST_FILE, MOST_MORSELS}
 use Rattle.day_file.specs.Cuts.{IsCutBy}
 use Rattle.day_file.specs.Feeding.{CutterView, HasFed, IsFullRun, fed_length}
 use Rattle.day_file.specs.Frames.{IsTruncatedAt}
+use Rattle.day_file.specs.declared.source.Source.{Ghosts as SourceOf}
 use Rattle.streaming.specs.Readings.{GaveAll}
 use Rattle.streaming.specs.declared.batch.Batch.{Batch}
 use Rattle.streaming.specs.declared.fault.SourceFault.{SourceFault}
@@ -43,19 +44,19 @@ pub record IsReading (limit target start first : ℕ) (cutter : CutterView) : Ty
   pub limit_is : limit ≤ LONGEST_FILE
   pub few : first ≤ MOST_MORSELS
 
-module _ {S : Type 0} (Gave : S → S → List ℕ → Type 0) where
+module _ {S : Type 0} (stream : SourceOf S) where
   -- the source gave bytes since it was `before`, and the reader has read these, of which its batches had these runs
   pub record IsReadTo (before now : S) (runs : List (List ℕ)) (reader : ReaderView) : Type 0 where
     pub bytes : List ℕ
-    pub gave : Gave before now bytes
+    pub gave : stream.Gave before now bytes
     pub has : HasRead reader runs bytes
 
   -- the batch goes on where the reader was: the source gave more, or with this batch all that it had
-  pub record IsNextBatch (HasEnded : S → Type 0) (was now : S) (old new : ReaderView) (batch : Batch) : Type 0 where
+  pub record IsNextBatch (was now : S) (old new : ReaderView) (batch : Batch) : Type 0 where
     pub more : batch.is_last ≡ false → (before : S) (runs : List (List ℕ)) → IsReadTo before was runs old
         → IsReadTo before now (runs ++ batch.cut) new
     pub last : batch.is_last ≡ true → (before : S) (runs : List (List ℕ)) → IsReadTo before was runs old
-        → GaveAll Gave HasEnded old.limit before now (concat (runs ++ batch.cut))
+        → GaveAll stream old.limit before now (concat (runs ++ batch.cut))
         × IsCutBy old.target (runs ++ batch.cut) (concat (runs ++ batch.cut))
     pub number : batch.first ≡ old.first
     pub start : batch.start ≡ old.start

@@ -4,6 +4,7 @@ use Rattle.std.specs.Prelude.{◌≡◌, ℕ, ◌+◌, ◌<◌, ◌≤◌, ◌�
 use Rattle.lists.specs.declared.limits.TheConstants.{MOST_MORSELS}
 use Rattle.day_file.specs.Cuts.{IsCutBy}
 use Rattle.day_file.specs.Frames.{IsTruncatedAt}
+use Rattle.day_file.specs.declared.source.Source.{Ghosts as SourceOf}
 use Rattle.streaming.specs.declared.fault.SourceFault.{SourceFault}
 use Rattle.streaming.specs.declared.fault.SourceFault.TheVariants as fault
 
@@ -13,6 +14,8 @@ use Rattle.streaming.specs.declared.fault.SourceFault.TheVariants as fault
 pub record Reading : Type 1 where
   -- all that the source had to give, which isn't more than the limit, was read, and is these bytes
   pub all : List ℕ → Type 0
+  -- these bytes may be answered over, since they don't have too many morsels
+  pub answerable : List ℕ → Type 0
   -- it was read in part, or not at all: what is known of that part
   pub some : Type 0
   -- it gave more than the limit
@@ -24,42 +27,45 @@ pub record Reading : Type 1 where
   -- nothing was read of it
   pub untouched : Type 0
 
--- what each refusal of a source says of it. Out of memory says only what is known of a source that was read in part.
+-- what each refusal of a source says of it. What is truncated may be answered over: that it is truncated is the answer.
+-- Out of memory says only what is known of a source that was read in part.
 abbrev pub IsSourceFault : Reading → SourceFault → Type 0
 IsSourceFault reading fault.ReadFailed = reading.failed
 IsSourceFault reading fault.TooLong = reading.longer
-IsSourceFault reading (fault.Truncated place) = (day : List ℕ) × reading.all day × IsTruncatedAt day place
+IsSourceFault reading (fault.Truncated place) =
+    (day : List ℕ) × reading.all day × reading.answerable day × IsTruncatedAt day place
 IsSourceFault reading fault.TooManyMorsels = reading.too_many
 IsSourceFault reading fault.OutOfMemory = reading.some
 
--- S is the states of a source, and `Gave` says which bytes it gave from one state to a later one.
-module _ {S : Type 0} (Gave : S → S → List ℕ → Type 0) where
+-- S is the states of a source, and `stream` the members of its `Source`: `stream.Gave` says which bytes it gave from
+-- one state to a later one, and `stream.HasEnded` that it said that no byte is left.
+module _ {S : Type 0} (stream : SourceOf S) where
   -- the source gave some bytes, at most one more than the limit
   pub record GaveSome (limit : ℕ) (before after : S) : Type 0 where
     pub bytes : List ℕ
-    pub gave : Gave before after bytes
+    pub gave : stream.Gave before after bytes
     pub within : length bytes ≤ limit + 1
 
   -- the source gave these bytes, no more than the limit, and has said that no byte is left
-  pub record GaveAll (HasEnded : S → Type 0) (limit : ℕ) (before after : S) (day : List ℕ) : Type 0 where
-    pub gave : Gave before after day
-    pub ended : HasEnded after
+  pub record GaveAll (limit : ℕ) (before after : S) (day : List ℕ) : Type 0 where
+    pub gave : stream.Gave before after day
+    pub ended : stream.HasEnded after
     pub within : length day ≤ limit
 
 -- what is known of a source S that is read in order, and whose bytes are cut by the target, from its states before
--- and after. `all` says of bytes that it gave them up to its end, within the limit, and that they are truncated or
--- have few enough morsels; `some` and `failed`, that it gave at most one byte more than the limit; `longer`, that it
--- gave that one; `too_many`, that all it gave has too many morsels; `untouched`, that its state is the same. `Gave`
--- says which bytes it gave from one state to a later one, and `HasEnded` that it said that no byte is left. That a
--- call failed is a clause of its own: `failed` of `next_batch`, `read_failed` of `run`.
-abbrev pub of_stream : {S : Type 0} → (S → S → List ℕ → Type 0) → (S → Type 0) → ℕ → ℕ → S → S → Reading
-of_stream Gave HasEnded limit target before after = record {
-  all = λ day. GaveAll Gave HasEnded limit before after day × (((place : ℕ) × IsTruncatedAt day place)
-      ⊎ ((runs : List (List ℕ)) × IsCutBy target runs day × (length runs ≤ MOST_MORSELS)));
-  some = GaveSome Gave limit before after;
-  longer = (bytes : List ℕ) × Gave before after bytes × (length bytes ≡ limit + 1);
-  failed = GaveSome Gave limit before after;
-  too_many = (day : List ℕ) × GaveAll Gave HasEnded limit before after day
+-- and after. `all` says of bytes that it gave them up to its end, within the limit; `answerable`, that they are
+-- truncated or have few enough morsels; `some` and `failed`, that it gave at most one byte more than the limit;
+-- `longer`, that it gave that one; `too_many`, that all it gave has too many morsels; `untouched`, that its state is
+-- the same. That a call failed is a clause of its own: `failed` of `next_batch`, `read_failed` of `run`.
+abbrev pub of_stream : {S : Type 0} → SourceOf S → ℕ → ℕ → S → S → Reading
+of_stream stream limit target before after = record {
+  all = GaveAll stream limit before after;
+  answerable = λ day. ((place : ℕ) × IsTruncatedAt day place)
+      ⊎ ((runs : List (List ℕ)) × IsCutBy target runs day × (length runs ≤ MOST_MORSELS));
+  some = GaveSome stream limit before after;
+  longer = (bytes : List ℕ) × stream.Gave before after bytes × (length bytes ≡ limit + 1);
+  failed = GaveSome stream limit before after;
+  too_many = (day : List ℕ) × GaveAll stream limit before after day
       × ((runs : List (List ℕ)) × IsCutBy target runs day × (MOST_MORSELS < length runs));
   untouched = after ≡ before;
 }

@@ -86,13 +86,13 @@ impl BatchReader {
 
         // What was read goes on, until it is all that the source had to give; the runs of the batches,
         // joined, are then its cut.
-        ensures next { IfOk result (IsNextBatch S.Gave S.HasEnded source.old source.new self.old self.new) }
+        ensures next { IfOk result (IsNextBatch S.Source source.old source.new self.old self.new) }
         ensures same { (self.new.limit ≡ self.old.limit) × (self.new.target ≡ self.old.target) }
 
         // After a refusal the source may have been read in part.
         ensures fault { IfErr result (λ fault. (before : S) (runs : List (List ℕ))
-            → IsReadTo S.Gave before source.old runs self.old
-            → IsSourceFault (of_stream S.Gave S.HasEnded self.old.limit self.old.target before source.new) fault) }
+            → IsReadTo S.Source before source.old runs self.old
+            → IsSourceFault (of_stream S.Source self.old.limit self.old.target before source.new) fault) }
         ensures failed { IsErrOf result SourceFault.ReadFailed ↔ (S.has_failed source.new ≡ true) }
     {
         while self.feed(source)? {
@@ -109,14 +109,14 @@ impl BatchReader {
     fn feed<S: Source>(&mut self, source: &mut S) -> Result<bool, SourceFault>
         requires source { S.has_failed source.old ≡ false }
         ensures read { OnOk result ((before : S) (runs : List (List ℕ))
-            → IsReadTo S.Gave before source.old runs self.old → IsReadTo S.Gave before source.new runs self.new) }
+            → IsReadTo S.Source before source.old runs self.old → IsReadTo S.Source before source.new runs self.new) }
         ensures end { IfOk result (λ more. more ≡ false → S.HasEnded source.new) }
         ensures longer { IfOk result (λ more. more ≡ true → read_length self.old < read_length self.new) }
         ensures within { OnOk result (read_length self.new ≤ self.new.limit) }
         ensures same { self.new ≡ record self.old { cutter = self.new.cutter } }
         ensures fault { IfErr result (λ fault. (before : S) (runs : List (List ℕ))
-            → IsReadTo S.Gave before source.old runs self.old
-            → IsSourceFault (of_stream S.Gave S.HasEnded self.old.limit self.old.target before source.new) fault) }
+            → IsReadTo S.Source before source.old runs self.old
+            → IsSourceFault (of_stream S.Source self.old.limit self.old.target before source.new) fault) }
         ensures failed { IsErrOf result SourceFault.ReadFailed ↔ (S.has_failed source.new ≡ true) }
     {
         let left = self.limit - self.length();
@@ -172,7 +172,7 @@ fn feed_next<S: Source>(
     ensures room { length piece.new ≡ length piece.old }
     ensures fault { IfErr result (λ fault. (before : S) (bytes : List ℕ) (limit target : ℕ)
         → S.Gave before source.old bytes → length bytes + left ≡ limit
-        → IsSourceFault (of_stream S.Gave S.HasEnded limit target before source.new) fault) }
+        → IsSourceFault (of_stream S.Source limit target before source.new) fault) }
     ensures failed { IsErrOf result SourceFault.ReadFailed ↔ (S.has_failed source.new ≡ true) }
 {
     let most = (left + 1).min(piece.len() as u64) as usize;

@@ -9,4 +9,6 @@ mod devices;
 #[cfg(test)]
 mod digests;
 #[cfg(test)]
+mod looking;
+#[cfg(test)]
 mod rows;

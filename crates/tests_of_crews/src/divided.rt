@@ -74,27 +74,38 @@ fn told_by_cut<G: Gate, R: Threads + Wait + Sync>(
     told_of(alloc, found)
 }
 
+/// How many blocks a day of these orders has where it is looked at.
+const BLOCKS: u32 = 24;
+
+/// A division of a day that is taken for one more than three times as long, so that it is looked at.
+fn of_a_longer_day(bytes: &[u8]) -> Division {
+    Division {
+        bytes: (bytes.len() as u64 / 7 + 1).min(LONGEST_FILE),
+        blocks: BLOCKS,
+    }
+}
+
 /// What two pipelines over a source that is read at places tell.
-fn told_by_blocks<R: Threads + Wait + Sync>(
+fn told_by_blocks<G: Gate, R: Threads + Wait + Sync>(
     rt: &R,
     alloc: Global,
     bytes: &[u8],
+    division: Division,
     query: &Query,
     parts: u32,
     workers: u32,
+    gate: &G,
 ) -> Result<Told, Fail>
     requires { (0 < parts) × (parts ≤ MOST_PARTITIONS) }
 {
     let source = shared(alloc, bytes)?;
-    let crew = crew_of(workers);
-    let division = Division::of(bytes.len() as u64, crew.workers);
     let settings = Settings {
-        crew,
+        crew: crew_of(workers),
         morsel: 1,
         parts,
         limit: LONGEST_FILE,
     };
-    let found = answer_blocks(rt, alloc, &source, division, query, settings, &FreeGate)?;
+    let found = answer_blocks(rt, alloc, &source, division, query, settings, gate)?;
     Ok(told_of(alloc, found)?)
 }
 
@@ -112,8 +123,16 @@ fn is_told_alike<R: Threads + Wait + Abort + Sync>(
     for (parts, workers) in [(1, 2), (64, 1), (64, 4), (256, 2)] {
         let told = told_by_cut(rt, alloc, &cut, &query, parts, workers, &FreeGate)?;
         assert!(rt; told == want, "{text} {parts} {workers}");
-        let told = told_by_blocks(rt, alloc, day.bytes(), &query, parts, workers)?;
-        assert!(rt; told == want, "{text} {parts} {workers}");
+        let bytes = day.bytes();
+        for division in [
+            Division::of(bytes.len() as u64, workers),
+            of_a_longer_day(bytes),
+        ] {
+            let told = told_by_blocks(
+                rt, alloc, bytes, division, &query, parts, workers, &FreeGate,
+            )?;
+            assert!(rt; told == want, "{text} {parts} {workers}");
+        }
     }
     Ok(())
 }
@@ -157,6 +176,35 @@ fn a_large_partition_is_divided(rt: HostRuntime) -> Result<(), Fail> {
         let cut = cut(rt.alloc(), &day, 500_000)?;
         let gate = Counter::new(rt.alloc(), cut.count(), tasks)?;
         let told = told_by_cut(&rt, rt.alloc(), &cut, &query, parts, 1, &gate)?;
+        assert!(rt; told.is_ok() && gate.is_each_run_once(), "{apart} {parts}");
+    }
+    Ok(())
+}
+
+/// The references that are found at some places of a day tell by which number they are in no one partition.
+#[test]
+fn a_day_that_is_looked_at_is_not_divided(rt: HostRuntime) -> Result<(), Fail> {
+    let query = parse(rt.alloc(), "bars 1 m")?;
+    for (apart, parts, tasks) in [
+        (ONE_PARTITION, 64, 65),
+        (ONE_PARTITION, 256, 255),
+        (ONE_CLASS, 256, 255),
+        (ONE_PARTITION, 1, 1),
+        (1, 64, 64),
+    ] {
+        let day = day_of(rt.alloc(), &frames(rt.alloc(), apart)?)?;
+        let division = of_a_longer_day(day.bytes());
+        let gate = Counter::new(rt.alloc(), BLOCKS, tasks)?;
+        let told = told_by_blocks(
+            &rt,
+            rt.alloc(),
+            day.bytes(),
+            division,
+            &query,
+            parts,
+            1,
+            &gate,
+        )?;
         assert!(rt; told.is_ok() && gate.is_each_run_once(), "{apart} {parts}");
     }
     Ok(())

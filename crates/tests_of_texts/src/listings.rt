@@ -1,5 +1,5 @@
-ghost use Rattle.std.specs.Prelude.{◌≡◌, ◌++◌, IfOk, map, nat_eq};
-ghost use Rattle.std.specs.List.{IsDistinct, flat_map};
+ghost use Rattle.std.specs.Prelude.{◌≡◌, ◌++◌, IfOk};
+ghost use Rattle.time_and_sales.specs.Lent.{AreApart, all_sales};
 
 use linked_list_allocator::LocalHeap;
 use probe::{Kind, Sale};
@@ -22,10 +22,10 @@ fn sale(place: u64) -> Sale
 }
 
 fn sales_apart() -> ([Sale; 2], [Sale; 1])
-    ensures one { IsDistinct nat_eq (map (λ sale. sale.place) result.0) }
-    ensures other { IsDistinct nat_eq (map (λ sale. sale.place) result.1) }
-    ensures both { IsDistinct nat_eq (map (λ sale. sale.place) (result.0 ++ result.1)) }
-    ensures turned { IsDistinct nat_eq (map (λ sale. sale.place) (result.1 ++ result.0)) }
+    ensures one { AreApart result.0 }
+    ensures other { AreApart result.1 }
+    ensures both { AreApart (result.0 ++ result.1) }
+    ensures turned { AreApart (result.1 ++ result.0) }
 {
     ([sale(133), sale(41)], [sale(87)])
 }
@@ -33,10 +33,8 @@ fn sales_apart() -> ([Sale; 2], [Sale; 1])
 type TwoListings<'a> = (Listing<&'a LocalHeap>, Listing<&'a LocalHeap>);
 
 fn listings<'a>(heap: &'a LocalHeap) -> Result<TwoListings<'a>, OutOfMemory>
-    ensures both { IfOk result (λ two.
-        IsDistinct nat_eq (map (λ sale. sale.place) (two.0 ++ two.1))) }
-    ensures turned { IfOk result (λ two.
-        IsDistinct nat_eq (map (λ sale. sale.place) (two.1 ++ two.0))) }
+    ensures both { IfOk result (λ two. AreApart (two.0 ++ two.1)) }
+    ensures turned { IfOk result (λ two. AreApart (two.1 ++ two.0)) }
 {
     let (one, other) = sales_apart();
     let one = Listing::of_sales(Vec::from_slice(heap, &one)?);
@@ -47,8 +45,7 @@ fn listings<'a>(heap: &'a LocalHeap) -> Result<TwoListings<'a>, OutOfMemory>
 fn in_one_vector<'a>(
     heap: &'a LocalHeap,
 ) -> Result<Vec<Listing<&'a LocalHeap>, &'a LocalHeap>, OutOfMemory>
-    ensures { IfOk result (λ both. IsDistinct nat_eq
-        (map (λ sale. sale.place) (flat_map (λ listing. listing) both.items))) }
+    ensures { IfOk result (λ both. AreApart (all_sales both.items)) }
 {
     let (one, other) = listings(heap)?;
     let mut both = Vec::new(heap);

@@ -1,7 +1,7 @@
 //! The lines of many tables that threads make by ranges, beside those of all bars in one table.
-ghost use Rattle.std.specs.Prelude.{◌≡◌, ◌<◌, ◌≤◌, All, IfOk, [], ◌∷◌, length, map, nat_eq};
-ghost use Rattle.std.specs.List.{IsDistinct};
+ghost use Rattle.std.specs.Prelude.{◌≡◌, ◌<◌, ◌≤◌, All, IfOk, [], ◌∷◌, length};
 ghost use Rattle.lists.specs.declared.limits.TheConstants.{TIME_LIMIT};
+ghost use Rattle.time_and_sales.specs.Lent.{AreApart};
 ghost use Rattle.bars.specs.Bars.{AllSumsFit, AreBarsOf, IsTraded, all_bars};
 
 use bars::{BarTable, BucketBars, Form, OutOfMemory, Sale, lines_in_ranges, write_bar};
@@ -29,7 +29,7 @@ pub(crate) fn sale(place: u64, locate: u16, seconds: u8, price: u32) -> Sale
 
 /// The bars of sales by minutes, made or not.
 fn minutes(alloc: Global, sales: &[Sale]) -> Result<BucketBars, OutOfMemory>
-    requires places { IsDistinct nat_eq (map (λ sale. sale.place) sales.now) }
+    requires places { AreApart sales.now }
     requires count { length sales.now < 100 }
     requires shares { All (λ sale. 0 < sale.shares) sales.now }
     requires times { All (λ sale. sale.time < TIME_LIMIT) sales.now }

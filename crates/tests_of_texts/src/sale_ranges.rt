@@ -1,8 +1,8 @@
 //! The lines of listings that threads make by ranges, beside those of all sales in one listing.
-ghost use Rattle.std.specs.Prelude.{◌<◌, ◌++◌, All, IfOk, [], ◌∷◌, map, nat_eq};
-ghost use Rattle.std.specs.List.{IsDistinct, flat_map};
+ghost use Rattle.std.specs.Prelude.{◌<◌, ◌++◌, All, IfOk, [], ◌∷◌};
 ghost use Rattle.std.specs.List.Sorted.{IsPermutation};
 ghost use Rattle.lists.specs.declared.limits.TheConstants.{TIME_LIMIT};
+ghost use Rattle.time_and_sales.specs.Lent.{AreApart, all_sales};
 
 use crate::ranges::{joined, names, sale};
 use probe::Sale;
@@ -12,9 +12,9 @@ use time_and_sales::{Listing, Names, OutOfMemory, lines_in_ranges, write_sale};
 
 /// Sales of two listings, whose places lie between one another.
 fn sales() -> ([Sale; 3], [Sale; 2])
-    ensures one { IsDistinct nat_eq (map (λ sale. sale.place) result.0) }
-    ensures other { IsDistinct nat_eq (map (λ sale. sale.place) result.1) }
-    ensures both { IsDistinct nat_eq (map (λ sale. sale.place) (result.0 ++ result.1)) }
+    ensures one { AreApart result.0 }
+    ensures other { AreApart result.1 }
+    ensures both { AreApart (result.0 ++ result.1) }
     ensures one_time { All (λ sale. sale.time < TIME_LIMIT) result.0 }
     ensures other_time { All (λ sale. sale.time < TIME_LIMIT) result.1 }
 {
@@ -30,7 +30,7 @@ fn sales() -> ([Sale; 3], [Sale; 2])
 
 /// The listing of these sales.
 fn listed(alloc: Global, sales: &[Sale]) -> Result<Listing, OutOfMemory>
-    requires apart { IsDistinct nat_eq (map (λ sale. sale.place) sales.now) }
+    requires apart { AreApart sales.now }
     requires times { All (λ sale. sale.time < TIME_LIMIT) sales.now }
     ensures permutation { IfOk result (λ listing. IsPermutation sales.now listing) }
     ensures times { IfOk result (λ listing. All (λ sale. sale.time < TIME_LIMIT) listing) }
@@ -40,10 +40,8 @@ fn listed(alloc: Global, sales: &[Sale]) -> Result<Listing, OutOfMemory>
 
 /// The two listings.
 fn listings(alloc: Global) -> Result<(Listing, Listing), OutOfMemory>
-    ensures apart { IfOk result (λ two. IsDistinct nat_eq
-        (map (λ sale. sale.place) (flat_map (λ listing. listing) (two.0 ∷ two.1 ∷ [])))) }
-    ensures times { IfOk result (λ two. All (λ sale. sale.time < TIME_LIMIT)
-        (flat_map (λ listing. listing) (two.0 ∷ two.1 ∷ []))) }
+    ensures apart { IfOk result (λ two. AreApart (all_sales (two.0 ∷ two.1 ∷ []))) }
+    ensures times { IfOk result (λ two. All (λ sale. sale.time < TIME_LIMIT) (all_sales (two.0 ∷ two.1 ∷ []))) }
 {
     let (one, other) = sales();
     let one = listed(alloc, &one)?;

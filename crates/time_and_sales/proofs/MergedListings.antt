@@ -1,5 +1,5 @@
 -- Listings merged: what the parts give, and in which order.
-use Rattle.std.proofs.Common.{◌≡◌, ◌+◌, Bool, ltb, List, [], ◌∷◌, ◌++◌, map, length, All, Vec, arith, flat_map, append-nil}
+use Rattle.std.proofs.Common.{◌≡◌, ◌+◌, Bool, ltb, List, [], ◌∷◌, ◌++◌, map, length, All, Vec, arith, append-nil}
 use Rattle.std.specs.List.Sorted.{IsSortedBy}
 use Rattle.std.specs.Vec.Iter.{into_iter_items, into_iter_len, into_iter_steps}
 use Rattle.std.specs.declared.vec.IntoIter.{IntoIter}
@@ -12,6 +12,7 @@ use Rattle.std.proofs.lemmas.Map.Keys.{Less-from_sorted}
 use Rattle.itertools.specs.KMerge.{SourcesGive}
 use Rattle.row_types.specs.declared.trade.Sale.{Sale}
 use Rattle.row_types.specs.SalesByPlace.{place_cmp, IsByPlace}
+use Rattle.time_and_sales.specs.Lent.{all_items, all_sales}
 use Rattle.time_and_sales.proofs.MadeTexts.{none_left}
 
 abbrev pub before : Sale → Sale → Bool
@@ -35,7 +36,7 @@ parts_in_order {Z} parts h =
 
 -- the parts are all lists when none is left
 pub joined_parts : {Z : Type 0} (parts : List (Vec Sale Z)) (rest all : List (List Sale)) → items_of parts ++ rest ≡ all → rest ≡ []
-    → flat_map (λ l. l) all ≡ flat_map (λ (p : Vec Sale Z). p.items) parts
+    → all_sales all ≡ all_items parts
 joined_parts {Z} parts rest all told none = rw (← told, none, append-nil) (flat_map-map (λ (l : List Sale). l) (λ (p : Vec Sale Z). p.items) parts)
 
 pub ruleset merging = (common_steps, joined_parts, none_left)

@@ -8,6 +8,7 @@ use Rattle.std.proofs.lemmas.List.{append-nil, flat_map_more, length-take-le, ge
 use Rattle.std.proofs.lemmas.List.Elements.{filter-append, All-head, All-tail}
 use Rattle.std.proofs.lemmas.List.Kept.{IsNonDecreasingBy-filter}
 use Rattle.lists.proofs.Lists.{filter_of_filter}
+use Rattle.time_and_sales.specs.Lent.{all_items}
 use Rattle.time_and_sales.specs.Texts.{is_in_first}
 
 -- ---- a loop over lists
@@ -109,7 +110,7 @@ module _ {X : Type 0} (number : X → ℕ) where
     from_bound : {Z E : Type 0} (low : ℕ) (bounds : List ℕ) (texts : List (Vec ℕ Z)) → IsNonDecreasing (low ∷ bounds) → length texts ≡ length (low ∷ bounds)
         → ((n : ℕ) (d : Result (Vec ℕ Z) E) → n < length (low ∷ bounds)
         → IfOk (get_or (map told texts) n d) (λ t. t.items ≡ text (filter (is_in_first number (drop n (low ∷ bounds))) xs)))
-        → flat_map (λ t. t.items) texts ≡ text (filter (from low) xs)
+        → all_items texts ≡ text (filter (from low) xs)
     from_bound low bounds [] rise count each = absurd (omega (arith, count))
     from_bound low [] (t ∷ []) rise count each = append-nil t.items ∙ each 0 (told t) (omega arith)
     from_bound low [] (t ∷ s ∷ texts) rise count each = absurd (omega (arith, count))
@@ -124,7 +125,7 @@ module _ {X : Type 0} (number : X → ℕ) where
         → length texts ≡ length bounds
         → ((n : ℕ) (d : Result (Vec ℕ Z) E) → n < length bounds
         → IfOk (get_or (map told texts) n d) (λ t. t.items ≡ text (filter (is_in_first number (drop n bounds)) xs)))
-        → flat_map (λ t. t.items) texts ≡ text xs
+        → all_items texts ≡ text xs
     ranges_join [] texts some first rise count each = absurd (omega arith)
     ranges_join (low ∷ bounds) texts some first rise count each =
         from_bound low bounds texts rise count each ∙ ap text (all_pass (from low) xs (λ k d h. ap not (le-ltb _ _ (omega (arith, first)))))

@@ -1,5 +1,5 @@
 -- The sales of many listings that are in a range of places.
-use Rattle.std.proofs.Common.{◌≡◌, ℕ, Bool, All, Bor, List, ◌++◌, map, filter, IsPermutation, arith, flat_map}
+use Rattle.std.proofs.Common.{◌≡◌, ℕ, Bool, All, Bor, List, ◌++◌, filter, IsPermutation, arith}
 use Rattle.std.specs.List.Sorted.{IsNonDecreasingBy}
 use Rattle.std.proofs.lemmas.Grind.{common_steps}
 use Rattle.std.proofs.lemmas.List.{get_or-map, length-map, map_more}
@@ -9,19 +9,12 @@ use Rattle.std.proofs.lemmas.List.Kept.{IsStrictlySortedBy-filter}
 use Rattle.std.proofs.lemmas.List.Sorted.{All-permutation, IsPermutation-sym, IsPermutation-trans}
 use Rattle.lists.proofs.Lists.{IsPermutation-filter}
 use Rattle.row_types.specs.SalesByPlace.{place_cmp, IsByPlace}
+use Rattle.time_and_sales.specs.Lent.{lent}
 use Rattle.time_and_sales.specs.Texts.{Sale, lines_text, sale_line}
 use Rattle.time_and_sales.proofs.RangesJoined.{flat_map_next, flat_map_push}
 use Rattle.time_and_sales.proofs.SortedByPlace.{one_order, place_of, places_rise}
 
--- the sales of all listings
-abbrev pub listed : List (Bor (List Sale)) → List Sale
-listed listings = flat_map (λ (sales : List Sale). sales) (map (λ (listing : Bor (List Sale)). listing.now) listings)
-
--- what stands where the references lead
-abbrev pub seen : List (Bor Sale) → List Sale
-seen sales = map (λ (sale : Bor Sale). sale.now) sales
-
-pub seen_rise : (sales : List (Bor Sale)) → IsNonDecreasingBy (λ (sale : Bor Sale). sale.now.place) sales → IsNonDecreasingBy place_of (seen sales)
+pub seen_rise : (sales : List (Bor Sale)) → IsNonDecreasingBy (λ (sale : Bor Sale). sale.now.place) sales → IsNonDecreasingBy place_of (lent sales)
 seen_rise sales up i j d low within =
     let e : Bor Sale = record { ref_ptr = (0, 0); now = d } in
     let n = length-map sales (λ (sale : Bor Sale). sale.now) in
@@ -35,11 +28,11 @@ range_is p sales all range up perm rise part =
     one_order (filter p all) range (IsStrictlySortedBy-filter place_cmp p all up) (IsPermutation-trans _ (filter p sales) _ back part) rise
 
 -- what holds of all sales holds of those that the references of a range lead to
-pub range_has : (P : Sale → Type 0) (p : Sale → Bool) (sales : List Sale) (range : List (Bor Sale)) → All P sales → IsPermutation (filter p sales) (seen range)
+pub range_has : (P : Sale → Type 0) (p : Sale → Bool) (sales : List Sale) (range : List (Bor Sale)) → All P sales → IsPermutation (filter p sales) (lent range)
     → All (λ (sale : Bor Sale). P sale.now) range
 range_has P p sales range all part k d h =
     rw (get_or-map (λ (sale : Bor Sale). sale.now) range k d d.now h) at
-    (All-permutation P (filter p sales) (seen range) part (All-filter p P sales all) k d.now (omega (arith, length-map range (λ (sale : Bor Sale). sale.now))))
+    (All-permutation P (filter p sales) (lent range) part (All-filter p P sales all) k d.now (omega (arith, length-map range (λ (sale : Bor Sale). sale.now))))
 
 pub lines-append : (name : ℕ → List ℕ) (xs ys : List Sale) → lines_text name (xs ++ ys) ≡ lines_text name xs ++ lines_text name ys
 lines-append name xs ys = flat_map-append (λ (sale : Sale). sale_line sale (name sale.locate)) xs ys

@@ -1,8 +1,8 @@
 //! A listing: sales by place.
-ghost use Rattle.std.specs.Prelude.{◌≡◌, List, [], ◌++◌, map, nat_eq, nat_lt, IsOk, IfOk, OnOk, OnErr, All, ⊤};
-ghost use Rattle.std.specs.List.{IsDistinct, flat_map};
+ghost use Rattle.std.specs.Prelude.{◌≡◌, List, [], ◌++◌, nat_lt, IsOk, IfOk, OnOk, OnErr, All, ⊤};
 ghost use Rattle.std.specs.List.Sorted.{IsPermutation};
 ghost use Rattle.row_types.specs.SalesByPlace.{IsByPlace};
+ghost use Rattle.time_and_sales.specs.Lent.{AreApart, all_items, all_sales};
 
 use crate::OutOfMemory;
 use crate::numbered::Numbered;
@@ -42,7 +42,7 @@ impl<A: Allocator> Listing<A> {
     /// The listing of the sales, which are sorted in the vector that they come in; the fewer rising runs
     /// they come in, the faster.
     pub fn of_sales(mut sales: Vec<Sale, A>) -> Listing<A>
-        requires { IsDistinct nat_eq (map (λ sale. sale.place) sales.items) }
+        requires { AreApart sales.items }
         ensures permutation { IsPermutation sales.items result }
         ensures by_place { IsByPlace result }
     {
@@ -54,7 +54,7 @@ impl<A: Allocator> Listing<A> {
     /// place. It is refused only if there is no memory for the sales of `other`, of which there are
     /// some, and then leaves the listing as it was.
     pub fn unite(&mut self, other: &Listing<A>) -> Result<(), OutOfMemory>
-        requires { IsDistinct nat_eq (map (λ sale. sale.place) (self.old ++ other.now)) }
+        requires { AreApart (self.old ++ other.now) }
         ensures permutation { OnOk result (IsPermutation (self.old ++ other.now) self.new) }
         ensures by_place { IsByPlace self.new }
         ensures unchanged { OnErr result (self.new ≡ self.old) }
@@ -70,10 +70,8 @@ impl<A: Allocator> Listing<A> {
     pub fn merge_all(alloc: A, listings: Vec<Listing<A>, A>) -> Result<Listing<A>, OutOfMemory>
     where
         A: Clone,
-        requires { IsDistinct nat_eq
-            (map (λ sale. sale.place) (flat_map (λ listing. listing) listings.items)) }
-        ensures permutation { IfOk result (λ all.
-            IsPermutation (flat_map (λ listing. listing) listings.items) all) }
+        requires { AreApart (all_sales listings.items) }
+        ensures permutation { IfOk result (λ all. IsPermutation (all_sales listings.items) all) }
         ensures by_place { IfOk result IsByPlace }
     {
         let mut parts = Vec::new(alloc.clone()?);
@@ -107,7 +105,7 @@ impl<A: Allocator> Listing<A> {
 /// Puts sales in the order of their places. If there is memory for it, the rising runs that they
 /// come in are merged; if not, they are sorted in place.
 fn put_by_place<A: Allocator>(sales: &mut Vec<Sale, A>)
-    requires { IsDistinct nat_eq (map (λ sale. sale.place) sales.old.items) }
+    requires { AreApart sales.old.items }
     ensures permutation { IsPermutation sales.old.items sales.new.items }
     ensures by_place { IsByPlace sales.new.items }
 {
@@ -145,10 +143,8 @@ fn merged<A: Allocator + Clone>(
     parts: Vec<Vec<Sale, A>, A>,
 ) -> Result<Vec<Sale, A>, OutOfMemory>
     requires by_place { All (λ part. IsByPlace part.items) parts.items }
-    requires apart { IsDistinct nat_eq
-        (map (λ sale. sale.place) (flat_map (λ part. part.items) parts.items)) }
-    ensures { IfOk result (λ all.
-        IsPermutation (flat_map (λ part. part.items) parts.items) all.items × IsByPlace all.items) }
+    requires apart { AreApart (all_items parts.items) }
+    ensures { IfOk result (λ all. IsPermutation (all_items parts.items) all.items × IsByPlace all.items) }
 {
     let merge = parts.into_iter().kmerge_by(alloc.clone()?, ByPlace)?;
     merge.collect(alloc)

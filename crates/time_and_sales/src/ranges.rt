@@ -1,11 +1,11 @@
 //! The lines of many listings, of ranges of places by threads.
-ghost use Rattle.std.specs.Prelude.{◌≡◌, ◌<◌, ◌≤◌, ◌++◌, All, IfOk, OnOk, List, drop, filter, length, map, nat_eq};
-ghost use Rattle.std.specs.List.{IsDistinct, flat_map};
+ghost use Rattle.std.specs.Prelude.{◌≡◌, ◌<◌, ◌≤◌, ◌++◌, All, IfOk, OnOk, List, drop, filter, length};
 ghost use Rattle.std.specs.List.Sorted.{IsNonDecreasingBy, IsPermutation};
 ghost use Rattle.lists.specs.declared.limits.TheConstants.{TIME_LIMIT};
 ghost use Rattle.row_types.specs.declared.trade.Sale.{Sale};
 ghost use Rattle.row_types.specs.SalesByPlace.{IsByPlace};
-ghost use Rattle.time_and_sales.specs.Names.{last_row, name_text};
+ghost use Rattle.time_and_sales.specs.Lent.{AreApart, all_items, all_sales, lent};
+ghost use Rattle.time_and_sales.specs.Names.{names_by};
 ghost use Rattle.time_and_sales.specs.Texts.{is_in_first, lines_text};
 
 use crate::OutOfMemory;
@@ -31,14 +31,11 @@ pub fn lines_in_ranges<R: Threads + Sync>(
     names: &Names,
     ranges: u32,
 ) -> Result<Vec<Vec<u8>>, OutOfMemory>
-    requires apart { IsDistinct nat_eq (map (λ sale. sale.place)
-        (flat_map (λ listing. listing) (map (λ listing. listing.now) listings.now))) }
-    requires times { All (λ sale. sale.time < TIME_LIMIT)
-        (flat_map (λ listing. listing) (map (λ listing. listing.now) listings.now)) }
+    requires apart { AreApart (all_sales (lent listings.now)) }
+    requires times { All (λ sale. sale.time < TIME_LIMIT) (all_sales (lent listings.now)) }
     ensures { IfOk result (λ texts. (all : List Sale) → IsByPlace all →
-        IsPermutation (flat_map (λ listing. listing) (map (λ listing. listing.now) listings.now)) all →
-        flat_map (λ text. text.items) texts.items
-        ≡ lines_text (λ locate. name_text locate (last_row names.now locate)) all) }
+        IsPermutation (all_sales (lent listings.now)) all →
+        all_items texts.items ≡ lines_text (names_by names.now) all) }
 {
     let places = places_of(alloc, longest(listings), ranges)?;
     let made = bounds_of(alloc, places.as_slice())?;
@@ -49,11 +46,10 @@ pub fn lines_in_ranges<R: Threads + Sync>(
         bounds.len(),
         &|i: usize| -> Result<Vec<u8>, OutOfMemory>
             requires { (i < length bounds.now)
-                × All (λ sale. sale.time < TIME_LIMIT)
-                (flat_map (λ listing. listing) (map (λ listing. listing.now) listings.now)) }
+                × All (λ sale. sale.time < TIME_LIMIT) (all_sales (lent listings.now)) }
             ensures { IfOk result (λ text. (all : List Sale) → IsByPlace all →
-                IsPermutation (flat_map (λ listing. listing) (map (λ listing. listing.now) listings.entry.now)) all →
-                text.items ≡ lines_text (λ locate. name_text locate (last_row names.entry.now locate))
+                IsPermutation (all_sales (lent listings.entry.now)) all →
+                text.items ≡ lines_text (names_by names.entry.now)
                 (filter (is_in_first (λ sale. sale.place) (drop i bounds.entry.now)) all)) }
         { range_lines(alloc, listings, names, &bounds[i..]) },
     )
@@ -84,11 +80,10 @@ fn range_lines(
     names: &Names,
     bounds: &[u64],
 ) -> Result<Vec<u8>, OutOfMemory>
-    requires times { All (λ sale. sale.time < TIME_LIMIT)
-        (flat_map (λ listing. listing) (map (λ listing. listing.now) listings.now)) }
+    requires times { All (λ sale. sale.time < TIME_LIMIT) (all_sales (lent listings.now)) }
     ensures { IfOk result (λ text. (all : List Sale) → IsByPlace all →
-        IsPermutation (flat_map (λ listing. listing) (map (λ listing. listing.now) listings.now)) all →
-        text.items ≡ lines_text (λ locate. name_text locate (last_row names.now locate))
+        IsPermutation (all_sales (lent listings.now)) all →
+        text.items ≡ lines_text (names_by names.now)
         (filter (is_in_first (λ sale. sale.place) bounds.now) all)) }
 {
     let sorted = range_of(alloc, listings, bounds)?;
@@ -103,11 +98,8 @@ fn range_of<'a>(
     bounds: &[u64],
 ) -> Result<Vec<&'a Sale>, OutOfMemory>
     ensures permutation { IfOk result (λ sorted. IsPermutation
-        (filter (is_in_first (λ sale. sale.place) bounds.now)
-        (flat_map (λ listing. listing) (map (λ listing. listing.now) listings.now)))
-        (map (λ sale. sale.now) sorted.items)) }
-    ensures rise { IfOk result (λ sorted.
-        IsNonDecreasingBy (λ sale. sale.place) (map (λ sale. sale.now) sorted.items)) }
+        (filter (is_in_first (λ sale. sale.place) bounds.now) (all_sales (lent listings.now))) (lent sorted.items)) }
+    ensures rise { IfOk result (λ sorted. IsNonDecreasingBy (λ sale. sale.place) (lent sorted.items)) }
 {
     let mut sales = Vec::with_capacity(alloc, count_within(listings, bounds))?;
     for listing in listings {
@@ -129,8 +121,7 @@ fn count_within(listings: &[&Listing], bounds: &[u64]) -> usize {
 
 /// Appends where each of the sales stands.
 fn append<'a>(sales: &mut Vec<&'a Sale>, more: &'a [Sale]) -> Result<(), OutOfMemory>
-    ensures { OnOk result (map (λ sale. sale.now) sales.new.items
-        ≡ map (λ sale. sale.now) sales.old.items ++ more.now) }
+    ensures { OnOk result (lent sales.new.items ≡ lent sales.old.items ++ more.now) }
 {
     for sale in more {
         sales.push(sale)?;
@@ -142,8 +133,7 @@ fn append<'a>(sales: &mut Vec<&'a Sale>, more: &'a [Sale]) -> Result<(), OutOfMe
 #[tactic(auto, using(crate::proofs::SalesInRanges::loops))]
 fn lines(alloc: Global, sales: &[&Sale], names: &Names) -> Result<Vec<u8>, OutOfMemory>
     requires { All (λ sale. sale.now.time < TIME_LIMIT) sales.now }
-    ensures { IfOk result (λ text. text.items
-        ≡ lines_text (λ locate. name_text locate (last_row names.now locate)) (map (λ sale. sale.now) sales.now)) }
+    ensures { IfOk result (λ text. text.items ≡ lines_text (names_by names.now) (lent sales.now)) }
 {
     let mut text = Vec::with_capacity(alloc, sales.len().saturating_mul(USUAL_LINE))?;
     for sale in sales {

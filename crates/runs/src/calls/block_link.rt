@@ -22,7 +22,7 @@ impl<'a, S: BlockSource + Send + Sync> Link<BlockWork<S>, BucketWork> for BlockL
 
     type Stop = Result<WrongLength, SourceFault>;
 
-    ghost Links = { λ link. LinksAttempts S.GaveAt S.EndsAt S.FailsAt link.plan };
+    ghost Links = { λ link. LinksAttempts S.BlockSource.own link.plan };
 
     fn link(
         &self,

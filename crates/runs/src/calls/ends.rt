@@ -28,7 +28,7 @@ pub(crate) fn query_of(alloc: Global, text: &str) -> Result<Query, RunFault>
 /// Writes the text of an answer to a sink, and reports its fault.
 pub(crate) fn hand_over<K: Sink>(answer: Answer, sink: &mut K) -> Result<(), RunFault>
     requires { K.has_failed sink.old ≡ false }
-    ensures handed { IsHandedOver K.Took K.HasFlushed (λ told. told_by answer ≡ told) sink.old sink.new result }
+    ensures handed { IsHandedOver K.Sink (λ told. told_by answer ≡ told) sink.old sink.new result }
     ensures write_failed { K.has_failed sink.new ≡ is_write_failed result }
 {
     match answer {

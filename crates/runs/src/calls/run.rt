@@ -31,8 +31,8 @@ pub fn run<R: Threads + Wait + Sync, S: Source, K: Sink>(
 ) -> Result<(), RunFault>
     requires source { S.has_failed source.old ≡ false }
     requires sink { K.has_failed sink.old ≡ false }
-    ensures ran { Ran (of_stream S.Gave S.HasEnded settings.limit settings.morsel source.old source.new)
-        K.Took K.HasFlushed query_text.now settings.limit sink.old sink.new result }
+    ensures ran { Ran (of_stream S.Source settings.limit settings.morsel source.old source.new)
+        K.Sink query_text.now settings.limit sink.old sink.new result }
     ensures read_failed { S.has_failed source.new ≡ is_read_failed result }
     ensures write_failed { K.has_failed sink.new ≡ is_write_failed result }
 {
@@ -51,15 +51,15 @@ fn answer_source<R: Threads + Wait + Sync, S: Source>(
 ) -> Result<Answer, RunFault>
     requires { S.has_failed source.old ≡ false }
     ensures answered { IsAnsweredOrRefused
-        (of_stream S.Gave S.HasEnded settings.limit settings.morsel source.old source.new)
+        (of_stream S.Source settings.limit settings.morsel source.old source.new)
         query.now settings.limit result }
     ensures read_failed { S.has_failed source.new ≡ is_read_failed result }
 {
-    let total = match scan_source(rt, alloc, source, query.as_of, settings) {
-        Ok(total) => total,
+    let (total, parts) = match scan_source(rt, alloc, source, query.as_of, settings) {
+        Ok(scanned) => scanned,
         Err(fault) => return answer_of_fault(fault, settings.limit),
     };
-    let link = PlanLink::dividing(query, settings.parts);
+    let link = PlanLink::dividing(query, parts);
     let Ok(outcome) = run_second(rt, alloc, total, &link, settings.crew, &FreeGate) else {
         return Err(RunFault::OutOfMemory);
     };

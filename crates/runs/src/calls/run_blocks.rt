@@ -9,7 +9,7 @@ use crate::calls::answer::answer_of_outcome;
 use crate::calls::block_link::BlockLink;
 use crate::calls::ends::{answer_of_fault, hand_over, query_of};
 use answers::Answer;
-use block_scan::{BlockSource, Division, SourceFault, block_inputs};
+use block_scan::{BlockSource, Division, SourceFault, block_inputs, partitions_of};
 use buckets::BucketTotal;
 use outcomes::{RunFault, Settings};
 use pipelines::{FreeGate, Gate, Outcome, run_pair};
@@ -38,8 +38,8 @@ pub fn run_blocks<R: Threads + Wait + Sync, S: BlockSource + Send + Sync, K: Sin
     sink: &mut K,
 ) -> Result<(), RunFault>
     requires { K.has_failed sink.old ≡ false }
-    ensures ran { Ran (of_blocks S.GaveAt S.EndsAt S.FailsAt settings.limit source)
-        K.Took K.HasFlushed query_text.now settings.limit sink.old sink.new result }
+    ensures ran { Ran (of_blocks S.BlockSource.own settings.limit source)
+        K.Sink query_text.now settings.limit sink.old sink.new result }
     ensures write_failed { K.has_failed sink.new ≡ is_write_failed result }
 {
     let query = query_of(alloc, query_text)?;
@@ -66,7 +66,7 @@ pub fn answer_blocks<G: Gate, R: Threads + Wait + Sync, S: BlockSource + Send + 
     settings: Settings,
     gate: &G,
 ) -> Result<Answer, RunFault>
-    ensures { IsAnsweredOrRefused (of_blocks S.GaveAt S.EndsAt S.FailsAt settings.limit (arc_value source.now))
+    ensures { IsAnsweredOrRefused (of_blocks S.BlockSource.own settings.limit (arc_value source.now))
         query.now settings.limit result }
 {
     let outcome = match outcome_of_blocks(rt, alloc, source, division, query, settings, gate) {
@@ -90,11 +90,12 @@ fn outcome_of_blocks<G: Gate, R: Threads + Wait + Sync, S: BlockSource + Send + 
     gate: &G,
 ) -> Result<Outcome<BucketTotal, DayPlan, WrongLength>, SourceFault>
     ensures outcome { IfOk result (λ outcome. (runs : List (List ℕ))
-        × GaveWhole S.GaveAt S.EndsAt settings.limit (arc_value source.now) (concat runs)
+        × GaveWhole S.BlockSource.own settings.limit (arc_value source.now) (concat runs)
         × IsOutcomeOf query.now outcome runs) }
-    ensures fault { IfErr result (IsBlocksFault S.GaveAt S.EndsAt S.FailsAt (arc_value source.now) settings.limit) }
+    ensures fault { IfErr result (IsBlocksFault S.BlockSource.own (arc_value source.now) settings.limit) }
 {
-    let (parts, limit) = (settings.parts, settings.limit);
+    let limit = settings.limit;
+    let parts = partitions_of(&**source, division, limit, settings.parts)?;
     let inputs = block_inputs(alloc, source, query.as_of, parts, limit, division)?;
     let Ok(inputs) = Arc::new(alloc, inputs) else {
         return Err(SourceFault::OutOfMemory);

@@ -1,13 +1,13 @@
 //! A source that is read batch by batch, while threads scan the batch before.
-ghost use Rattle.std.specs.Prelude.{◌≡◌, ◌↔◌, ℕ, List, false, true, IfErr, IfOk, IsErrOf};
-ghost use Rattle.std.specs.List.{concat};
+ghost use Rattle.std.specs.Prelude.{◌≡◌, ◌<◌, ◌≤◌, ◌↔◌, false, true, IfErr, IfOk, IsErrOf};
+ghost use Rattle.lists.specs.declared.limits.TheConstants.{MOST_PARTITIONS};
 ghost use Rattle.streaming.specs.Readings.{IsSourceFault, of_stream};
-ghost use Rattle.runs.specs.Steps.{IsBatchRead, IsScanOf};
+ghost use Rattle.runs.specs.Steps.{IsBatchRead, IsScanOf, IsScanOfAll};
 
 use crate::OutOfMemory;
 use outcomes::Settings;
-use pipelines::{FreeGate, run_first};
-use scanning::{ScanTotal, batch_inputs};
+use pipelines::{Crew, FreeGate, run_first};
+use scanning::{ReferenceSample, ScanTotal, batch_inputs};
 use std::alloc::Global;
 use std::sync::{Arc, Wait};
 use std::thread::{Threads, join_mut};
@@ -17,34 +17,58 @@ use streaming::{Batch, BatchReader, Source, SourceFault};
 /// them, and little beside what a day's rows take.
 const BATCH: u64 = 32 << 20;
 
-/// What the scans of all that a source gives add up to. It is read and cut batch by batch: the morsels of
-/// one are the tasks of a pipeline, while the caller reads the next one. So no more than two batches are in
-/// memory, and no bytes of those before. It waits for the threads.
+/// What the scans of all that a source gives add up to, and in how many partitions the rows are: as many as the
+/// settings say, or a few more if the first batch's references would crowd in one of those. The source is read and cut
+/// batch by batch: the morsels of one are the tasks of a pipeline, while the caller reads the next one. So no more than
+/// two batches are in memory, and no bytes of those before. It waits for the threads.
 pub(crate) fn scan_source<R: Threads + Wait + Sync, S: Source>(
     rt: &R,
     alloc: Global,
     source: &mut S,
     as_of: Option<u32>,
     settings: Settings,
-) -> Result<ScanTotal, SourceFault>
+) -> Result<(ScanTotal, u32), SourceFault>
     requires source { S.has_failed source.old ≡ false }
-    ensures scanned { IfOk result (λ total. (runs : List (List ℕ))
-        × (of_stream S.Gave S.HasEnded settings.limit settings.morsel source.old source.new).all (concat runs)
-        × IsScanOf 0 0 as_of settings.parts runs total) }
+    ensures scanned { IfOk result (λ (total, parts). IsScanOfAll
+        (of_stream S.Source settings.limit settings.morsel source.old source.new) as_of parts total) }
+    ensures parts { IfOk result (λ (total, parts). (0 < parts) × (parts ≤ MOST_PARTITIONS)) }
     ensures fault { IfErr result
-        (IsSourceFault (of_stream S.Gave S.HasEnded settings.limit settings.morsel source.old source.new)) }
+        (IsSourceFault (of_stream S.Source settings.limit settings.morsel source.old source.new)) }
     ensures failed { IsErrOf result SourceFault.ReadFailed ↔ (S.has_failed source.new ≡ true) }
 {
     let mut reader = BatchReader::new(alloc, settings.limit, settings.morsel, BATCH)?;
     let mut total = ScanTotal::empty(alloc);
     let mut batch = reader.next_batch(source)?;
+    let parts = partitions_of(&batch, settings.parts);
+    let crew = settings.crew;
     while !batch.is_last {
-        let (scans, next) = scan_and_read(rt, alloc, &batch, as_of, &settings, &mut reader, source);
+        let (scans, next) = scan_and_read(
+            rt,
+            alloc,
+            &batch,
+            as_of,
+            parts,
+            crew,
+            &mut reader,
+            source,
+        );
         batch = next?;
         total.append(scans?)?;
     }
-    total.append(scan(rt, alloc, &batch, as_of, &settings)?)?;
-    Ok(total)
+    total.append(scan(rt, alloc, &batch, as_of, parts, crew)?)?;
+    Ok((total, parts))
+}
+
+/// The number of partitions that some references of the first batch ask for. A source of one batch has `parts`: the
+/// work of any partition takes some hundredths of a second.
+fn partitions_of(batch: &Batch, parts: u32) -> u32
+    requires { (0 < parts) × (parts ≤ MOST_PARTITIONS) }
+    ensures { (0 < result) × (result ≤ MOST_PARTITIONS) }
+{
+    if batch.is_last {
+        return parts;
+    }
+    ReferenceSample::of_cut(&batch.cut).partitions(parts)
 }
 
 /// Scans a batch on threads of its own, while the caller's thread reads the next one.
@@ -53,23 +77,24 @@ fn scan_and_read<R: Threads + Wait + Sync, S: Source>(
     alloc: Global,
     batch: &Batch,
     as_of: Option<u32>,
-    settings: &Settings,
+    parts: u32,
+    crew: Crew,
     reader: &mut BatchReader,
     source: &mut S,
 ) -> (Result<ScanTotal, OutOfMemory>, Result<Batch, SourceFault>)
     requires source { S.has_failed source.old ≡ false }
-    ensures scans { IfOk result.0
-        (IsScanOf batch.now.first batch.now.start as_of settings.now.parts batch.now.cut) }
-    ensures next { IsBatchRead S.Gave S.HasEnded S.has_failed source.old source.new
-        reader.old reader.new result.1 }
+    requires parts { (0 < parts) × (parts ≤ MOST_PARTITIONS) }
+    ensures scans { IfOk result.0 (IsScanOf batch.now.first batch.now.start as_of parts batch.now.cut) }
+    ensures next { IsBatchRead S.Source source.old source.new reader.old reader.new result.1 }
 {
     let mut scan = || -> Result<ScanTotal, OutOfMemory>
+        requires { (0 < parts) × (parts ≤ MOST_PARTITIONS) }
         ensures { IfOk result (IsScanOf batch.entry.now.first batch.entry.now.start as_of
-            settings.entry.now.parts batch.entry.now.cut) }
-    { scan(rt, alloc, batch, as_of, settings) };
+            parts batch.entry.now.cut) }
+    { scan(rt, alloc, batch, as_of, parts, crew) };
     let mut read = || -> Result<Batch, SourceFault>
         requires { S.has_failed source.now ≡ false }
-        ensures { IsBatchRead S.Gave S.HasEnded S.has_failed source.entry.now source.exit.now
+        ensures { IsBatchRead S.Source source.entry.now source.exit.now
             reader.entry.now reader.exit.now result }
     { reader.next_batch(source) };
     join_mut(rt, &mut scan, &mut read)
@@ -81,11 +106,12 @@ fn scan<R: Threads + Wait + Sync>(
     alloc: Global,
     batch: &Batch,
     as_of: Option<u32>,
-    settings: &Settings,
+    parts: u32,
+    crew: Crew,
 ) -> Result<ScanTotal, OutOfMemory>
-    ensures { IfOk result (IsScanOf batch.now.first batch.now.start as_of settings.now.parts batch.now.cut) }
+    requires { (0 < parts) × (parts ≤ MOST_PARTITIONS) }
+    ensures { IfOk result (IsScanOf batch.now.first batch.now.start as_of parts batch.now.cut) }
 {
-    let Settings { crew, parts, .. } = *settings;
     let inputs = batch_inputs(alloc, &batch.cut, batch.first, batch.start, as_of, parts)?;
     let inputs = Arc::new(alloc, inputs)?;
     run_first(rt, alloc, &inputs, crew, &FreeGate)

@@ -3,7 +3,7 @@ use Rattle.std.proofs.lemmas.Bool.{eqb-false, eqb-true}
 use Rattle.std.proofs.lemmas.List.{length-map, nil_from_length, take_all}
 use Rattle.std.proofs.lemmas.List.Elements.{All-contains, All-take, Contains-push}
 use Rattle.lists.specs.declared.limits.TheConstants.{TIME_LIMIT}
-use Rattle.time_and_sales.specs.Names.{last_row, name_text}
+use Rattle.time_and_sales.specs.Names.{names_by}
 use Rattle.time_and_sales.proofs.RangesJoined.{flat_map_push}
 use Rattle.bars.specs.Bars.{Bar, IsTraded, IsUnionOf, key_cmp}
 use Rattle.bars.specs.Steps.{bar_at}
@@ -38,7 +38,7 @@ write_bar-requires c =
 
 pub loop-i-preserved : goal.loop-i-preserved
 loop-i-preserved c =
-    let name : ℕ → List ℕ = λ locate. name_text locate (last_row c.args.names.now locate) in
+    let name : ℕ → List ℕ = names_by c.args.names.now in
     let h = c.loop-i.invariant in
     let bar = c.bar-bar.result in
     let table = h.done ++ c.loop-i.current ∷ [] in
@@ -84,7 +84,7 @@ returns-then-is_empty c = grind (arith, nil_from_length, eqb-true, one_union, un
 
 pub returns : goal.returns
 returns c =
-    let name : ℕ → List ℕ = λ locate. name_text locate (last_row c.args.names.now locate) in
+    let name : ℕ → List ℕ = names_by c.args.names.now in
     let seen = map bar_at c.args.sorted.now in
     let h = c.loop-i.invariant in
     let all = take_all c.loop-i.i seen (omega (arith, length-map c.args.sorted.now bar_at)) in

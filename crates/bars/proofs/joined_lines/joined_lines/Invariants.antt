@@ -1,5 +1,5 @@
 use Rattle.std.proofs.Common.{◌≡◌, List, [], ◌∷◌, ◌++◌, map, take}
-use Rattle.time_and_sales.specs.Names.{last_row, name_text}
+use Rattle.time_and_sales.specs.Names.{names_by}
 use Rattle.bars.specs.Bars.{Bar, IsUnionOf}
 use Rattle.bars.specs.Steps.{bar_at}
 use Rattle.bars.specs.Texts.{lines_text}
@@ -9,7 +9,7 @@ use Rattle.bars.proofs.joined_lines.joined_lines.Given as goal
 abbrev pub invariant-loop-i : goal.invariant-loop-i
 invariant-loop-i l = record {
   done : List Bar;
-  text : l.text.items ≡ lines_text (λ locate. name_text locate (last_row l.names locate)) done;
+  text : l.text.items ≡ lines_text (names_by l.names) done;
   union : IsUnionOf (take l.i (map bar_at l.sorted)) (done ++ l.current ∷ []);
-  name : l.name ≡ name_text l.current.locate (last_row l.names l.current.locate);
+  name : l.name ≡ names_by l.names l.current.locate;
 }

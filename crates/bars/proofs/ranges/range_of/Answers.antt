@@ -16,4 +16,5 @@ returns c =
       rise = order.rise;
       alike = λ key. ap (joined_all _) (order.each key) ∙ c.in_ok-keyed.ensures.alike key;
       traded = All-permutation IsTraded _ _ order.permutation c.in_ok-keyed.ensures.traded;
+      tables = c.in_ok-keyed.ensures.tables;
     }

@@ -1,5 +1,5 @@
-use Rattle.std.proofs.Common.{IsPermutation, arith, nat_le, sym, ap, ◌∙◌, subst}
-use Rattle.std.proofs.lemmas.Bool.{and_parts, leb-true}
+use Rattle.std.proofs.Common.{IsPermutation, arith, sym, ap, ◌∙◌, subst}
+use Rattle.std.proofs.lemmas.Bool.Decides.{nat_tests}
 use Rattle.buckets.specs.Products.{product_of}
 use Rattle.buckets.specs.declared.product.Product.TheVariants.{Listed, Tabled}
 use Rattle.buckets.proofs.ProductsOfSales.{listing_is_by_place}
@@ -8,8 +8,8 @@ use Rattle.buckets.proofs.making.product.Goals as goal
 
 pub of_vec-requires-clause-width : goal.of_vec-requires-clause-width
 of_vec-requires-clause-width c =
-    let within = and_parts (nat_le 1 c.in-Bars.width) (nat_le c.in-Bars.width 86400) (c.requires.width c.in-Bars.width c.in-Bars.is) in
-    (omega (arith, leb-true 1 c.in-Bars.width within.0), omega (arith, leb-true c.in-Bars.width 86400 within.1))
+    let is_width = c.requires.width c.in-Bars.width c.in-Bars.is in
+    grind (arith, nat_tests)
 
 pub returns-in-Sales : goal.returns-in-Sales
 returns-in-Sales c =

@@ -1,9 +1,8 @@
 use Rattle.std.proofs.Common.{arith}
-use Rattle.std.proofs.Common.{append-nil, ap, ◌∙◌}
+use Rattle.std.proofs.Common.{append-nil}
 use Rattle.std.specs.Arc.{arc_value}
 use Rattle.std.proofs.lemmas.List.{map_more, map_push}
 use Rattle.std.proofs.lemmas.List.Elements.{filter_map-append}
-use Rattle.bars.proofs.JoinedTables.{traded_more}
 use Rattle.joining.proofs.listed.tables.Goals as goal
 use Rattle.joining.proofs.listed.tables.Goals.{in-Tabled+in_ok-push-in-Tabled, in-Listed}
 
@@ -11,12 +10,6 @@ pub loop-product-preserved : goal.loop-product-preserved
 loop-product-preserved c =
     let next = map_more arc_value c.args.products.now c.loop-product.product-index c.product-item.result c.loop-product-test.true in
     elim c.match-deref.branch [
-      | in-Tabled+in_ok-push-in-Tabled w ↦
-          let new = ap (λ tables. tables.items) w.tables-is ∙ w.in_ok-push-in-Tabled.ensures.items in
-          record {
-            tables = grind (arith, map_push, filter_map-append);
-            traded = traded_more _ _ _ c.loop-product.invariant.traded w.traded.ensures.traded new;
-          }
-      | in-Listed w ↦
-          record { tables = grind (arith, append-nil, filter_map-append); traded = rw w.tables-is c.loop-product.invariant.traded }
+      | in-Tabled+in_ok-push-in-Tabled w ↦ grind (arith, map_push, filter_map-append)
+      | in-Listed w ↦ grind (arith, append-nil, filter_map-append)
     ]

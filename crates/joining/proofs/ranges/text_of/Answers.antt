@@ -1,7 +1,7 @@
 use Rattle.std.proofs.Common.{map}
 use Rattle.std.proofs.lemmas.Result.{IfOk-weaker}
 use Rattle.std.specs.Arc.{arc_value}
-use Rattle.bars.specs.Bars.{all_sales}
+use Rattle.time_and_sales.specs.Lent.{all_sales}
 use Rattle.bars.specs.Steps.{bars_of}
 use Rattle.bars.proofs.BarsOfSales.{bars_of_are}
 use Rattle.buckets.specs.Products.{by_place}
@@ -35,18 +35,18 @@ returns-in_ok-listings-in-Sales g c =
 pub text_of_tables-requires-clause-sums : goal.text_of_tables-requires-clause-sums
 text_of_tables-requires-clause-sums g c lifetimes within =
     rw c.deref-in-Bars.ensures.value (tables_sums c.in-Bars.width c.requires.products.0 (map arc_value c.args.products.now) _
-    (rw c.in-Bars.is at c.requires.products.1) c.in_ok-tables-in-Bars.ensures.tables c.in_ok-tables-in-Bars.ensures.traded)
+    (rw c.in-Bars.is at c.requires.products.1) c.in_ok-tables-in-Bars.ensures)
 
 pub text_of_tables-requires-clause-starts : goal.text_of_tables-requires-clause-starts
 text_of_tables-requires-clause-starts g c lifetimes within =
     rw c.deref-in-Bars.ensures.value
     (tables_starts c.in-Bars.width c.requires.products.0 (map arc_value c.args.products.now) _ (rw c.in-Bars.is at c.requires.products.1)
-    c.in_ok-tables-in-Bars.ensures.tables)
+    c.in_ok-tables-in-Bars.ensures)
 
 pub returns-in_ok-tables-in-Bars : goal.returns-in_ok-tables-in-Bars
 returns-in_ok-tables-in-Bars g c =
     rw c.in-Bars.is (IfOk-weaker c.text_of_tables.result _ _
     (λ text is lists of.
-    let union = tables_union c.in-Bars.width lists (map arc_value c.args.products.now) _ of c.in_ok-tables-in-Bars.ensures.tables in
+    let union = tables_union c.in-Bars.width lists (map arc_value c.args.products.now) _ of c.in_ok-tables-in-Bars.ensures in
     (bars_of c.in-Bars.width (all_sales lists), bars_of_are c.in-Bars.width (all_sales lists), is _ (rw c.deref-in-Bars.ensures.value union)))
     c.text_of_tables.ensures)

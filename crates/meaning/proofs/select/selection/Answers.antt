@@ -1,6 +1,6 @@
 use Rattle.std.proofs.Common.{◌∙◌, ℕ, ap, sym}
 use Rattle.probe.specs.declared.selection.Locates.TheVariants.{Listed}
-use Rattle.time_and_sales.specs.Names.{last_row, name_text}
+use Rattle.time_and_sales.specs.Names.{names_by}
 use Rattle.meaning.specs.Meaning.{Meaning}
 use Rattle.meaning.specs.Selected.{locates_of}
 use Rattle.meaning.proofs.ListedLocates.{listed_selected}
@@ -9,7 +9,7 @@ use Rattle.meaning.proofs.select.selection.Goals.{in-Some+in_ok-listed-in-Some, 
 
 pub returns-clause-locates : goal.returns-clause-locates
 returns-clause-locates g c =
-    let names = λ (locate : ℕ). name_text locate (last_row c.args.names.now locate) in
+    let names = names_by c.args.names.now in
     elim c.match-query.branch [
       | in-Some+in_ok-listed-in-Some w ↦
           w.locates-is

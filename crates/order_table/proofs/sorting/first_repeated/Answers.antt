@@ -1,4 +1,5 @@
-use Rattle.std.proofs.Common.{◌∙◌, ◌++◌, ◌∷◌, [], ap, arith, get_or, option_to_list, sym}
+use Rattle.std.proofs.Common.{◌∙◌, ◌++◌, ◌∷◌, [], ap, arith, get_or, option_to_list, rules, sym}
+use Rattle.std.proofs.lemmas.List.Sorted.{answers_always}
 use Rattle.lists.specs.Least.{least_by}
 use Rattle.order_table.specs.Orders.{OrderRow}
 use Rattle.order_table.proofs.Repeats.{is_again, is_new, none_first, one_again, one_new}
@@ -17,7 +18,8 @@ loop-at-preserved c =
     let within = c.loop-at-test.true in
     elim c.if-rows-at.branch [
       | then-rows-at w ↦
-          w.repeated-is ∙ w.earlier.ensures ∙ ap (λ o. least_by place_of (option_to_list o ++ get_or rows i d ∷ [])) c.loop-at.invariant
+          w.repeated-is ∙ w.earlier-repeated.ensures place_of (answers_always _ _ _ (λ f a r g called. search rules))
+          ∙ ap (λ o. least_by place_of (option_to_list o ++ get_or rows i d ∷ [])) c.loop-at.invariant
           ∙ sym (one_again rows i d within (is_again rows c.requires.in_order d i (omega (arith, c.loop-at.auto.at))
           within c.requires.distinct w.if-rows-at.true))
       | else-rows-at w ↦

@@ -1,4 +1,5 @@
 use Rattle.std.proofs.Common.{◌∙◌, ◌<◌, ◌++◌, ◌∷◌, [], ap, ap₂, arith, length, option_map, option_to_list, rules, sym}
+use Rattle.std.proofs.lemmas.List.Sorted.{answers_always}
 use Rattle.lists.specs.Least.{least_by}
 use Rattle.probe.specs.Pricing.{Sale, Unknown, unknown_of}
 use Rattle.probe.proofs.OneMoreExecution.{priced_more, priced_stays, unknown_more, unknown_stays}
@@ -36,7 +37,7 @@ loop-execution-preserved g c =
                   ap (λ p. p.sales.items) w.priced-is ∙ now.sales ∙ sym stays;
               unknown =
                   let more = unknown_more rows others executions i _ below (w.in-None.ensures rows by) in
-                  ap (λ p. p.unknown) w.priced-is ∙ w.earlier-priced.ensures
+                  ap (λ p. p.unknown) w.priced-is ∙ w.earlier-priced.ensures (λ unknown. unknown.place) (answers_always _ _ _ (λ f a r g called. search rules))
                   ∙ ap₂ (λ o (u : Unknown). least_by (λ unknown. unknown.place) (option_to_list o ++ u ∷ [])) now.unknown w.unknown_of.ensures ∙ sym more;
             };
         len = search rules;

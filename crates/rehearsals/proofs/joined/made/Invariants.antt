@@ -1,6 +1,7 @@
-use Rattle.std.proofs.Common.{◌≡◌, map, take}
+use Rattle.std.proofs.Common.{◌≡◌, take}
+use Rattle.time_and_sales.specs.Lent.{lent}
 use Rattle.rehearsals.proofs.joined.made.Given as goal
 
 -- the tables so far
 abbrev pub invariant-loop-bars : goal.invariant-loop-bars
-invariant-loop-bars l = l.tables.items ≡ map (λ bars. bars.now) (take l.bars-index l.kept)
+invariant-loop-bars l = l.tables.items ≡ lent (take l.bars-index l.kept)

@@ -1,5 +1,6 @@
 use Rattle.std.proofs.Common.{codes}
 use Rattle.std.specs.Fmt.{decimal}
+use Rattle.lists.specs.declared.limits.TheConstants.{MOST_MORSELS}
 use Rattle.reports.proofs.LineParts.{one_number}
 use Rattle.reports.proofs.lines.push_fault.Goals as goal
 
@@ -9,7 +10,7 @@ returns-in-TooLong-clause-items c = rw c.in-TooLong.is (one_number c.args.line.n
 
 pub returns-in-TooManyMorsels-clause-items : goal.returns-in-TooManyMorsels-clause-items
 returns-in-TooManyMorsels-clause-items c = rw c.in-TooManyMorsels.is (one_number c.args.line.now.items
-    (codes "more than ") (decimal 65536) (codes " morsels") _ (rw c.from.ensures at c.push_number-in-TooManyMorsels.ensures.items))
+    (codes "more than ") (decimal MOST_MORSELS) (codes " morsels") _ (rw c.from.ensures at c.push_number-in-TooManyMorsels.ensures.items))
 
 pub returns-in-WriteFailed-clause-items : goal.returns-in-WriteFailed-clause-items
 returns-in-WriteFailed-clause-items c = rw c.in-WriteFailed.is (one_number c.args.line.now.items

@@ -4,4 +4,4 @@ use Rattle.runs.proofs.laws.one_run_of_blocks.Goals as goal
 
 pub returns : goal.returns
 returns g c = λ limit source once words one other.
-    answers_of_one_day (of_blocks g.S.BlockSource.GaveAt g.S.BlockSource.EndsAt g.S.BlockSource.FailsAt limit source) once words one other
+    answers_of_one_day (of_blocks g.S.BlockSource limit source) once words one other

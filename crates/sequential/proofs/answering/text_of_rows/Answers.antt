@@ -1,6 +1,6 @@
 use Rattle.std.proofs.Common.{◌∙◌, ◌++◌, ap, subst, sym}
 use Rattle.lists.specs.declared.limits.TheConstants.{TRADE_LIMIT}
-use Rattle.time_and_sales.specs.Names.{IsNamesOf, last_row, name_text}
+use Rattle.time_and_sales.specs.Names.{IsNamesOf, name_text, names_by}
 use Rattle.order_table.specs.Orders.{first_repeated}
 use Rattle.probe.specs.Pricing.{first_unknown, priced}
 use Rattle.probe.specs.Selection.{admits}
@@ -45,5 +45,5 @@ returns-clause-text g c messages up are =
     c.list-listing.ensures.permutation in
     text_answers messages c.args.query.now c.in_ok-text_of.field-0 (ap (λ (r : DayRows). first_repeated r.orders) (sym are) ∙ c.in_ok-trades.ensures.repeated)
     (ap (λ (r : DayRows). first_unknown r.orders r.executions) (sym are) ∙ c.in_ok-trades.ensures.unknown)
-    (text_asked messages c.args.query.now c.list-listing.result (λ locate. name_text locate (last_row c.in_ok-names.names locate)) c.in_ok-text_of.field-0
+    (text_asked messages c.args.query.now c.list-listing.result (names_by c.in_ok-names.names) c.in_ok-text_of.field-0
     listing (λ locate. ap (name_text locate) (names locate)) c.in_ok-text_of.ensures)

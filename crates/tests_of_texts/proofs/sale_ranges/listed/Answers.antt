@@ -1,13 +1,13 @@
-use Rattle.std.proofs.Common.{◌≡◌, ◌<◌, ◌^◌, eqb, map, sym, subst, All, List}
-use Rattle.std.specs.List.{IsDistinct}
+use Rattle.std.proofs.Common.{◌≡◌, ◌<◌, ◌^◌, sym, subst, All, List}
 use Rattle.std.specs.List.Sorted.{IsPermutation}
 use Rattle.std.proofs.lemmas.List.Sorted.{All-permutation}
 use Rattle.row_types.specs.declared.trade.Sale.{Sale}
+use Rattle.time_and_sales.specs.Lent.{AreApart}
 use Rattle.tests_of_texts.proofs.sale_ranges.listed.Goals as goal
 
 pub of_sales-requires : goal.of_sales-requires
 of_sales-requires c =
-    subst (λ (l : List Sale). IsDistinct eqb (map (λ (sale : Sale). sale.place) l)) (sym c.in_ok-from_slice.ensures.items) c.requires.apart
+    subst AreApart (sym c.in_ok-from_slice.ensures.items) c.requires.apart
 
 permuted : (copy sales listing : List Sale) → copy ≡ sales → IsPermutation copy listing → IsPermutation sales listing
 permuted copy sales listing e = subst (λ (l : List Sale). IsPermutation l listing) e

@@ -1,13 +1,10 @@
-use Rattle.std.proofs.Common.{◌<◌, ◌^◌, ◌++◌, [], eqb, map, sym, ap, subst, All, List}
-use Rattle.std.specs.List.{IsDistinct}
+use Rattle.std.proofs.Common.{◌<◌, ◌^◌, ◌++◌, [], sym, ap, subst, All, List}
 use Rattle.std.proofs.lemmas.List.{append-nil}
 use Rattle.std.proofs.lemmas.List.Elements.{All-append}
 use Rattle.row_types.specs.declared.trade.Sale.{Sale}
+use Rattle.time_and_sales.specs.Lent.{AreApart}
 use Rattle.time_and_sales.proofs.SortedByPlace.{apart_together}
 use Rattle.tests_of_texts.proofs.sale_ranges.listings.Goals as goal
-
-abbrev AreApart : List Sale → Type 0
-AreApart sales = IsDistinct eqb (map (λ (sale : Sale). sale.place) sales)
 
 apart_with_none : (one other : List Sale) → AreApart (one ++ other) → AreApart (one ++ (other ++ []))
 apart_with_none one other = subst AreApart (ap (λ l. one ++ l) (sym (append-nil other)))

@@ -1,15 +1,12 @@
-use Rattle.std.proofs.Common.{◌≡◌, ◌++◌, [], ◌∷◌, eqb, map, sym, ap, ◌∙◌, subst, List}
-use Rattle.std.specs.List.{IsDistinct, flat_map}
+use Rattle.std.proofs.Common.{◌≡◌, ◌++◌, [], ◌∷◌, sym, ap, ◌∙◌, subst, List}
 use Rattle.row_types.specs.declared.trade.Sale.{Sale}
+use Rattle.time_and_sales.specs.Lent.{AreApart, all_sales}
 use Rattle.tests_of_texts.proofs.sale_ranges.merged.Goals as goal
 
-abbrev AreApart : List (List Sale) → Type 0
-AreApart listings = IsDistinct eqb (map (λ (sale : Sale). sale.place) (flat_map (λ (sales : List Sale). sales) listings))
-
 two_pushed : (none first both : List (List Sale)) (one other : List Sale) → none ≡ [] → first ≡ none ++ one ∷ [] → both ≡ first ++ other ∷ []
-    → AreApart (one ∷ other ∷ []) → AreApart both
+    → AreApart (all_sales (one ∷ other ∷ [])) → AreApart (all_sales both)
 two_pushed none first both one other e f h =
-    subst AreApart (sym (h ∙ ap (λ l. l ++ other ∷ []) (f ∙ ap (λ l. l ++ one ∷ []) e)))
+    subst (λ l. AreApart (all_sales l)) (sym (h ∙ ap (λ l. l ++ other ∷ []) (f ∙ ap (λ l. l ++ one ∷ []) e)))
 
 pub merge_all-requires : goal.merge_all-requires
 merge_all-requires c =

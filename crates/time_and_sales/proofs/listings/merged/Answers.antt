@@ -1,5 +1,6 @@
 use Rattle.std.proofs.Common.{true, List, ◌++◌, Vec, IsPermutation, refl, sym, ap, ◌∙◌, subst, arith, flat_map, ltb-false, append-nil, map-id}
 use Rattle.row_types.specs.declared.trade.Sale.{Sale}
+use Rattle.time_and_sales.specs.Lent.{all_sales}
 use Rattle.std.proofs.lemmas.List.Folds.{flat_map-map}
 use Rattle.std.proofs.lemmas.List.Sorted.{IsNonDecreasingBy-from_all_adjacent, IsStrictWeakOrder-by_number}
 use Rattle.std.proofs.lemmas.Iterator.Adapters.{YieldsList-from_vec}
@@ -18,7 +19,7 @@ returns g c =
     let gave = run.3 (items_of run.0.items) (parts_give _ (λ p j h. (h.0, h.1 ∙ p.ok.0)) run.0.items) ran.0 true (ran.1.0, ran.1.1, λ _. ran.1.2 tt) in
     let perm = subst (λ l. IsPermutation l ran.0)
     (flat_map-map (λ (l : List Sale). l) (λ (p : Vec Sale g.row.A.Denot). p.items) run.0.items ∙ ap (flat_map (λ (p : Vec Sale g.row.A.Denot). p.items)) these)
-    (subst (IsPermutation (flat_map (λ (l : List Sale). l) (items_of run.0.items))) (ap (λ l. ran.0 ++ l) (gave.2 refl) ∙ append-nil ran.0) gave.1) in
+    (subst (IsPermutation (all_sales (items_of run.0.items))) (ap (λ l. ran.0 ++ l) (gave.2 refl) ∙ append-nil ran.0) gave.1) in
     let ordered = c.in_ok-merge.ensures.in_order in
     let those = sym (map-id ordered.0.items) ∙ items_from_whole_run road ordered.0 ordered.1 ordered.2 in
     let up = ordered.3 before refl (IsStrictWeakOrder-by_number place_of) (items_of ordered.0.items)

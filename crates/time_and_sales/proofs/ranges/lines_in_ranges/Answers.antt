@@ -1,6 +1,6 @@
 use Rattle.std.proofs.Common.{ℕ, List, get_or, map, arith}
 use Rattle.std.proofs.lemmas.Result.{IfOk-weaker}
-use Rattle.time_and_sales.specs.Names.{last_row, name_text}
+use Rattle.time_and_sales.specs.Names.{names_by}
 use Rattle.time_and_sales.specs.Texts.{Sale, lines_text}
 use Rattle.time_and_sales.proofs.MadeTexts.{both_ok}
 use Rattle.time_and_sales.proofs.RangesJoined.{ranges_join, told}
@@ -10,7 +10,7 @@ use Rattle.time_and_sales.proofs.ranges.lines_in_ranges.Goals as goal
 
 pub returns : goal.returns
 returns g c =
-    let name : ℕ → List ℕ = λ locate. name_text locate (last_row c.args.names.now locate) in
+    let name : ℕ → List ℕ = names_by c.args.names.now in
     let same = c.as_slice-bounds.ensures.value in
     let made = c.in_ok-made.ensures in
     IfOk-weaker c.texts_of.result _ _ (λ texts gave all up perm.

@@ -2,8 +2,9 @@ use Rattle.std.proofs.Common.{rules, ◌∙◌, filter, List, IsPermutation, ap,
 use Rattle.std.proofs.lemmas.List.Folds.{flat_map-map}
 use Rattle.std.proofs.lemmas.List.Sorted.{IsNonDecreasingBy-from_sort_by_key, IsPermutation-map}
 use Rattle.row_types.specs.declared.trade.Sale.{Sale}
+use Rattle.time_and_sales.specs.Lent.{lent}
 use Rattle.time_and_sales.specs.Texts.{is_in_first}
-use Rattle.time_and_sales.proofs.SalesInRanges.{seen, seen_rise}
+use Rattle.time_and_sales.proofs.SalesInRanges.{seen_rise}
 use Rattle.time_and_sales.proofs.SortedByPlace.{place_of}
 use Rattle.time_and_sales.proofs.ranges.range_of.Goals as goal
 
@@ -14,7 +15,7 @@ returns-clause-permutation c =
     let all = c.loop-listing.invariant
     ∙ ap (λ l. filter p (flat_map now l)) (take_all c.loop-listing.listing-index c.args.listings.now c.loop-listing-test.false)
     ∙ ap (filter p) (sym (flat_map-map (λ (l : List Sale). l) now c.args.listings.now)) in
-    subst (λ l. IsPermutation l (seen c.sort_by_key.new.self.items)) all
+    subst (λ l. IsPermutation l (lent c.sort_by_key.new.self.items)) all
     (IsPermutation-map (λ (s : Bor Sale). s.now) c.loop-listing.sales.items c.sort_by_key.new.self.items c.sort_by_key.ensures.permutation)
 
 pub returns-clause-rise : goal.returns-clause-rise

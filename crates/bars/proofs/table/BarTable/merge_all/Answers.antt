@@ -1,6 +1,7 @@
-use Rattle.std.proofs.Common.{arith}
+use Rattle.std.proofs.Common.{ap, ◌∙◌, arith}
 use Rattle.std.proofs.lemmas.Grind.{common_steps}
 use Rattle.std.proofs.lemmas.List.{map_more, map_push, take_all}
+use Rattle.time_and_sales.specs.Lent.{lent}
 use Rattle.bars.specs.Bars.{IsTraded}
 use Rattle.bars.proofs.BarsOfSales.{AreBarsOf-union}
 use Rattle.bars.proofs.JoinedTables.{joined_traded, table_has, traded_more}
@@ -11,8 +12,8 @@ loop-table-preserved g c = grind (arith, common_steps, map_push, map_more, trade
 
 pub unite-requires : goal.unite-requires
 unite-requires g c =
-    rw (c.as_slice.ensures.value, c.loop-table.invariant.parts, take_all c.loop-table.table-index c.args.tables.now c.loop-table-test.false)
-    c.requires.sums
+    let all = c.loop-table.invariant.parts ∙ ap lent (take_all c.loop-table.table-index c.args.tables.now c.loop-table-test.false) in
+    rw (c.as_slice.ensures.value, all) (c.requires.sums (rw all at c.loop-table.invariant.traded))
 
 pub returns-clause-bars : goal.returns-clause-bars
 returns-clause-bars g c = λ width lists are. AreBarsOf-union width lists _ _ are

@@ -12,7 +12,7 @@ returns-in-Err-clause-fault g c = λ asked are.
     let v = arc_value c.attempt-item.result in
     let (less, at) = at_item c.deref-attempt-items.ensures.value c.self.view_is c.loop-attempt-test.true c.attempt-item.is in
     let same = c.behind-attempt.view_is ∙ c.deref.ensures ∙ sym (at v) in
-    tried_of S.GaveAt S.EndsAt S.FailsAt (ap (λ w. w.asked) same ∙ are.each _ v less) c.in-Err.is c.behind-attempt.invariant.1
+    tried_of S (ap (λ w. w.asked) same ∙ are.each _ v less) c.in-Err.is c.behind-attempt.invariant.1
 
 pub loop-attempt-preserved : goal.loop-attempt-preserved
 loop-attempt-preserved g c =

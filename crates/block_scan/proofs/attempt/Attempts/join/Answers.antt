@@ -15,7 +15,7 @@ pub returns-clause-scanned : goal.returns-clause-scanned
 returns-clause-scanned g c asked are =
     let of = ap (λ s. record { source = s; request = c.first.inside.request }) c.deref.ensures ∙ ap (λ v. v.asked) (c.first.view_is ∙ c.deref-first.ensures) in
     let S = g.S.BlockSource in
-    subst (λ (a : Asked _). IfOk c.chain.result (IsScannedWhole S.GaveAt S.EndsAt a.source a.request))
+    subst (λ (a : Asked _). IfOk c.chain.result (IsScannedWhole S a.source a.request))
     (first_of c.self.inside.items.items c.index.ensures of (rw c.self.view_is are)) c.chain.ensures.scanned
 
 pub returns-clause-fault : goal.returns-clause-fault
@@ -24,7 +24,7 @@ returns-clause-fault g c asked are =
     let S = g.S.BlockSource in
     let same : record { source = c.deref.result.now; request = c.first.inside.request } ≡ asked = first_of c.self.inside.items.items c.index.ensures of
     (rw c.self.view_is are) in
-    subst (λ a. IfErr c.chain.result (IsBlocksFault S.GaveAt S.EndsAt S.FailsAt a.source a.request.limit)) same c.chain.ensures.fault
+    subst (λ a. IfErr c.chain.result (IsBlocksFault S a.source a.request.limit)) same c.chain.ensures.fault
 
 pub returns-in-Some-clause-first : goal.returns-in-Some-clause-first
 returns-in-Some-clause-first g c fault is = cc (c.in-Some.ensures.first)

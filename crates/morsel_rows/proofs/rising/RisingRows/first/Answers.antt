@@ -1,7 +1,7 @@
 use Rattle.std.proofs.Common.{◌∙◌, Some, ap, eqb, option_map, sym}
 use Rattle.std.specs.List.{find}
 use Rattle.row_types.specs.declared.order.OrderRow.{OrderRow}
-use Rattle.morsel_rows.specs.LeanRows.{row_of_lean}
+use Rattle.morsel_rows.specs.ShortRows.{row_of_lean}
 use Rattle.morsel_rows.proofs.SearchedRows.{find_wide, none_below}
 use Rattle.morsel_rows.proofs.rising.RisingRows.first.Goals as goal
 

@@ -4,8 +4,6 @@ use Rattle.runs.proofs.calls.run.run.Goals as goal
 
 pub returns-clause-ran : goal.returns-clause-ran
 returns-clause-ran g c =
-    let S = g.S.Source in
-    let K = g.K.Sink in
     let settings = c.args.settings in
-    ran (of_stream S.Gave S.HasEnded settings.limit settings.morsel c.args.source.now c.answer_source.new.source) _
-    c.in_ok-query.ensures.query c.in_ok-answer.ensures.answered K.Took K.HasFlushed _ _ _ c.hand_over.result c.hand_over.ensures.handed
+    ran (of_stream g.S.Source settings.limit settings.morsel c.args.source.now c.answer_source.new.source) _
+    c.in_ok-query.ensures.query c.in_ok-answer.ensures.answered g.K.Sink _ _ _ c.hand_over.result c.hand_over.ensures.handed

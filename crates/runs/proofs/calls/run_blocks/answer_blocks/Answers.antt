@@ -9,4 +9,4 @@ answer_of_outcome-requires-clause-outcome g c lifetimes within =
 pub returns-in-Ok-answer_of_outcome : goal.returns-in-Ok-answer_of_outcome
 returns-in-Ok-answer_of_outcome g c =
     let (runs, whole, of) = c.in-Ok.ensures.outcome in
-    (concat runs, whole, c.in-Ok-answer_of_outcome.ensures runs of)
+    (concat runs, whole, tt, c.in-Ok-answer_of_outcome.ensures runs of)

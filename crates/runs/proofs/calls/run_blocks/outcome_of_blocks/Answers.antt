@@ -7,8 +7,8 @@ use Rattle.runs.proofs.calls.run_blocks.outcome_of_blocks.Goals as goal
 pub returns-in-Finished-clause-outcome : goal.returns-in-Finished-clause-outcome
 returns-in-Finished-clause-outcome g c =
     let S = g.S.BlockSource in
-    let settings = c.args.settings in
-    finished S.GaveAt S.EndsAt _ (record { limit = settings.limit_in_range; some = settings.parts_in_range.0; most = settings.parts_in_range.1 }) S.FailsAt
+    let parts = c.in_ok-parts.ensures.parts in
+    finished S _ (record { limit = c.args.settings.limit_in_range; some = parts.0; most = parts.1 })
     c.args.query.now (ap (λ q. q.as_of) c.query.view_is) c.args.division.blocks c.args.division.in_range.1
     (c.in-Ok.ensures.ok ∙ c.in_ok-inputs.ensures.inputs) c.dividing-plan.ensures
     c.in_ok-total.ensures c.in-Finished.is
@@ -16,8 +16,8 @@ returns-in-Finished-clause-outcome g c =
 pub returns-in_ok-stop-in-Stopped-clause-outcome : goal.returns-in_ok-stop-in-Stopped-clause-outcome
 returns-in_ok-stop-in-Stopped-clause-outcome g c =
     let S = g.S.BlockSource in
-    let settings = c.args.settings in
-    stopped S.GaveAt S.EndsAt _ (record { limit = settings.limit_in_range; some = settings.parts_in_range.0; most = settings.parts_in_range.1 }) S.FailsAt
+    let parts = c.in_ok-parts.ensures.parts in
+    stopped S _ (record { limit = c.args.settings.limit_in_range; some = parts.0; most = parts.1 })
     c.args.query.now (ap (λ q. q.as_of) c.query.view_is) c.args.division.blocks c.args.division.in_range.1
     (c.in-Ok.ensures.ok ∙ c.in_ok-inputs.ensures.inputs) c.dividing-plan.ensures
     c.in_ok-total.ensures (c.in-Stopped.is ∙ ap Stopped c.in_ok-stop-in-Stopped.was)
@@ -25,10 +25,10 @@ returns-in_ok-stop-in-Stopped-clause-outcome g c =
 pub returns-in_err-stop-in-Stopped-clause-fault : goal.returns-in_err-stop-in-Stopped-clause-fault
 returns-in_err-stop-in-Stopped-clause-fault g c =
     let S = g.S.BlockSource in
-    let settings = c.args.settings in
+    let parts = c.in_ok-parts.ensures.parts in
     let p = err_from_is_err_and c.from_residual-in_err-stop-in-Stopped.result c.from_residual-in_err-stop-in-Stopped.ensures.1 in
-    rw (p.1, p.2) (refused S.GaveAt S.EndsAt _
-    (record { limit = settings.limit_in_range; some = settings.parts_in_range.0; most = settings.parts_in_range.1 }) S.FailsAt
+    rw (p.1, p.2) (refused S _
+    (record { limit = c.args.settings.limit_in_range; some = parts.0; most = parts.1 })
     c.args.query.now (ap (λ q. q.as_of) c.query.view_is) c.args.division.blocks c.args.division.in_range.1
     (c.in-Ok.ensures.ok ∙ c.in_ok-inputs.ensures.inputs) c.dividing-plan.ensures
     c.in_ok-total.ensures (c.in-Stopped.is ∙ ap Stopped c.in_err-stop-in-Stopped.was))

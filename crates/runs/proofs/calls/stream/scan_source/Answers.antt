@@ -8,14 +8,14 @@ use Rattle.runs.proofs.calls.stream.scan_source.Goals as goal
 pub returns-in_err-batch-clause-fault : goal.returns-in_err-batch-clause-fault
 returns-in_err-batch-clause-fault g c =
     let p = err_from_is_err_and c.from_residual-in_err-batch.result c.from_residual-in_err-batch.ensures.1 in
-    let none = read_to_none g.S.Source.Gave c.args.source.now c.in_ok-reader.reader (g.met.S.Source.gave_nothing c.args.source.now)
+    let none = read_to_none g.S.Source c.args.source.now c.in_ok-reader.reader (g.met.S.Source.gave_nothing c.args.source.now)
     c.in_ok-reader.ensures.none in
     let same = c.in_ok-reader.ensures.same in
     rw (p.1, p.2) (rw (same.0, same.1) at (c.in_err-batch.ensures.fault c.args.source.now [] none))
 
 pub loop-batch-init : goal.loop-batch-init
 loop-batch-init g c =
-    let none = read_to_none g.S.Source.Gave c.args.source.now c.in_ok-reader.reader (g.met.S.Source.gave_nothing c.args.source.now)
+    let none = read_to_none g.S.Source c.args.source.now c.in_ok-reader.reader (g.met.S.Source.gave_nothing c.args.source.now)
     c.in_ok-reader.ensures.none in record {
       to = record {
         runs = [];

@@ -1,4 +1,5 @@
-use Rattle.std.proofs.Common.{refl, ap, ◌∙◌, subst}
+use Rattle.std.proofs.Common.{refl, ap, ◌∙◌, rules, subst}
+use Rattle.std.proofs.lemmas.List.Sorted.{answers_always}
 use Rattle.day_file.specs.Placed.{placed_body}
 use Rattle.day_rows.proofs.RowsOfFrames.{right_length}
 use Rattle.scanning.proofs.ScanOfFrames.{AddsCounted, passes, reads}
@@ -17,4 +18,4 @@ returns-in-Err-clause-taken c n frames some most so_far =
     passes c.args.as_of (placed_body c.args.frame) c.self.inside.rows c.self.inside.wrong c.earlier-self-inside.result
     (record { place = c.args.frame.place; fault = c.in-Err.fault }) (c.in-Err.ensures.fault.0 refl)
     (ap (λ f. record { place = c.args.frame.place; fault = f }) c.in-Err.ensures.told)
-    c.earlier-self-inside.ensures n frames some most (c.self.view_is ∙ so_far)
+    (c.earlier-self-inside.ensures (λ wrong. wrong.place) (answers_always _ _ _ (λ f a r g called. search rules))) n frames some most (c.self.view_is ∙ so_far)

@@ -44,7 +44,7 @@ invariant_of-self-2 g c =
 pub returns-clause-read : goal.returns-clause-read
 returns-clause-read g c =
     let (taken, long, gave, fed) = c.in_ok-taken.ensures.fed in
-    rw (← c.self.view_is) (λ before runs to. read_on g.met.S.Source.gave_more to gave (fed to.has.fed to.has.has))
+    rw (← c.self.view_is) (λ before runs to. read_on g.S.Source g.met.S.Source.gave_more to gave (fed to.has.fed to.has.has))
 
 pub returns-clause-longer : goal.returns-clause-longer
 returns-clause-longer g c = λ some.

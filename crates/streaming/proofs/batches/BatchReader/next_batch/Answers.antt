@@ -39,7 +39,7 @@ returns-clause-next g c = IfOk-weaker c.last_batch.result _ _ (λ batch (first, 
       more = λ e. absurd (false≢true (sym e ∙ is_last));
       last = λ e before runs to.
           rw (← ap (λ (v : ReaderView). v.target) kept)
-          (last_cut g.S.Source.HasEnded (c.in_ok-feed.ensures.read before runs (inv.read before runs to)) same (c.in_ok-feed.ensures.end c.if-branch.false)
+          (last_cut g.S.Source (c.in_ok-feed.ensures.read before runs (inv.read before runs to)) same (c.in_ok-feed.ensures.end c.if-branch.false)
           (omega (arith, c.in_ok-feed.ensures.within, limit)) batch.cut
           (subst (λ (k : CutterView). (fed : List ℕ) → HasFed k fed → IsCutBy k.target batch.cut fed) taken made));
       number = first ∙ ap (λ (v : ReaderView). v.first) c.self.view_is ∙ ap (λ (v : ReaderView). v.first) kept;
@@ -54,7 +54,7 @@ returns-clause-fault g c = IfErr-weaker c.last_batch.result _ _ (λ f told befor
     let limit = ap (λ (v : ReaderView). v.limit) kept in
     let same = subst (λ (v : ReaderView). v.cutter.target ≡ v.target) c.self.view_is c.self.invariant.0.same in
     rw (← ap (λ (v : ReaderView). v.target) kept)
-    (last_fault g.S.Source.HasEnded (c.in_ok-feed.ensures.read before runs (inv.read before runs to)) same
+    (last_fault g.S.Source (c.in_ok-feed.ensures.read before runs (inv.read before runs to)) same
     (c.in_ok-feed.ensures.end c.if-branch.false) (omega (arith, c.in_ok-feed.ensures.within, limit)) f
     (subst (λ (v : ReaderView). (fed : List ℕ) → HasFed v.cutter fed → IsLastFault v.first v.start v.cutter.target fed f) c.self.view_is
     (subst (λ (k : CutterView). (fed : List ℕ) → HasFed k fed → IsLastFault c.self.inside.first c.self.inside.start k.target fed f)

@@ -6,8 +6,8 @@ use Rattle.streaming.proofs.batches.BatchReader.next_batch.Given as goal
 abbrev pub invariant-loop-self : goal.invariant-loop-self
 invariant-loop-self g l = record {
   fine : g.S.Source.has_failed l.source ≡ false;
-  read : (before : _) (runs : List (List ℕ)) → IsReadTo g.S.Source.Gave before l.initial.source runs l.initial.self
-      → IsReadTo g.S.Source.Gave before l.source runs l.self;
+  read : (before : _) (runs : List (List ℕ)) → IsReadTo g.S.Source before l.initial.source runs l.initial.self
+      → IsReadTo g.S.Source before l.source runs l.self;
   same : l.self ≡ record l.initial.self { cutter = l.self.cutter };
   longer : read_length l.initial.self ≤ read_length l.self;
 }

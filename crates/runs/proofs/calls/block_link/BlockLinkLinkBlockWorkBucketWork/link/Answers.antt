@@ -12,7 +12,7 @@ join-requires g c =
 pub link-requires : goal.link-requires
 link-requires g c =
     let (inputs, blocks, of) = c.requires in
-    of_one_cut g.S.BlockSource.GaveAt g.S.BlockSource.EndsAt blocks.asked blocks.asks
+    of_one_cut g.S.BlockSource blocks.asked blocks.asks
     (c.in-Ok.ensures.scanned blocks.asked (attempts_of inputs c.args.total blocks of))
 
 pub returns-in-Next : goal.returns-in-Next

@@ -1,0 +1,57 @@
+//! Looks at a source before it is scanned. Only speed hangs on what they find.
+ghost use Rattle.std.specs.Prelude.{◌<◌, ◌≤◌, IfErr, IfOk};
+ghost use Rattle.lists.specs.declared.limits.TheConstants.{LONGEST_FILE, MOST_PARTITIONS};
+ghost use Rattle.block_scan.specs.Blocks.{IsBlocksFault};
+
+use crate::block_reading::SEEN;
+use crate::division::Division;
+use crate::guessing::likely_offset;
+use crate::source::BlockSource;
+use day_file::{DeviceFailed, Frames};
+use scanning::{LOOKS, ReferenceSample};
+use streaming::SourceFault;
+
+/// A source that is shorter isn't looked at: the work of any partition takes some hundredths of a second. Nor is one
+/// that has a byte at the limit, which is asked for first: it will be refused.
+const SHORT: u64 = 8 << 20;
+
+/// In how many partitions the rows of a source of about the division's length are best put: `parts`, or the next
+/// number by which no partition has far more orders than the others, as some references tell. Nothing more is promised
+/// of it, and no answer hangs on it.
+pub fn partitions_of<S: BlockSource>(
+    source: &S,
+    division: Division,
+    limit: u64,
+    parts: u32,
+) -> Result<u32, SourceFault>
+    requires { (0 < parts) × (parts ≤ MOST_PARTITIONS) }
+    ensures parts { IfOk result (λ parts. (0 < parts) × (parts ≤ MOST_PARTITIONS)) }
+    ensures fault { IfErr result (IsBlocksFault S.BlockSource.own source.now limit) }
+{
+    let length = division.bytes * u64::from(division.blocks);
+    let mut byte = [0u8; 1];
+    if length < SHORT || source.read_at(limit, &mut byte)? > 0 {
+        return Ok(parts);
+    }
+    let mut sample = ReferenceSample::empty();
+    for number in 0..LOOKS {
+        let place = length / u64::from(LOOKS) * u64::from(number);
+        look_at(source, place, &mut sample)?;
+    }
+    Ok(sample.partitions(parts))
+}
+
+/// Takes in references that are given behind a place.
+fn look_at<S: BlockSource>(
+    source: &S,
+    place: u64,
+    sample: &mut ReferenceSample,
+) -> Result<(), DeviceFailed>
+    ensures { IfErr result (λ _. S.FailsAt source.now place) }
+{
+    let mut seen = [0u8; SEEN];
+    let count = source.read_at(place, &mut seen)?;
+    let seen = &seen[..count];
+    sample.look_at(Frames::of(0, &seen[likely_offset(seen)..]));
+    Ok(())
+}
