@@ -15,7 +15,7 @@ use Rattle.probe.proofs.KeptSales.{kept_have_shares, length-kept, length-priced}
 use Rattle.row_types.specs.SalesByPlace.{place_cmp}
 use Rattle.time_and_sales.specs.Lent.{AreApart}
 use Rattle.time_and_sales.specs.Names.{DirectoryRow, IsNamesOf, names_by}
-use Rattle.time_and_sales.specs.declared.directory.Names.{Names}
+use Rattle.time_and_sales.specs.declared.names.Names.{Names}
 use Rattle.meaning.specs.Meaning.{Meaning}
 use Rattle.meaning.specs.Selected.{locates_of}
 use Rattle.meaning.proofs.ListedLocates.{locates_agree}

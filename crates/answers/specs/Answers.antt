@@ -5,8 +5,7 @@ use Rattle.itch_messages.specs.Body.{length_fault_of}
 use Rattle.day_file.specs.Frames.{PlacedBody, StandsFor, IsTruncatedAt}
 use Rattle.order_table.specs.Orders.{OrderRow, first_repeated}
 use Rattle.probe.specs.Pricing.{Execution, Sale, first_unknown}
-use Rattle.probe.specs.Selection.{has_kind, has_time}
-use Rattle.probe.specs.Selection.{kept}
+use Rattle.probe.specs.Selection.{has_kind, has_time, kept}
 use Rattle.time_and_sales.specs.Names.{DirectoryRow, name_of}
 use Rattle.time_and_sales.specs.Texts.{listing_text}
 use Rattle.bars.specs.Bars.{AreBarsOf}
@@ -16,8 +15,7 @@ use Rattle.meaning.specs.Meaning.{Meaning}
 use Rattle.meaning.specs.declared.query.What.TheVariants.{Bars, Sales}
 use Rattle.meaning.specs.declared.query.What.{What}
 use Rattle.meaning.specs.Selected.{has_name}
-use Rattle.day_rows.specs.Messages.{Placed, break_numbers, counted, directory_rows, executions, first_wrong}
-use Rattle.day_rows.specs.Messages.{is_counted, messages_of, order_rows, trades}
+use Rattle.day_rows.specs.Messages.{Placed, break_numbers, counted, directory_rows, executions, first_wrong, is_counted, messages_of, order_rows, trades}
 use Rattle.answers.specs.declared.answer.Answer.{Answer}
 use Rattle.answers.specs.declared.answer.Answer.TheVariants.{Printed, Faulty}
 pub use Rattle.outcomes.specs.declared.day_fault.DayFault.{DayFault}

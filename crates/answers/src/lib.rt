@@ -2,13 +2,13 @@
 #![tactic(auto)]
 
 mod answer;
-mod laws;
+mod answer_laws;
 mod text;
 mod texts;
 
 pub use answer::Answer;
-pub use day_rows::{Row, Rows, counted_are_joined, counts, row_of, rows_are_joined};
-pub use laws::{counted_messages_decide, moment_past_all, one_answer};
+pub use answer_laws::{counted_messages_decide, moment_past_all, one_answer};
+pub use day_rows::{Row, counted_are_joined, counts, row_of, rows_are_joined};
 pub use lists::OutOfMemory;
 pub use outcomes::DayFault;
 pub use text::Text;

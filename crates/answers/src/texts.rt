@@ -1,12 +1,13 @@
 ghost use Rattle.std.specs.Prelude.{◌≡◌, ◌<◌, ◌++◌, All, IfOk, List};
 ghost use Rattle.std.specs.List.Sorted.{IsPermutation};
 ghost use Rattle.lists.specs.declared.limits.TheConstants.{TIME_LIMIT};
+ghost use Rattle.ranges.specs.Ranges.{all_items};
 ghost use Rattle.bars.specs.Bars.{FitIfTraded, IsUnionOf, all_bars};
 ghost use Rattle.bars.specs.Texts.{IsWritable, bars_text};
 ghost use Rattle.bars.specs.declared.bar.Bar.{Bar as TheBar};
 ghost use Rattle.row_types.specs.declared.trade.Sale.{Sale as TheSale};
 ghost use Rattle.row_types.specs.SalesByPlace.{IsByPlace};
-ghost use Rattle.time_and_sales.specs.Lent.{AreApart, all_items, all_sales, lent};
+ghost use Rattle.time_and_sales.specs.Lent.{AreApart, all_sales, lent};
 ghost use Rattle.time_and_sales.specs.Names.{names_by};
 ghost use Rattle.time_and_sales.specs.Texts.{listing_text};
 

@@ -8,19 +8,17 @@ use Rattle.std.proofs.lemmas.Grind.{common_steps}
 use Rattle.std.proofs.lemmas.Map.Keys.{Less-from_sorted}
 use Rattle.std.proofs.lemmas.List.{take_all}
 use Rattle.std.proofs.lemmas.List.Folds.{flat_map-map}
-use Rattle.std.proofs.lemmas.List.Concat.{flat_map-append}
 use Rattle.std.proofs.lemmas.List.Kept.{IsStrictlySortedBy-filter}
 use Rattle.std.proofs.lemmas.List.Elements.{filter-append, filter_agree, filter_passes, All-contains_itself, All-nil, All-weaker}
 use Rattle.std.proofs.lemmas.List.Sorted.{IsNonDecreasingBy-from_all_adjacent}
-use Rattle.lists.proofs.Lists.{filter_of_filter}
+use Rattle.lists.proofs.Lists.{filter_of_filter, flat_map_next}
 use Rattle.lists.proofs.Order.{Contains-filter}
-use Rattle.time_and_sales.specs.Texts.{is_in_first}
-use Rattle.time_and_sales.proofs.RangesJoined.{flat_map_next, in_first_alike, none_pass}
+use Rattle.ranges.specs.Ranges.{is_in_first}
+use Rattle.ranges.proofs.RangesJoined.{in_first_alike, none_pass}
 use Rattle.row_types.specs.declared.trade.Sale.{Sale}
 use Rattle.time_and_sales.proofs.SortedByPlace.{no_sale}
 use Rattle.bars.specs.Bars.{Key, Bar, key_cmp, under, joined_all, joined_bar, IsByKey, IsUnionOf, AllSumsFit}
 use Rattle.bars.specs.Steps.{AreJoinedAlike, bar_of_one, bars_of}
-use Rattle.bars.specs.Texts.{bar_line, lines_text}
 use Rattle.bars.proofs.Bars.{has, has_itself, key_of}
 use Rattle.bars.proofs.JoinedTables.{Adds, alike_from, alike_parts, filter-map, of, sum_together, union_from}
 use Rattle.bars.proofs.BarsOfSales.{ones_alike}
@@ -116,8 +114,3 @@ sales_in_range bounds width sales =
 
 -- what the loop takes
 pub ruleset gathering = (common_steps, flat_map_next, filter-append, alike_parts, flat_map-map, take_all, All-nil)
-
--- ---- the lines
-
-pub lines-append : (name : ℕ → List ℕ) (xs ys : List Bar) → lines_text name (xs ++ ys) ≡ lines_text name xs ++ lines_text name ys
-lines-append name xs ys = flat_map-append (λ (bar : Bar). bar_line bar (name bar.locate)) xs ys

@@ -1,7 +1,6 @@
 -- What the bar of a list of sales is, and which tables are those of a list of sales.
 -- To be believed.
-use Rattle.std.specs.Prelude.{◌≡◌, ℕ, ◌+◌, ◌*◌, ◌/◌, ◌==◌, ◌<◌, ◌≤◌, ◌^◌, nat_lt, max, min, All, Bool, ◌&&◌}
-use Rattle.std.specs.Prelude.{cond, List, [], ◌∷◌, length, Option, Some, None, filter, find, sum_by}
+use Rattle.std.specs.Prelude.{◌≡◌, ℕ, ◌+◌, ◌*◌, ◌/◌, ◌==◌, ◌<◌, ◌≤◌, ◌^◌, nat_lt, max, min, All, Bool, ◌&&◌, cond, List, [], ◌∷◌, length, Option, Some, None, filter, find, sum_by}
 use Rattle.std.specs.List.{AllZip, flat_map}
 use Rattle.std.specs.Ordering.{nat_cmp, ordering_then}
 use Rattle.std.specs.declared.cmp.Ordering.{Ordering}

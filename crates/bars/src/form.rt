@@ -1,6 +1,6 @@
 //! In which form bars are kept.
 
-use crate::table::BarTable;
+use crate::bar_table::BarTable;
 use row_types::Sale;
 
 /// What is kept of bars: they themselves, or the sales that they are of.
@@ -21,14 +21,6 @@ impl Form {
         match self {
             Form::Sales { sales, .. } => sales.len(),
             Form::Bars(bars) => bars.items().len(),
-        }
-    }
-
-    /// The locate of a sale or a bar, by its position.
-    pub(crate) fn locate(&self, position: usize) -> Option<u16> {
-        match self {
-            Form::Sales { sales, .. } => Some(sales.get(position)?.locate),
-            Form::Bars(bars) => Some(bars.items().get(position)?.locate),
         }
     }
 }

@@ -6,21 +6,21 @@
 
 mod average;
 mod bar;
+mod bar_table;
+mod bars_in_ranges;
 mod bucket_bars;
 mod form;
 mod joined_lines;
 mod keyed;
 mod located;
-mod ranges;
-mod table;
 mod texts;
 
 pub use bar::Bar;
+pub use bar_table::BarTable;
+pub use bars_in_ranges::lines_in_ranges;
 pub use bucket_bars::BucketBars;
 pub use form::Form;
 pub use lists::OutOfMemory;
-pub use ranges::lines_in_ranges;
 pub use row_types::Sale;
-pub use table::BarTable;
 pub use texts::{write_bar, write_header};
 pub use time_and_sales::Name;

@@ -22,7 +22,7 @@ use Rattle.streaming.specs.declared.fault.SourceFault.{SourceFault}
 use Rattle.block_scan.specs.declared.scanned_block.ScannedBlock.{ScannedBlock}
 use Rattle.block_scan.specs.declared.scanned_block.Tail.TheVariants.{Cut}
 use Rattle.block_scan.specs.declared.request.Request.{Request}
-use Rattle.block_scan.specs.declared.source.BlockSource.{Ghosts as BlockSourceOf}
+use Rattle.block_scan.specs.declared.block_source.BlockSource.{Ghosts as BlockSourceOf}
 
 -- ---- one run more
 

@@ -1,7 +1,6 @@
 -- The tasks of a source that is read at places: its blocks, and what came of them.
 -- To be believed of a crate used by itself: a promise of the program speaks of the whole source alone.
-use Rattle.std.specs.Prelude.{◌≡◌, ℕ, ◌+◌, ◌*◌, ◌<◌, ◌==◌, ◌&&◌, Bool, true, nat_eq, min, if◌then◌else◌}
-use Rattle.std.specs.Prelude.{List, [], ◌∷◌, All, map, length, Option, None, Result}
+use Rattle.std.specs.Prelude.{◌≡◌, ℕ, ◌+◌, ◌*◌, ◌<◌, ◌==◌, ◌&&◌, Bool, true, nat_eq, min, if◌then◌else◌, List, [], ◌∷◌, All, map, length, Option, None, Result}
 use Rattle.std.specs.Cmp.{IsEquivalence}
 use Rattle.std.specs.Option.{option_eq, option_or}
 use Rattle.std.specs.Result.{result_err}

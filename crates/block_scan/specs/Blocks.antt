@@ -7,7 +7,7 @@ use Rattle.std.proofs.Common.{arith, refl, sym, ap, ◌∙◌}
 use Rattle.std.proofs.Math.Seq.{drop-append_seam, take-add, take-append_seam}
 use Rattle.std.proofs.lemmas.List.{drop-drop, drop-take, length-append, take-take}
 use Rattle.lists.proofs.Exact.{IsExact, exact_list, exact_nat, exact_option}
-use Rattle.block_scan.specs.declared.source.BlockSource.{Ghosts as BlockSourceOf}
+use Rattle.block_scan.specs.declared.block_source.BlockSource.{Ghosts as BlockSourceOf}
 use Rattle.streaming.specs.Readings.{IsSourceFault, Reading}
 use Rattle.streaming.specs.declared.fault.SourceFault.{SourceFault}
 

@@ -12,7 +12,7 @@ use Rattle.streaming.specs.declared.fault.SourceFault.{SourceFault}
 use Rattle.block_scan.specs.declared.scanned_block.ScannedBlock.{ScannedBlock}
 use Rattle.block_scan.specs.declared.scanned_block.Tail.TheVariants.{Whole, Cut}
 use Rattle.block_scan.specs.declared.request.Request.{Request}
-use Rattle.block_scan.specs.declared.source.BlockSource.{Ghosts as BlockSourceOf}
+use Rattle.block_scan.specs.declared.block_source.BlockSource.{Ghosts as BlockSourceOf}
 
 -- the limit is no longer than a file may be, and the number of partitions is one that is allowed
 pub record IsAskable (request : Request) : Type 0 where

@@ -5,9 +5,9 @@ ghost use Rattle.streaming.specs.declared.fault.SourceFault.{SourceFault};
 ghost use Rattle.block_scan.specs.Attempts.{AttemptView};
 ghost use Rattle.block_scan.specs.Pieces.{IsAskable, IsTried};
 
+use crate::block_source::BlockSource;
 use crate::request::Request;
 use crate::scanned_block::ScannedBlock;
-use crate::source::BlockSource;
 use std::alloc::Global;
 use std::marker::Model;
 use std::sync::Arc;

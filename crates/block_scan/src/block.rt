@@ -5,8 +5,8 @@ ghost use Rattle.std.specs.Cmp.{partial_equiv_from_equiv};
 ghost use Rattle.block_scan.specs.Attempts.{BlockView, block_equiv, is_same_block};
 ghost use Rattle.block_scan.specs.Pieces.{IsAskable};
 
+use crate::block_source::BlockSource;
 use crate::request::Request;
-use crate::source::BlockSource;
 use std::alloc::Global;
 use std::marker::Model;
 use std::sync::Arc;

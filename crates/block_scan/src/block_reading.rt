@@ -7,10 +7,10 @@ ghost use Rattle.block_scan.specs.Pieces.{IsAskable, IsTried};
 
 use crate::OutOfMemory;
 use crate::block::Block;
+use crate::block_source::BlockSource;
 use crate::guessing::guess;
 use crate::request::Request;
 use crate::scanned_block::{ScannedBlock, Tail};
-use crate::source::BlockSource;
 use day_file::Frames;
 use lists::limits::LONGEST_FILE;
 use scanning::OpenScan;

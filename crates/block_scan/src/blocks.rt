@@ -8,10 +8,10 @@ ghost use Rattle.block_scan.specs.Pieces.{IsAskable};
 
 use crate::OutOfMemory;
 use crate::block::Block;
+use crate::block_source::BlockSource;
+use crate::block_work::BlockWork;
 use crate::division::Division;
 use crate::request::Request;
-use crate::source::BlockSource;
-use crate::work::BlockWork;
 use gathering::Inputs;
 use lists::limits::{LONGEST_FILE, MOST_PARTITIONS};
 use std::alloc::Global;

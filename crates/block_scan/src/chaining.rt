@@ -8,9 +8,9 @@ ghost use Rattle.block_scan.specs.Pieces.{Asked, ChainedView, IsAskable, IsChain
 
 use crate::attempt::{Attempt, Attempts};
 use crate::block_reading::{scan_piece, zeros};
+use crate::block_source::BlockSource;
 use crate::request::Request;
 use crate::scanned_block::{ScannedBlock, Tail};
-use crate::source::BlockSource;
 use scanning::ScanTotal;
 use std::alloc::Global;
 use std::marker::Model;

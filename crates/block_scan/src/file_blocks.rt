@@ -5,7 +5,7 @@ ghost use Rattle.lists.proofs.Exact.{exact_equiv};
 ghost use Rattle.block_scan.specs.Blocks.{KnownAt, KnownEnd, exact_known, is_known_same};
 ghost use Rattle.block_scan.specs.Blocks.{known_back, known_front, known_more, known_nothing};
 
-use crate::source::BlockSource;
+use crate::block_source::BlockSource;
 use day_file::DeviceFailed;
 use std::fs::File;
 use std::marker::Model;

@@ -3,7 +3,7 @@ ghost use Rattle.std.specs.Prelude.{◌≤◌, length, IfErr, IfOk};
 ghost use Rattle.lists.specs.declared.limits.TheConstants.{LONGEST_FILE};
 
 use crate::block_reading::SEEN;
-use crate::source::BlockSource;
+use crate::block_source::BlockSource;
 use day_file::{DeviceFailed, Frames};
 use itch_messages::read;
 

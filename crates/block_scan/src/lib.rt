@@ -5,6 +5,8 @@
 mod attempt;
 mod block;
 mod block_reading;
+mod block_source;
+mod block_work;
 mod blocks;
 mod chaining;
 mod division;
@@ -13,17 +15,15 @@ mod guessing;
 mod looking;
 mod request;
 mod scanned_block;
-mod source;
-mod work;
 
 pub use attempt::{Attempt, Attempts};
 pub use block::Block;
+pub use block_source::BlockSource;
+pub use block_work::BlockWork;
 pub use blocks::block_inputs;
 pub use day_file::DeviceFailed;
 pub use division::Division;
 pub use file_blocks::{FileBlocks, ReadsAt};
 pub use lists::OutOfMemory;
 pub use looking::partitions_of;
-pub use source::BlockSource;
 pub use streaming::SourceFault;
-pub use work::BlockWork;

@@ -4,9 +4,9 @@ ghost use Rattle.lists.specs.declared.limits.TheConstants.{LONGEST_FILE, MOST_PA
 ghost use Rattle.block_scan.specs.Blocks.{IsBlocksFault};
 
 use crate::block_reading::SEEN;
+use crate::block_source::BlockSource;
 use crate::division::Division;
 use crate::guessing::likely_offset;
-use crate::source::BlockSource;
 use day_file::{DeviceFailed, Frames};
 use scanning::{LOOKS, ReferenceSample};
 use streaming::SourceFault;

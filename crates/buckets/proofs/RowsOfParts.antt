@@ -5,9 +5,9 @@ use Rattle.std.specs.List.{slice_get}
 use Rattle.std.specs.declared.alloc.Global.{Global}
 use Rattle.std.specs.declared.sync.Arc.{Arc}
 use Rattle.std.proofs.lemmas.List.{append-nil, get_or_past, take_more, map_push}
-use Rattle.std.proofs.lemmas.List.Concat.{flat_map-append}
 use Rattle.std.proofs.lemmas.Option.{get_or_from_slice_get}
-use Rattle.morsel_rows.specs.SameRows.{is_same_partition, partition_equiv, same_partition}
+use Rattle.lists.proofs.Lists.{flat_map_push}
+use Rattle.morsel_rows.specs.SameRows.{exact_partition, is_same_partition, partition_equiv}
 use Rattle.morsel_rows.specs.Partitions.{MorselRowsView, PartitionView, joined_partitions, no_rows_in, partition_at}
 use Rattle.buckets.specs.BucketRows.{rows_at, rows_of_parts}
 
@@ -22,16 +22,13 @@ with_rows rows more = record {
 same_rows : {one other : PartitionView} → one.orders ≡ other.orders → one.executions ≡ other.executions → one.own_priced ≡ other.own_priced → one ≡ other
 same_rows orders executions own_priced = λ i. record { orders = orders i; executions = executions i; own_priced = own_priced i }
 
-one_more : {X Y : Type 0} (f : X → List Y) (xs : List X) (x : X) → flat_map f (xs ++ x ∷ []) ≡ flat_map f xs ++ f x
-one_more f xs x = flat_map-append f xs (x ∷ []) ∙ ap (λ l. flat_map f xs ++ l) (append-nil (f x))
-
 joined_more : (parts : List PartitionView) (part : PartitionView) → joined_partitions (parts ++ part ∷ []) ≡ with_rows (joined_partitions parts) part
 unfolding with_rows
 joined_more parts part =
     same_rows
-    (one_more (λ (rows : PartitionView). rows.orders) parts part)
-    (one_more (λ (rows : PartitionView). rows.executions) parts part)
-    (one_more (λ (rows : PartitionView). rows.own_priced) parts part)
+    (flat_map_push (λ (rows : PartitionView). rows.orders) parts part)
+    (flat_map_push (λ (rows : PartitionView). rows.executions) parts part)
+    (flat_map_push (λ (rows : PartitionView). rows.own_priced) parts part)
 
 joined_none : (rows : PartitionView) → with_rows rows no_rows_in ≡ rows
 unfolding with_rows
@@ -80,5 +77,5 @@ module _ (number i : ℕ) (morsels : List (Arc MorselRowsView Global)) (d : Arc 
       before
       ∙ sym (morsel_more
       ∙ ap (with_rows (joined_partitions (rows_at number (take i morsels))))
-      (get_or_from_slice_get (arc_value (get_or morsels i d)).partitions number part no_rows_in there ∙ same_partition part no_rows_in (sym empty))
+      (get_or_from_slice_get (arc_value (get_or morsels i d)).partitions number part no_rows_in there ∙ exact_partition.one part no_rows_in (sym empty))
       ∙ joined_none (joined_partitions (rows_at number (take i morsels))))

@@ -3,9 +3,8 @@
 use Rattle.std.specs.Prelude.{◌≡◌, Bool, true, ◌==◌, ◌&&◌, List, All, length, map, nat_eq}
 use Rattle.std.specs.Cmp.{IsEquivalence}
 use Rattle.std.specs.Cmp.Lexicographic.{pointwise}
-use Rattle.std.proofs.Common.{ap, arith, sym, ◌∙◌}
+use Rattle.std.proofs.Common.{arith}
 use Rattle.std.proofs.lemmas.Bool.Decides.{nat_tests}
-use Rattle.gathering.specs.Adding.{same_inputs}
 use Rattle.lists.proofs.Exact.{IsExact, exact_equiv, exact_list, exact_nat}
 use Rattle.lists.specs.Least.{numbers_below}
 use Rattle.probe.specs.Selection.{admits}
@@ -38,9 +37,9 @@ is_same_bucket a b =
     && (pointwise nat_eq a.breaks b.breaks
     && (is_same_selection a.selection b.selection && is_same_what a.what b.what)))
 
--- ---- the laws of a work
+-- ---- equal buckets are one
 
-exact_bucket : IsExact is_same_bucket
+pub exact_bucket : IsExact is_same_bucket
 exact_bucket =
     let rows = exact_list exact_partition in
     let breaks = exact_list exact_nat in
@@ -52,13 +51,3 @@ exact_bucket =
 
 pub bucket_equiv : IsEquivalence is_same_bucket
 bucket_equiv = exact_equiv exact_bucket
-
--- equal buckets have one value
-pub same_found : (a b : BucketView) (output : FoundView) → is_same_bucket a b ≡ true → output ≡ found a
-    → output ≡ found b
-same_found a b output same is = is ∙ ap found (exact_bucket.one a b same)
-
--- lists of equal buckets have one total
-pub same_total_found : (xs ys : List BucketView) → same_inputs is_same_bucket xs ys ≡ true
-    → (total : TotalView) → total ≡ total_found ys → total ≡ total_found xs
-same_total_found xs ys same total is = is ∙ sym (ap total_found ((exact_list exact_bucket).one xs ys same))

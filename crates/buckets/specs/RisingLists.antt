@@ -3,7 +3,7 @@
 use Rattle.std.specs.Prelude.{◌<◌, ◌≤◌, List}
 use Rattle.std.specs.List.{All, AllPairs, flat_map}
 use Rattle.row_types.specs.declared.order.OrderRow.{OrderRow}
-pub use Rattle.buckets.specs.declared.rising.Part.{Part}
+pub use Rattle.buckets.specs.declared.rising_orders.Part.{Part}
 
 -- the rows of the lists, one list after another
 abbrev pub rows_of_lists : List Part → List OrderRow

@@ -8,8 +8,8 @@ ghost use Rattle.buckets.specs.BucketRows.{bucket_of, planned_rows, rows_of_part
 ghost use Rattle.buckets.specs.Buckets.{bucket_equiv, is_same_bucket};
 
 use crate::OutOfMemory;
+use crate::partition_rows::{parts_of, same_rows};
 use crate::plan::Plan;
-use crate::rows::{parts_of, same_rows};
 use broken_trades::Breaks;
 use meaning::What;
 use morsel_rows::Partition;

@@ -6,21 +6,21 @@
 #![tactic(auto)]
 
 mod bucket;
+mod bucket_work;
 mod found;
 mod making;
 mod names;
 mod needed;
+mod partition_rows;
 mod plan;
 mod product;
-mod rising;
-mod rows;
+mod rising_orders;
 mod trading;
-mod work;
 
 pub use bucket::Bucket;
+pub use bucket_work::BucketWork;
 pub use found::{BucketTotal, Found};
 pub use lists::OutOfMemory;
 pub use names::DayNames;
 pub use plan::Plan;
 pub use product::Product;
-pub use work::BucketWork;

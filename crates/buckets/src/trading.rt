@@ -10,7 +10,7 @@ ghost use Rattle.buckets.specs.FoundRows.{repeated_in, trades_in, unknown_in};
 
 use crate::OutOfMemory;
 use crate::needed::needed_orders;
-use crate::rising::RisingOrders;
+use crate::rising_orders::RisingOrders;
 use morsel_rows::Partition;
 use order_table::{Built, OrderTable, PricesExecutions, Repeated};
 use probe::{Priced, Sale, Unknown, price_into};

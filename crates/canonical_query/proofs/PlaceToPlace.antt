@@ -95,7 +95,11 @@ one_step seen s w here (unit a v count e counted) =
     (λ seconds. cond (is_width (count * seconds)) (moment (only (Bars (count * seconds)))) (refused (BadNumber v.at))) refl
     (λ seconds is f. either n (is_width (count * seconds)) (moment (only (Bars (count * seconds)))) (refused (BadNumber v.at)) f
     (λ fits g. inl (moment (only (Bars (count * seconds))), g, what (only (Bars (count * seconds))) (bare_only (Bars (count * seconds)))))
-    (λ none g. inr (BadNumber v.at, g, inr (v, refl, record { at_bars = a; count = count; seconds = seconds; parted = e; counted = counted; unit = is; no_width = none }))))
+    (λ none g. inr (
+      BadNumber v.at,
+      g,
+      inr (v, refl, record { at_bars = a; count = count; seconds = seconds; parted = e; counted = counted; unit = is; no_width = none }),
+    )))
     (λ none f. inr (UnknownWord w.at, f, refl))
 one_step seen s w here (what said bare) =
     either (step (moment said) w) (reads_as (codes "as") w) (of_next said)

@@ -3,9 +3,9 @@
 //! that was written.
 #![tactic(auto)]
 
-mod laws;
+mod grammar_laws;
 mod writer;
 
-pub use laws::{canonical_text, fault_of_first_wrong_word, meaning_or_fault, one_meaning};
+pub use grammar_laws::{canonical_text, fault_of_first_wrong_word, meaning_or_fault, one_meaning};
 pub use lists::OutOfMemory;
 pub use writer::write;

@@ -3,7 +3,7 @@
 use Rattle.std.specs.Prelude.{◌≡◌, ◌==◌, ℕ, false, Result, string_bytes}
 use Rattle.arguments.specs.declared.arguments.Job.{Job}
 use Rattle.block_scan.specs.Blocks.{of_blocks}
-use Rattle.block_scan.specs.declared.source.BlockSource.{Ghosts as BlockSourceOf}
+use Rattle.block_scan.specs.declared.block_source.BlockSource.{Ghosts as BlockSourceOf}
 use Rattle.streaming.specs.Readings.{Reading, of_stream}
 use Rattle.streaming.specs.declared.Source.{Ghosts as SourceOf}
 use Rattle.runs.specs.Runs.{Ran, is_write_failed}

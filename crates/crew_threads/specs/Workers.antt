@@ -1,7 +1,6 @@
 -- What a worker's run leaves at its seat and at its port.
 -- To be believed of a crate used by itself.
-use Rattle.std.specs.Prelude.{◌≡◌, ℕ, ◌*◌, ◌%◌, ◌<◌, ◌≤◌, Bool, not, List, [], ◌∷◌, ◌++◌, Some, All}
-use Rattle.std.specs.Prelude.{count_by, filter, map, slice_get}
+use Rattle.std.specs.Prelude.{◌≡◌, ℕ, ◌*◌, ◌%◌, ◌<◌, ◌≤◌, Bool, not, List, [], ◌∷◌, ◌++◌, Some, All, count_by, filter, map, slice_get}
 use Rattle.dispatcher.specs.Seats.{claims, seen_tasks}
 use Rattle.dispatcher.specs.declared.seat.Seat.{Seat}
 use Rattle.gathering.specs.Views.{PieceView}

@@ -5,14 +5,15 @@
 //! schedule of its threads changes the total.
 #![tactic(auto)]
 
+mod caller_runs;
 mod employ;
 mod gate;
 mod gatherers;
 mod pipeline;
 mod port;
-mod runs;
 mod worker;
 
+pub use caller_runs::{run_missing, run_task};
 pub use gate::{FreeGate, Gate};
 pub use gatherers::{
     Gatherer, channel_of, gather_all, gather_until_covered, merge_all, start_gatherers,
@@ -21,5 +22,4 @@ pub use gathering::{Gathering, Inputs, OutOfMemory, Piece, Work};
 pub use outcomes::Crew;
 pub use pipeline::run_pipeline;
 pub use port::{ChannelPort, Port};
-pub use runs::{run_missing, run_task};
 pub use worker::work;

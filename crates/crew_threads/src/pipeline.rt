@@ -2,9 +2,9 @@
 ghost use Rattle.std.specs.Prelude.{◌≡◌, ◌<◌, length, IfOk, OnOk};
 ghost use Rattle.std.specs.Arc.{arc_value};
 
+use crate::caller_runs::run_missing;
 use crate::gate::Gate;
 use crate::gatherers::{gather_all, gather_until_covered, merge_all, start_gatherers};
-use crate::runs::run_missing;
 use gathering::{Gathering, Inputs, OutOfMemory, Piece, TotalRefused, Work};
 use outcomes::Crew;
 use std::alloc::{AllocError, Global};

@@ -2,6 +2,7 @@ pub mod CutsAt
 pub mod CutsBy
 pub mod Fed
 pub mod FirstRuns
+pub mod Given
 pub mod Joined
 pub mod Kept
 pub mod Laws

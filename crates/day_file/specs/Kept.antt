@@ -16,11 +16,15 @@ numbered number start [] = []
 numbered number start (run ∷ runs) =
     record { number = number; start = start; bytes = run } ∷ numbered (number + 1) (start + length run) runs
 
--- these are the morsels of a cut of `total` bytes
-pub record AreMorsels (morsels : List MorselView) (total : ℕ) : Type 0 where
-  pub numbers : morsels ≡ numbered 0 0 (runs_of morsels)
-  pub runs : All IsRun (runs_of morsels)
-  pub bytes : All AreBytes (runs_of morsels)
-  pub few : length morsels ≤ MOST_MORSELS
-  pub length_is : total ≡ length (concat (runs_of morsels))
-  pub within : total ≤ LONGEST_FILE
+-- these are the morsels of a cut into these runs
+pub record AreMorsels (runs : List (List ℕ)) (morsels : List MorselView) : Type 0 where
+  pub are : morsels ≡ numbered 0 0 runs
+  pub each : All IsRun runs
+  pub bytes : All AreBytes runs
+  pub few : length runs ≤ MOST_MORSELS
+  pub within : length (concat runs) ≤ LONGEST_FILE
+
+-- what a `Cut` keeps: its morsels, and how many bytes they have
+pub record IsKept (morsels : List MorselView) (total : ℕ) : Type 0 where
+  pub are : AreMorsels (runs_of morsels) morsels
+  pub total_is : total ≡ length (concat (runs_of morsels))

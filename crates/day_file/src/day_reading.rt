@@ -1,4 +1,5 @@
-ghost use Rattle.std.specs.Prelude.{◌≡◌, ◌≤◌, ◌<◌, ◌+◌, ◌^◌, ◌++◌, [], ◌↔◌, ℕ, List, length, true, false, IfOk, OnOk, OnErr, IsErrOf, vec_len};
+ghost use Rattle.std.specs.Prelude.{◌≡◌, ◌≤◌, ◌<◌, ◌+◌, ◌^◌, ◌++◌, ℕ, List, Err, length, false, IfErr, IfOk, OnOk, vec_len};
+ghost use Rattle.day_file.specs.Given.{GaveSome, IsDayRead};
 
 use crate::{DayFile, DeviceFailed, LONGEST_FILE, OutOfMemory, Source};
 use std::alloc::Allocator;
@@ -38,6 +39,7 @@ impl From<DeviceFailed> for ReadFault {
 }
 
 // Appends what one call of the source gives, at most this many bytes, and says how many those are.
+#[tactic(auto, using(crate::proofs::Given::some_given))]
 fn read_piece<S: Source, A: Allocator>(
     source: &mut S,
     bytes: &mut Vec<u8, A>,
@@ -50,9 +52,9 @@ fn read_piece<S: Source, A: Allocator>(
         × (bytes.new.items ≡ bytes.old.items ++ piece) × (length piece ≡ n)) }
     ensures within { IfOk result (λ n. n ≤ most) }
     ensures end { IfOk result (λ n. n ≡ 0 → S.HasEnded source.new) }
-    ensures failed { IsErrOf result ReadFault.ReadFailed ↔ (S.has_failed source.new ≡ true) }
-    ensures nothing { OnErr result (S.Gave source.old source.new []) }
-    ensures never { ¬ IsErrOf result ReadFault.TooLong }
+    ensures whole { OnOk result (S.has_failed source.new ≡ false) }
+    ensures fault { IfErr result (λ fault. (before : S) (limit : ℕ)
+        → GaveSome S.Source limit before source.old → IsDayRead S.Source limit before source.new (Err fault)) }
 {
     let start = bytes.len();
     bytes.resize(start + most, 0)?;
@@ -70,19 +72,7 @@ pub fn read_day<S: Source, A: Allocator>(
 ) -> Result<DayFile<A>, ReadFault>
     requires whole { S.has_failed source.old ≡ false }
     requires limit { limit ≤ LONGEST_FILE }
-
-    // What it gives are the source's bytes up to its end.
-    ensures bytes { IfOk result (λ day. S.Gave source.old source.new day) }
-    ensures ended { OnOk result (S.HasEnded source.new) }
-    ensures within { IfOk result (λ day. length day ≤ limit) }
-
-    ensures failed { IsErrOf result ReadFault.ReadFailed ↔ (S.has_failed source.new ≡ true) }
-    ensures too_long { IsErrOf result ReadFault.TooLong → (bytes : List ℕ)
-        × S.Gave source.old source.new bytes × (length bytes ≡ limit + 1) }
-
-    // After a refusal the source may have been read in part.
-    ensures refused { OnErr result ((bytes : List ℕ)
-        × S.Gave source.old source.new bytes × (length bytes ≤ limit + 1)) }
+    ensures { IsDayRead S.Source limit source.old source.new result }
 {
     let mut bytes = Vec::new(alloc);
     while bytes.len() as u64 <= limit {

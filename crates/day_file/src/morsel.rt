@@ -1,6 +1,7 @@
 ghost use Rattle.std.specs.Prelude.{◌≡◌, ◌≤◌, ◌+◌, None, length, vec_len};
 ghost use Rattle.std.specs.Cmp.Rules.{comparing};
 ghost use Rattle.std.proofs.Common.{rules};
+ghost use Rattle.lists.specs.Among.{AreBytes};
 ghost use Rattle.day_file.specs.Frames.{StandsFrom};
 ghost use Rattle.day_file.specs.Cuts.{IsRun, MorselView, is_same_morsel};
 ghost use Rattle.day_file.specs.Walk.{frames_of};
@@ -32,10 +33,12 @@ impl Model for Morsel {
 
 impl Morsel {
     /// The morsel of these frames, without a copy.
+    #[tactic(auto, using(crate::proofs::Kept::bytes_of_type))]
     pub fn of(number: u32, start: u64, bytes: Vec<u8>) -> Self
         requires run { IsRun bytes.items }
         requires within { start + vec_len bytes ≤ LONGEST_FILE }
-        ensures { result ≡ record { number = number; start = start; bytes = bytes.items } }
+        ensures same { result ≡ record { number = number; start = start; bytes = bytes.items } }
+        ensures bytes { AreBytes bytes.items }
     {
         Morsel {
             number,

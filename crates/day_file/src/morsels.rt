@@ -1,9 +1,9 @@
-ghost use Rattle.std.specs.Prelude.{◌≡◌, ◌≤◌, ◌<◌, ◌+◌, ◌++◌, ◌∷◌, [], ℕ, List, length, OnOk, OnErr, IfOk, slice_get, Some, vec_len, All};
+ghost use Rattle.std.specs.Prelude.{◌≡◌, ◌≤◌, ◌<◌, ◌+◌, ◌++◌, ◌∷◌, [], ℕ, List, length, map, OnOk, OnErr, IfOk, slice_get, Some, vec_len};
 ghost use Rattle.std.specs.List.{concat};
 ghost use Rattle.std.specs.Arc.{arc_value};
-ghost use Rattle.lists.specs.Among.{AreBytes};
 ghost use Rattle.day_file.specs.Cuts.{IsRun, rest_run, start_of};
 ghost use Rattle.day_file.specs.Frames.{IsWhole};
+ghost use Rattle.day_file.specs.Kept.{AreMorsels};
 
 use crate::{Morsel, OutOfMemory};
 use lists::limits::{LONGEST_FILE, MOST_MORSELS};
@@ -25,11 +25,11 @@ impl Model for Cut {
 
     ghost Value = { List (List ℕ) };
 
-    ghost use Rattle.day_file.specs.Kept.{AreMorsels, runs_of};
+    ghost use Rattle.day_file.specs.Kept.{IsKept, runs_of};
 
     ghost view = { λ cut. runs_of (map arc_value cut.morsels.items) };
 
-    ghost invariant = { λ cut. AreMorsels (map arc_value cut.morsels.items) cut.length };
+    ghost invariant = { λ cut. IsKept (map arc_value cut.morsels.items) cut.length };
 }
 
 impl Cut {
@@ -52,7 +52,6 @@ impl Cut {
         ensures ok { OnOk result (self.new ≡ self.old ++ run.items ∷ []) }
         ensures err { OnErr result (self.new ≡ self.old) }
     {
-        tell_bytes(&run);
         let length = run.len() as u64;
         let morsel = Morsel::of(self.morsels.len() as u32, self.length, run);
         self.morsels.push(Arc::new(alloc, morsel)?)?;
@@ -77,18 +76,23 @@ impl Cut {
     pub fn count(&self) -> u32
         ensures count { result ≡ length self.now }
         ensures few { result ≤ MOST_MORSELS }
-        ensures runs { All IsRun self.now }
-        ensures bytes { All AreBytes self.now }
-        ensures within { length (concat self.now) ≤ LONGEST_FILE }
     {
         self.morsels.len() as u32
     }
 
     /// How many bytes all morsels have.
     pub fn length(&self) -> u64
-        ensures { result ≡ length (concat self.now) }
+        ensures same { result ≡ length (concat self.now) }
+        ensures within { result ≤ LONGEST_FILE }
     {
         self.length
+    }
+
+    /// All of them, in order.
+    pub fn morsels(&self) -> &[Arc<Morsel, Global>]
+        ensures { AreMorsels self.now (map arc_value result.now) }
+    {
+        self.morsels.as_slice()
     }
 
     /// The morsel of this number.
@@ -101,9 +105,3 @@ impl Cut {
         &self.morsels[number as usize]
     }
 }
-
-/// Each number of a slice of bytes is a byte. It does nothing when it runs.
-#[tactic(auto, using(crate::proofs::Kept::bytes_of_type))]
-fn tell_bytes(bytes: &[u8])
-    ensures { AreBytes bytes.now }
-{}

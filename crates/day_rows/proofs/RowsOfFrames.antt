@@ -4,14 +4,13 @@ use Rattle.std.specs.List.{AllByRecursion, best_of}
 use Rattle.std.specs.List.Sorted.{IsStrictlySortedBy}
 use Rattle.std.specs.Ordering.{nat_cmp}
 use Rattle.std.proofs.lemmas.Bool.Decides.{nat_tests}
-use Rattle.std.proofs.lemmas.List.{append_assoc}
 use Rattle.std.proofs.lemmas.List.Elements.{All-filter, All-from_recursion, All-weaker, filter-append, filter_map-append, recursion_from_All}
 use Rattle.itch_messages.specs.Body.{message_of, has_wrong_length}
 use Rattle.itch_messages.specs.declared.message.Message.{Message}
 use Rattle.day_file.specs.Frames.{PlacedBody}
 use Rattle.lists.proofs.Lists.{cons_nil}
 use Rattle.day_rows.specs.Messages.{counted, placed_at, messages_of, first_wrong}
-use Rattle.day_rows.specs.DayRows.{DayRows, counted_rows_at, joined, rows_of}
+use Rattle.day_rows.specs.DayRows.{counted_rows_at, joined, rows_of}
 use Rattle.day_rows.proofs.CountedMessages.{counted-append}
 use Rattle.day_rows.proofs.JoinedRows.{rows_of-append}
 
@@ -73,21 +72,3 @@ unfolding IsStrictlySortedBy
 wrong_first front frame rest none wrong up =
     rw (filter-append, none, wrong)
     (ap Some (first_stays (λ (f : PlacedBody). f.place) frame _ (later_stay frame.place rest (sorted_rest front (frame ∷ rest) up).0)))
-
--- what a loop over frames has collected of the messages that count
-pub record IsCollecting (as_of : Option ℕ) (all left : List PlacedBody) (rows : DayRows) : Type 0 where
-  pub front : List PlacedBody
-  pub split : all ≡ front ++ left
-  pub none : filter (λ f. has_wrong_length f.body) front ≡ []
-  pub are : rows ≡ rows_of (counted as_of (messages_of front))
-
--- one frame more, whose length is right
-pub collects : (as_of : Option ℕ) (all left : List PlacedBody) (frame : PlacedBody) (rest : List PlacedBody) (old new : DayRows)
-    → IsCollecting as_of all left old → left ≡ frame ∷ rest → has_wrong_length frame.body ≡ false
-    → new ≡ joined old (counted_rows_at as_of frame.place (message_of frame.body)) → IsCollecting as_of all rest new
-collects as_of all left frame rest old new so_far step right added = record {
-  front = so_far.front ++ frame ∷ [];
-  split = so_far.split ∙ ap (λ l. so_far.front ++ l) step ∙ sym (append_assoc so_far.front (frame ∷ []) rest);
-  none = wrong_more so_far.front frame so_far.none right;
-  are = rw (added, so_far.are) (sym (rows_more as_of so_far.front frame));
-}

@@ -7,7 +7,7 @@ ghost use Rattle.gathering.specs.Adding.{same_inputs};
 ghost use Rattle.gathering.specs.Refused.{IsRefusedFor};
 ghost use Rattle.gathering.specs.Views.{belongs, merged, IsComplete, IsFirstMissing};
 
-use crate::places::{empty_places, merge_places};
+use crate::piece_places::{empty_places, merge_places};
 use crate::{Inputs, OutOfMemory, Piece, Work};
 use std::alloc::{Allocator, Global};
 use std::marker::Model;

@@ -7,14 +7,14 @@
 
 mod gather;
 mod inputs;
-mod laws;
+mod merge_laws;
 mod piece;
-mod places;
+mod piece_places;
 mod work;
 
 pub use gather::{Filed, Gathering, OtherInputs, Stranger, TotalRefused};
 pub use inputs::Inputs;
-pub use laws::{alike_stay_alike, merge_is_a_join, own_inputs_belong};
 pub use lists::OutOfMemory;
+pub use merge_laws::{alike_stay_alike, merge_is_a_join, own_inputs_belong};
 pub use piece::Piece;
 pub use work::Work;

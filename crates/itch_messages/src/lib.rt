@@ -4,19 +4,19 @@
 //! fields are padded on the right with spaces.
 #![tactic(auto)]
 
+mod body_law;
 mod body_reading;
 mod draft;
 mod fields;
 pub mod header;
-mod law;
 pub mod layout;
 pub mod message;
 mod time;
 mod writing;
 
+pub use body_law::one_body_each;
 pub use body_reading::{is_read, kind_of, read, read_of_kind};
 pub use header::Header;
-pub use law::one_body_each;
 pub use layout::LengthFault;
 pub use lists::OutOfMemory;
 pub use message::{Add, Broken, Cross, Directory, Executed, ExecutedAt, Message, Replace, Trade};

@@ -12,7 +12,7 @@ use Rattle.probe.specs.Pricing.{Execution, Sale, first_unknown, priced, unknown_
 use Rattle.probe.specs.Selection.{kept}
 use Rattle.time_and_sales.specs.Lent.{all_sales}
 use Rattle.time_and_sales.specs.Names.{DirectoryRow, IsNamesOf, name_of, name_text, names_by}
-use Rattle.time_and_sales.specs.declared.directory.Names.{Names}
+use Rattle.time_and_sales.specs.declared.names.Names.{Names}
 use Rattle.time_and_sales.specs.Texts.{listing_text}
 use Rattle.bars.proofs.Bars.{AreBarsOf-permutation}
 use Rattle.meaning.specs.Meaning.{Meaning}

@@ -2,8 +2,8 @@
 #![tactic(auto)]
 
 mod listed;
-mod ranges;
+mod ranged_answer;
 
 pub use listed::{fault_of, tables};
 pub use lists::OutOfMemory;
-pub use ranges::answer_in_ranges;
+pub use ranged_answer::answer_in_ranges;

@@ -1,9 +1,9 @@
 -- Lists that std has no lemmas on: filters under filters, and permutations of what lists are joined from.
 use Rattle.std.proofs.Common.{◌≡◌, ℕ, zero, suc, ◌+◌, ◌<◌, ◌≤◌, Bool, true, cond, List, [], ◌∷◌, ◌++◌, length, get_or, set, swap, Option, Some}
-use Rattle.std.proofs.Common.{None, filter, filter_map, flat_map, map, option_map, option_to_list, replicate, All, IsPermutation, refl, ap, ◌∙◌, arith}
-use Rattle.std.proofs.Common.{append_assoc, append-nil}
+use Rattle.std.proofs.Common.{None, filter, filter_map, flat_map, map, option_map, option_to_list, replicate, All, IsPermutation, refl, sym, ap, ◌∙◌, arith}
+use Rattle.std.proofs.Common.{append_assoc, append-nil, take}
 use Rattle.std.specs.List.{list_any, concat, cons_option, range_with_len}
-use Rattle.std.proofs.lemmas.List.{drop_at, length-append, take_at}
+use Rattle.std.proofs.lemmas.List.{drop_at, flat_map_more, length-append, take_at, take_more}
 use Rattle.std.proofs.lemmas.List.Elements.{All-drop, All-take, filter-append, filter_map-append}
 use Rattle.std.proofs.lemmas.List.Folds.{concat-append}
 use Rattle.std.proofs.lemmas.List.Sorted.{IsPermutation-refl, IsPermutation-keeps, IsPermutation-trans, IsPermutation-append_left, IsPermutation-append_right}
@@ -140,3 +140,11 @@ IsPermutation-both f g (x ∷ xs) =
     let turned = IsPermutation-append_right (f x) _ _ (IsPermutation-append_left (flat_map g xs) _ _ (IsPermutation-append_comm (g x) (flat_map f xs))) in
     IsPermutation-trans _ _ _ more (rw (append_assoc (f x) (g x), ← append_assoc (g x), append_assoc (f x) (flat_map f xs), ← append_assoc (flat_map f xs))
     turned)
+
+-- one item more, and the next one that a loop takes
+pub flat_map_push : {X Y : Type 0} (f : X → List Y) (xs : List X) (x : X) → flat_map f (xs ++ x ∷ []) ≡ flat_map f xs ++ f x
+flat_map_push f xs x = sym (flat_map_more f [] xs x)
+
+pub flat_map_next : {X Y : Type 0} (f : X → List Y) (xs : List X) (i : ℕ) (d : X) → i < length xs
+    → flat_map f (take (i + 1) xs) ≡ flat_map f (take i xs) ++ f (get_or xs i d)
+flat_map_next f xs i d h = ap (flat_map f) (take_more xs i d h) ∙ flat_map_push f (take i xs) (get_or xs i d)

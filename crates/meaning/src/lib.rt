@@ -6,7 +6,7 @@
 
 pub mod query;
 mod select;
-mod sorted;
+mod sorted_symbols;
 pub mod symbols;
 
 pub use lists::OutOfMemory;

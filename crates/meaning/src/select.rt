@@ -6,7 +6,7 @@ ghost use Rattle.time_and_sales.specs.Names.{names_by};
 
 use crate::OutOfMemory;
 use crate::query::Query;
-use crate::sorted::SortedSymbols;
+use crate::sorted_symbols::SortedSymbols;
 use crate::symbols::Symbols;
 use probe::{LocateList, Locates, Selection};
 use std::alloc::Allocator;

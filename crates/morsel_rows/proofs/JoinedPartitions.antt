@@ -1,8 +1,10 @@
--- The partitions of joined rows are the joined partitions, and a partition stands at its number.
-use Rattle.std.proofs.Common.{◌≡◌, ℕ, ◌<◌, ◌≤◌, ◌%◌, ◌==◌, List, map, flat_map, refl, sym, ◌∙◌, arith}
+-- The partitions of joined rows are the joined partitions, a partition stands at its number, and the only one has all.
+use Rattle.std.proofs.Common.{◌≡◌, ℕ, ◌<◌, ◌≤◌, ◌%◌, ◌==◌, true, List, [], ◌∷◌, Some, map, flat_map, slice_get, refl, sym, ap, ◌∙◌, arith}
+use Rattle.std.proofs.lemmas.Bool.Decides.{nat_tests}
 use Rattle.std.proofs.lemmas.List.{get_or_past}
 use Rattle.std.proofs.lemmas.List.FromFn.{get_or-map-range_with_len, length-map-range_with_len}
 use Rattle.std.proofs.lemmas.List.Folds.{flat_map-map}
+use Rattle.std.proofs.lemmas.Option.{get_or_from_slice_get}
 use Rattle.lists.specs.Least.{part, numbers_below}
 use Rattle.lists.proofs.Lists.{filter-flat_map}
 use Rattle.row_types.specs.declared.order.OrderRow.{OrderRow}
@@ -36,3 +38,19 @@ pub partition_past : (n : ℕ) (rows : DayRows) (b : ℕ) → n ≤ b → partit
 partition_past n rows b past =
     get_or_past (map (partition_of n rows) (numbers_below n)) b no_rows_in
     (omega (arith, length-map-range_with_len (partition_of n rows) 0 n, past))
+
+-- all items are in the one part by 1
+whole_part : {X : Type 0} (number : X → ℕ) (xs : List X) → part 1 number xs 0 ≡ xs
+whole_part number [] = refl
+whole_part number (x ∷ xs) = let zero : (number x % 1 == 0) ≡ true = grind (arith, nat_tests) in rw zero (ap (λ l. x ∷ l) (whole_part number xs))
+
+-- and all rows in the one partition
+pub one_partition : (rows : DayRows) (one : PartitionView) → slice_get (in_partitions 1 rows).partitions 0 ≡ Some one
+    → one ≡ record { orders = rows.orders; executions = rows.executions; own_priced = rows.own_priced }
+one_partition rows one there =
+    sym (get_or_from_slice_get (in_partitions 1 rows).partitions 0 one no_rows_in there) ∙ partition_at_is 1 rows 0 (omega arith)
+    ∙ (λ i. record {
+      orders = whole_part (λ (row : OrderRow). row.order_no) rows.orders i;
+      executions = whole_part (λ (row : Execution). row.order_no) rows.executions i;
+      own_priced = whole_part (λ (sale : Sale). sale.place) rows.own_priced i;
+    })

@@ -62,9 +62,6 @@ exact_partition = record {
   one = λ a b h. grind (arith, exact_orders.one, exact_executions.one, exact_sales.one);
 }
 
-pub same_partition : (a b : PartitionView) → is_same_partition a b ≡ true → a ≡ b
-same_partition = exact_partition.one
-
 pub orders_equal_themselves : (rows : List OrderRow) → pointwise is_same_order rows rows ≡ true
 orders_equal_themselves = exact_orders.itself
 

@@ -6,7 +6,7 @@ ghost use Rattle.morsel_rows.specs.ShortRows.{row_of_lean};
 
 use crate::offsets::{LAST_START, Origin, offset_from};
 use crate::order_rows::OrderRows;
-use crate::rising::RisingRows;
+use crate::rising_rows::RisingRows;
 use crate::same::SameRow;
 use crate::short::{ShortRow, ShortRows};
 use row_types::OrderRow;

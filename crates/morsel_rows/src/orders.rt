@@ -10,7 +10,7 @@ use crate::OutOfMemory;
 use crate::behind::RowsBehind;
 use crate::lean::LeanRows;
 use crate::order_rows::OrderRows;
-use crate::rising::RisingRows;
+use crate::rising_rows::RisingRows;
 use row_types::OrderRow;
 use std::alloc::{Allocator, Global};
 use std::marker::Model;

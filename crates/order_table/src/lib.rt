@@ -7,16 +7,16 @@
 //! repeats a reference.
 #![tactic(auto)]
 
+pub mod partitions;
 mod prices;
-pub mod row;
 mod searching;
-mod sorted;
+mod sorted_rows;
 mod sorting;
 pub mod table;
 
 pub use lists::OutOfMemory;
+pub use partitions::partition;
 pub use prices::PricesExecutions;
-pub use row::partition;
 pub use row_types::OrderRow;
 pub use searching::{Referenced, Spread, first_of};
 pub use table::{Built, OrderTable, Repeated};

@@ -6,7 +6,7 @@ ghost use Rattle.order_table.specs.Orders.{kept_row, price_before, price_if_befo
 
 use crate::OutOfMemory;
 use crate::prices::PricesExecutions;
-use crate::sorted::SortedRows;
+use crate::sorted_rows::SortedRows;
 use crate::sorting::{first_repeated, put_in_order, rises};
 use row_types::OrderRow;
 use std::alloc::{Allocator, Global};

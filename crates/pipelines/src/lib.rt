@@ -5,8 +5,8 @@
 //! its threads changes the answer.
 #![tactic(auto)]
 
-pub mod laws;
 mod outcome;
+pub mod outcome_law;
 mod pair;
 
 pub use crew_threads::{Crew, FreeGate, Gate, Port, work};

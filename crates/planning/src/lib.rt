@@ -2,11 +2,11 @@
 #![tactic(auto)]
 
 mod kept;
-mod link;
 mod pieces;
-mod plan;
+mod plan_link;
+mod plan_making;
 
 pub use buckets::DayNames;
 pub use kept::DayPlan;
-pub use link::PlanLink;
 pub use lists::OutOfMemory;
+pub use plan_link::PlanLink;

@@ -1,7 +1,6 @@
 -- The first fault of a text: its words are read one by one, and what must come next is kept.
 -- To be believed.
-use Rattle.std.specs.Prelude.{◌≡◌, ◌≢◌, ℕ, ◌*◌, nat_lt, Bool, true, if◌then◌else◌, List, Option, Some, None, is_some}
-use Rattle.std.specs.Prelude.{Result, Ok, Err, codes, fold}
+use Rattle.std.specs.Prelude.{◌≡◌, ◌≢◌, ℕ, ◌*◌, nat_lt, Bool, true, if◌then◌else◌, List, Option, Some, None, is_some, Result, Ok, Err, codes, fold}
 use Rattle.std.specs.Result.{result_err}
 use Rattle.query.specs.Words.{Word, lists_symbols, reads_as}
 use Rattle.query.specs.Values.{count_of, unit_of, time_of, symbols_of, kinds_of}

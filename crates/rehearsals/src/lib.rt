@@ -3,13 +3,13 @@
 #![tactic(auto)]
 
 mod joined;
-mod laws;
+mod rehearsal_laws;
 mod rehearsing;
 
 pub use answers::Answer;
 pub use day_file::Cut;
-pub use laws::{all_arrived_answers, each_once_answers, one_rehearsal};
 pub use lists::OutOfMemory;
 pub use meaning::Query;
+pub use rehearsal_laws::{all_arrived_answers, each_once_answers, one_rehearsal};
 pub use rehearsing::{Rehearsal, rehearse};
 pub use schedules::Event;

@@ -15,7 +15,7 @@ use Rattle.planning.specs.Planned.{LinkView}
 use Rattle.block_scan.specs.Attempts.{AreAttemptsOf, AreOf, AttemptView, BlockView, blocks_of}
 use Rattle.block_scan.specs.Blocks.{GaveWhole, IsBlocksFault}
 use Rattle.block_scan.specs.Pieces.{Asked, IsAskable, IsChained, IsScannedWhole}
-use Rattle.block_scan.specs.declared.source.BlockSource.{Ghosts as BlockSourceOf}
+use Rattle.block_scan.specs.declared.block_source.BlockSource.{Ghosts as BlockSourceOf}
 use Rattle.streaming.specs.declared.fault.SourceFault.{SourceFault}
 use Rattle.block_scan.proofs.BlocksAndAttempts.{attempts_of, blocks_are}
 use Rattle.runs.specs.Steps.{IsOutcomeOf, IsScanOf, LinksAttempts}

@@ -1,7 +1,6 @@
 -- The steps of a run: what its query, its source, its pipelines and its answer give each other.
 -- Derived: what is promised of a run is `Ran`.
-use Rattle.std.specs.Prelude.{◌≡◌, ℕ, ◌+◌, ◌<◌, ◌≤◌, ◌↔◌, All, List, Option, Some, Result, Ok, Err, true, length}
-use Rattle.std.specs.Prelude.{IfErr, IfOk, IsErrOf}
+use Rattle.std.specs.Prelude.{◌≡◌, ℕ, ◌+◌, ◌<◌, ◌≤◌, ◌↔◌, All, List, Option, Some, Result, Ok, Err, true, length, IfErr, IfOk, IsErrOf}
 use Rattle.std.specs.List.{concat}
 use Rattle.lists.specs.declared.limits.TheConstants.{LONGEST_FILE}
 use Rattle.outcomes.specs.declared.run_fault.RunFault.{RunFault}
@@ -29,7 +28,7 @@ use Rattle.scanning.specs.declared.wrong.WrongLength.{WrongLength}
 use Rattle.block_scan.specs.Attempts.{AreAttemptsOf, AttemptView}
 use Rattle.block_scan.specs.Blocks.{IsBlocksFault}
 use Rattle.block_scan.specs.Pieces.{Asked, IsScannedWhole}
-use Rattle.block_scan.specs.declared.source.BlockSource.{Ghosts as BlockSourceOf}
+use Rattle.block_scan.specs.declared.block_source.BlockSource.{Ghosts as BlockSourceOf}
 use Rattle.buckets.specs.BucketRows.{BucketView}
 use Rattle.buckets.specs.Buckets.{total_found}
 use Rattle.buckets.specs.FoundRows.{TotalView}

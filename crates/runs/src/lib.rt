@@ -2,7 +2,7 @@
 #![tactic(auto)]
 
 mod calls;
-pub mod laws;
+pub mod run_laws;
 
 pub use answers::{Answer, DayFault, Text};
 pub use block_scan::{BlockSource, Division, FileBlocks, ReadsAt};

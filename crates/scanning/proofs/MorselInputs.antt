@@ -1,16 +1,13 @@
 -- The inputs of the scans of morsels that follow each other, morsel after morsel.
-use Rattle.std.proofs.Common.{◌≡◌, ℕ, zero, suc, ◌+◌, ◌≤◌, List, [], ◌∷◌, ◌++◌, Option, Some, length, map, slice_get, take, refl, sym, ap, ◌∙◌, arith}
+use Rattle.std.proofs.Common.{◌≡◌, ℕ, zero, suc, ◌+◌, ◌<◌, ◌≤◌, List, [], ◌∷◌, ◌++◌, Option, Some, get_or, length, map, slice_get, take, refl, sym, ap, ◌∙◌, arith}
 use Rattle.std.specs.List.{concat}
-use Rattle.std.proofs.lemmas.List.{length-append, length-take-le, take_all, take_more, map_push}
-use Rattle.std.proofs.lemmas.Option.{get_or_from_slice_get, slice_get_within}
+use Rattle.std.proofs.lemmas.List.{length-append, length-map, take_more, map_push}
+use Rattle.std.proofs.lemmas.Simd.{map-map}
+use Rattle.lists.specs.declared.limits.TheConstants.{LONGEST_FILE, MOST_MORSELS}
 use Rattle.day_file.specs.Cuts.{MorselView, start_of}
-use Rattle.day_file.specs.Kept.{numbered}
-use Rattle.day_file.proofs.Kept.{numbered-last}
+use Rattle.day_file.specs.Kept.{AreMorsels, numbered}
+use Rattle.day_file.proofs.Kept.{length-numbered, morsel_at}
 use Rattle.scanning.specs.Scans.{ScanInputView, inputs_from}
-
-pub length-numbered : (number start : ℕ) (runs : List (List ℕ)) → length (numbered number start runs) ≡ length runs
-length-numbered number start [] = refl
-length-numbered number start (run ∷ runs) = ap suc (length-numbered (number + 1) (start + length run) runs)
 
 -- a run ends within all of them
 pub run_within : (runs : List (List ℕ)) (i : ℕ) (run : List ℕ) → slice_get runs i ≡ Some run → start_of runs i + length run ≤ length (concat runs)
@@ -18,18 +15,52 @@ run_within [] i run e = absurd (cc)
 run_within (one ∷ runs) zero run e = grind (arith, length-append)
 run_within (one ∷ runs) (suc i) run e = grind (arith, length-append, run_within runs i run e)
 
--- the inputs of the morsels so far, and of one more
-pub inputs_more : (first start : ℕ) (as_of : Option ℕ) (parts : ℕ) (runs : List (List ℕ)) (i : ℕ) (run : List ℕ) → slice_get runs i ≡ Some run
-    → inputs_from first start as_of parts (take i runs)
-    ++ record { morsel = record { number = first + i; start = start + start_of runs i; bytes = run }; as_of = as_of; parts = parts } ∷ []
-    ≡ inputs_from first start as_of parts (take (i + 1) runs)
-inputs_more first start as_of parts runs i run at =
-    let input : MorselView → ScanInputView = λ morsel. record { morsel = morsel; as_of = as_of; parts = parts } in
-    let within = slice_get_within runs i run at in
-    let more = take_more runs i run within ∙ ap (λ r. take i runs ++ r ∷ []) (get_or_from_slice_get runs i run run at) in
-    let n : first + i ≡ first + length (take i runs) = omega (arith, length-take-le i runs (omega arith)) in
-    (λ k. inputs_from first start as_of parts (take i runs) ++ input (record { number = n k; start = start + start_of runs i; bytes = run }) ∷ [])
-    ∙ sym (map_push input (numbered first start (take i runs)) _) ∙ ap (map input) (sym (numbered-last first start (take i runs) run))
-    ∙ ap (inputs_from first start as_of parts) (sym more)
+-- a morsel that fits behind so many morsels and bytes
+abbrev pub Fits : ℕ → ℕ → MorselView → Type 0
+Fits first start m = (first + m.number < MOST_MORSELS) × ((start + m.start) + length m.bytes ≤ LONGEST_FILE)
 
-pub ruleset making = (run_within, map_push, inputs_more, take_all)
+-- what is asked only of what stands behind others
+pub behind : (before n most : ℕ) → n ≤ most → (0 < before → before + n ≤ most) → before + n ≤ most
+behind zero n most h further = omega (arith, h)
+behind (suc before) n most h further = further (omega arith)
+
+-- there are as many morsels as runs
+pub as_many : {X : Type 0} (value : X → MorselView) (items : List X) {runs : List (List ℕ)} → AreMorsels runs (map value items) → length items ≡ length runs
+as_many value items {runs} m = omega (arith, ap length m.are, length-map items value, length-numbered 0 0 runs)
+
+-- each morsel of a cut fits behind what comes before it
+pub each_fits : {X : Type 0} (value : X → MorselView) (items : List X) {runs : List (List ℕ)} {i : ℕ} {x : X} (first start : ℕ) → AreMorsels runs (map value items)
+    → (0 < first → first + length runs ≤ MOST_MORSELS) → (0 < start → start + length (concat runs) ≤ LONGEST_FILE)
+    → i < length items → x ≡ get_or items i x → Fits first start (value x)
+each_fits value items {runs} {i} {x} first start m few within less is =
+    let below : i < length runs = omega (arith, as_many value items m, less) in
+    let at = morsel_at value items x i m below is in (
+      omega (arith, behind first (length runs) MOST_MORSELS m.few few, at.0, below),
+      omega (arith, behind start (length (concat runs)) LONGEST_FILE m.within within, at.1, run_within runs i (value x).bytes at.2),
+    )
+
+-- the input of a morsel of a cut that stands behind so many morsels and bytes
+abbrev pub input_behind : ℕ → ℕ → Option ℕ → ℕ → MorselView → ScanInputView
+input_behind first start as_of parts m =
+    record { morsel = record { number = first + m.number; start = start + m.start; bytes = m.bytes }; as_of = as_of; parts = parts }
+
+behind_each : (first start n s a b : ℕ) (as_of : Option ℕ) (parts : ℕ) (runs : List (List ℕ)) → a ≡ first + n → b ≡ start + s
+    → map (input_behind first start as_of parts) (numbered n s runs) ≡ inputs_from a b as_of parts runs
+behind_each first start n s a b as_of parts [] p q = refl
+behind_each first start n s a b as_of parts (run ∷ runs) p q =
+    grind (arith, behind_each first start (n + 1) (s + length run) (a + 1) (b + length run) as_of parts runs)
+
+-- all of them
+pub all_inputs : {X : Type 0} (value : X → MorselView) (items : List X) {runs : List (List ℕ)} (first start : ℕ) (as_of : Option ℕ) (parts : ℕ)
+    → AreMorsels runs (map value items) → map (λ x. input_behind first start as_of parts (value x)) items ≡ inputs_from first start as_of parts runs
+all_inputs value items {runs} first start as_of parts m =
+    sym (map-map (input_behind first start as_of parts) value items) ∙ ap (map (input_behind first start as_of parts)) m.are
+    ∙ behind_each first start 0 0 first start as_of parts runs (omega arith) (omega arith)
+
+-- one more item
+pub one_more : {X Y : Type 0} (f : X → Y) (items : List X) (i : ℕ) (x : X) → i < length items → x ≡ get_or items i x
+    → map f (take i items) ++ f x ∷ [] ≡ map f (take (i + 1) items)
+one_more f items i x less is =
+    sym (ap (map f) (take_more items i x less ∙ ap (λ t. take i items ++ t ∷ []) (sym is)) ∙ map_push f (take i items) x)
+
+pub ruleset making = (map_push, one_more)

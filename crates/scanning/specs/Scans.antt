@@ -1,11 +1,10 @@
 -- What is found in a morsel, and in the morsels of one cut.
 -- To be believed of a crate used by itself: the answer isn't defined by morsels.
-use Rattle.std.specs.Prelude.{◌≡◌, ℕ, ◌+◌, ◌<◌, ◌≤◌, ◌==◌, ◌&&◌, Bool, true, List, [], ◌∷◌, ◌++◌, All, length, map}
-use Rattle.std.specs.Prelude.{nat_eq, Option, Some, None, filter_map, option_to_list, if◌then◌else◌}
+use Rattle.std.specs.Prelude.{◌≡◌, ℕ, ◌+◌, ◌<◌, ◌≤◌, ◌==◌, ◌&&◌, Bool, true, List, [], ◌∷◌, ◌++◌, All, length, map, nat_eq, Option, Some, None, filter_map, option_to_list, if◌then◌else◌}
 use Rattle.std.specs.Cmp.{IsEquivalence}
 use Rattle.std.specs.List.{concat}
 use Rattle.std.specs.Option.{option_eq}
-use Rattle.std.proofs.Common.{arith, sym, ap, ◌∙◌}
+use Rattle.std.proofs.Common.{arith}
 use Rattle.std.proofs.lemmas.Bool.Decides.{nat_tests}
 use Rattle.lists.proofs.Exact.{IsExact, exact_equiv, exact_list, exact_nat, exact_option}
 use Rattle.lists.specs.Least.{least_by}
@@ -17,7 +16,6 @@ use Rattle.day_file.specs.Kept.{numbered}
 use Rattle.day_file.specs.Walk.{frames_of}
 use Rattle.day_rows.specs.DayRows.{rows_of}
 use Rattle.day_rows.specs.Messages.{counted, messages_of}
-use Rattle.gathering.specs.Adding.{same_inputs}
 use Rattle.morsel_rows.specs.Partitions.{MorselRowsView, in_partitions}
 use Rattle.scanning.specs.declared.wrong.WrongLength.{WrongLength}
 
@@ -124,7 +122,7 @@ pub record AreOfOneCut (inputs : List ScanInputView) : Type 0 where
   pub some : 0 < parts
   pub are : inputs ≡ inputs_from first start as_of parts runs
 
--- ---- equal inputs are one, and so give one scan, and lists of them one total
+-- ---- equal inputs are one
 
 exact_morsel : IsExact is_same_morsel
 exact_morsel = record {
@@ -132,7 +130,7 @@ exact_morsel = record {
   one = λ a b h. grind (arith, nat_tests, (exact_list exact_nat).one);
 }
 
-exact_input : IsExact is_same_input
+pub exact_input : IsExact is_same_input
 exact_input = record {
   itself = λ a. grind (arith, nat_tests, exact_morsel.itself, (exact_option exact_nat).itself);
   one = λ a b h. grind (arith, nat_tests, exact_morsel.one, (exact_option exact_nat).one);
@@ -140,11 +138,3 @@ exact_input = record {
 
 pub input_equiv : IsEquivalence is_same_input
 input_equiv = exact_equiv exact_input
-
-pub equal_scans : (a b : ScanInputView) (output : ScanView) → is_same_input a b ≡ true → output ≡ scanned a
-    → output ≡ scanned b
-equal_scans a b output same is = is ∙ ap scanned (exact_input.one a b same)
-
-pub equal_totals : (xs ys : List ScanInputView) → same_inputs is_same_input xs ys ≡ true → (total : ScanTotalView)
-    → total ≡ total_of ys → total ≡ total_of xs
-equal_totals xs ys same total is = is ∙ sym (ap total_of ((exact_list exact_input).one xs ys same))

@@ -2,21 +2,21 @@
 //! partitions, and the least wrong length. Morsels are scanned in any order, on any thread.
 #![tactic(auto)]
 
+mod cut_inputs;
 mod input;
-mod inputs;
 mod open_scan;
 mod output;
 mod sample;
+mod scan_work;
 mod total;
-mod work;
 mod wrong;
 
+pub use cut_inputs::{batch_inputs, scan_inputs};
 pub use input::ScanInput;
-pub use inputs::{batch_inputs, scan_inputs};
 pub use lists::OutOfMemory;
 pub use open_scan::OpenScan;
 pub use output::Scanned;
 pub use sample::{LOOKS, MOST_REFERENCES, ReferenceSample, is_large};
+pub use scan_work::ScanWork;
 pub use total::ScanTotal;
-pub use work::ScanWork;
 pub use wrong::WrongLength;

@@ -96,8 +96,9 @@ impl ReferenceSample {
         largest
     }
 
-    /// The number of partitions next to `parts` of which none would be large: the least from `parts` on, or else the
-    /// greatest below, down to half as many. It is `parts` itself if there is none, or if the references are few.
+    /// In how many partitions rows are best put where `parts` were asked for: in as many, or in three quarters of that
+    /// if the references are in no order, or else in the next number of which none would be large. It is `parts` itself
+    /// if the references are few.
     pub fn partitions(&self, parts: u32) -> u32
         requires { (0 < parts) × (parts ≤ MOST_PARTITIONS) }
         ensures { (0 < result) × (result ≤ MOST_PARTITIONS) }
@@ -105,6 +106,31 @@ impl ReferenceSample {
         if self.count < FEWEST {
             return parts;
         }
+        if self.is_in_order() {
+            return self.next_partitions(parts);
+        }
+        self.next_partitions(parts - parts / 4)
+    }
+
+    /// Whether most references are greater than the one before them. Of those in no order half are less.
+    fn is_in_order(&self) -> bool {
+        let mut falls = 0usize;
+        let mut last = 0u64;
+        for reference in &self.references[..self.count] {
+            if *reference < last {
+                falls = falls.saturating_add(1);
+            }
+            last = *reference;
+        }
+        falls < self.count / 3
+    }
+
+    /// The number of partitions next to `parts` of which none would be large: the least from `parts` on, or else the
+    /// greatest below, down to half as many. It is `parts` itself if there is none.
+    fn next_partitions(&self, parts: u32) -> u32
+        requires { (0 < parts) × (parts ≤ MOST_PARTITIONS) }
+        ensures { (0 < result) × (result ≤ MOST_PARTITIONS) }
+    {
         for step in 0..MOST_PARTITIONS - parts / 2 {
             let is_above = step <= MOST_PARTITIONS - parts;
             let number = if is_above {

@@ -1,7 +1,6 @@
 -- Schedules: which tasks have arrived, and what an event makes of the gatherers' covered sets.
 -- To be believed of a crate used by itself.
-use Rattle.std.specs.Prelude.{◌≡◌, ℕ, ◌==◌, ◌&&◌, nat_lt, if◌then◌else◌, Bool, false, not, List, Option, All, map}
-use Rattle.std.specs.Prelude.{length, find, slice_index_or, slice_set}
+use Rattle.std.specs.Prelude.{◌≡◌, ℕ, ◌==◌, ◌&&◌, nat_lt, if◌then◌else◌, Bool, false, not, List, Option, All, map, length, find, slice_index_or, slice_set}
 use Rattle.std.specs.List.{list_any, range_with_len}
 use Rattle.std.specs.Ordering.{nat_cmp}
 use Rattle.std.specs.FinSet.{FinSet, contains, insert, union, empty}

@@ -5,9 +5,9 @@
 #![tactic(auto)]
 
 mod event;
-pub mod laws;
 mod rehearse;
 mod rehearsed;
+pub mod schedule_laws;
 
 pub use event::{Event, apply};
 pub use rehearse::{rehearse_pair, rehearse_pipeline};

@@ -1,6 +1,7 @@
-ghost use Rattle.std.specs.Prelude.{◌≡◌, ◌<◌, ◌++◌, List, All, IfErr, IfOk, length, map, nat_eq, Ok, Err, OnOk};
+ghost use Rattle.std.specs.Prelude.{◌≡◌, ◌<◌, ◌≤◌, List, All, IfErr, IfOk, length, map, nat_eq, Ok, Err, OnOk};
 ghost use Rattle.std.specs.List.{IsDistinct};
 ghost use Rattle.std.specs.List.Sorted.{IsPermutation};
+ghost use Rattle.lists.specs.declared.limits.TheConstants.{LONGEST_FILE};
 ghost use Rattle.order_table.specs.Orders.{first_repeated};
 ghost use Rattle.probe.specs.Pricing.{first_unknown, priced};
 ghost use Rattle.probe.specs.Selection.{admits};
@@ -10,21 +11,22 @@ ghost use Rattle.row_types.specs.SalesByPlace.{IsByPlace};
 ghost use Rattle.time_and_sales.specs.Lent.{AreApart};
 ghost use Rattle.time_and_sales.specs.Names.{names_by};
 ghost use Rattle.answers.specs.Answers.{IsAnswer, IsAnswerToMessages, IsTextOfSales, told_by};
-ghost use Rattle.day_rows.specs.DayRows.{AreByPlace, IsStamped, rows_of};
+ghost use Rattle.day_rows.specs.DayRows.{IsStamped};
 ghost use Rattle.day_rows.specs.Messages.{Placed};
-ghost use Rattle.sequential.specs.Steps.{AreOfDay, AreOfMessages, IfDay, IsReferenceFault};
+ghost use Rattle.sequential.specs.Steps.{AreOfDay, AreOfMessages, AreTradesOf, IfDay, IsReferenceFault};
 
 use crate::OutOfMemory;
 use crate::refused::Refused;
-use answers::{Answer, DayFault, Rows, Text, text_of_bars, text_of_sales};
+use answers::{Answer, DayFault, Text, text_of_bars, text_of_sales};
 use bars::BarTable;
 use broken_trades::Breaks;
-use day_file::{DayFile, frames};
+use day_file::{DayFile, Frames};
 use itch_messages::read;
 use lists::limits::TRADE_LIMIT;
 use meaning::{Query, What, selection};
-use order_table::{Built, OrderRow, OrderTable, Repeated};
-use probe::{Execution, Priced, Sale, Selection, Unknown, keep, price_all};
+use morsel_rows::{MorselRows, Partition};
+use order_table::{Built, OrderTable, Repeated};
+use probe::{Priced, Sale, Selection, Unknown, keep, price_all};
 use std::alloc::{AllocError, Allocator};
 use time_and_sales::{Listing, Names};
 
@@ -53,23 +55,30 @@ fn text_of_day<A: Allocator + Copy>(
     ensures fault { IfErr result (λ refused. IfDay refused (λ fault.
         IsAnswer day.now query.now (Err fault))) }
 {
-    let rows = collect(alloc, day, query.as_of)?;
-    text_of_rows(alloc, rows, query)
+    let rows = collect(alloc, day.bytes(), query.as_of)?;
+    let trades = trades_of(alloc, &rows)?;
+    let names = Names::build(alloc, rows.directory())?;
+    let selection = selection(alloc, query, &names)?;
+    let breaks = rows.breaks().to_vec(alloc)?;
+    drop(rows);
+    let listing = list(trades, breaks, &selection);
+    Ok(text_of(alloc, &listing, query, &names)?)
 }
 
-/// The rows of the messages that count up to a moment, in seconds since midnight, in one walk over all
-/// frames.
+/// The rows of the messages of a day file that count up to a moment, in seconds since midnight, in one
+/// partition: one walk over all frames.
 fn collect<A: Allocator + Copy>(
     alloc: A,
-    day: &DayFile<A>,
+    bytes: &[u8],
     as_of: Option<u32>,
-) -> Result<Rows<A>, Refused>
-    ensures rows { IfOk result (λ rows. AreOfDay day.now as_of rows) }
+) -> Result<MorselRows<A>, Refused>
+    requires { length bytes.now ≤ LONGEST_FILE }
+    ensures rows { IfOk result (λ rows. AreOfDay bytes.now as_of rows) }
     ensures fault { IfErr result (λ refused. IfDay refused (λ fault. (query : Meaning) →
-        IsAnswer day.now query (Err fault))) }
+        IsAnswer bytes.now query (Err fault))) }
 {
-    let mut rows = Rows::new(alloc);
-    let mut left = frames(day);
+    let mut rows = MorselRows::new(alloc, 1, 0)?;
+    let mut left = Frames::of(0, bytes);
     while let Some(frame) = left.next() {
         match read(frame.body) {
             Ok(message) => rows.add_counted(as_of, frame.place, &message)?,
@@ -90,60 +99,37 @@ fn collect<A: Allocator + Copy>(
     Ok(rows)
 }
 
-/// The text that the rows of a whole day's counted messages give.
-fn text_of_rows<A: Allocator + Copy>(
-    alloc: A,
-    rows: Rows<A>,
-    query: &Query<A>,
-) -> Result<Text<A>, Refused>
-    requires { AreOfMessages rows }
-    ensures text { IfOk result (λ text. (messages : List Placed) → AreByPlace messages →
-        rows ≡ rows_of messages → IsAnswerToMessages messages query.now (Ok text)) }
-    ensures fault { IfErr result (λ refused. IfDay refused (λ fault. (messages : List Placed) →
-        rows ≡ rows_of messages → IsAnswerToMessages messages query.now (Err fault))) }
-{
-    let trades = trades_of(alloc, &rows)?;
-    let names = Names::build(alloc, rows.directory())?;
-    let selection = selection(alloc, query, &names)?;
-    let listing = list(trades, rows.into_breaks(), &selection);
-    Ok(text_of(alloc, &listing, query, &names)?)
-}
-
 /// The executions at their orders' prices, and the sales that have a price of their own.
-fn trades_of<A: Allocator + Copy>(alloc: A, rows: &Rows<A>) -> Result<Vec<Sale, A>, Refused>
-    requires { AreOfMessages rows.now }
-    ensures repeated { OnOk result (first_repeated rows.now.orders ≡ None) }
-    ensures unknown { OnOk result (first_unknown rows.now.orders rows.now.executions ≡ None) }
-    ensures trades { IfOk result (λ trades. trades.items
-        ≡ priced rows.now.orders rows.now.executions ++ rows.now.own_priced) }
-    ensures stamped { IfOk result (λ trades. All (λ sale. IsStamped sale.time sale.locate) trades.items) }
-    ensures fault { IfErr result (λ refused. IfDay refused (λ fault.
-        IsReferenceFault rows.now.orders rows.now.executions fault)) }
+fn trades_of<A: Allocator + Copy>(alloc: A, rows: &MorselRows<A>) -> Result<Vec<Sale, A>, Refused>
+    requires { (messages : List Placed) × AreOfMessages messages rows.now }
+    ensures trades { IfOk result (λ trades. (messages : List Placed) → AreOfMessages messages rows.now →
+        AreTradesOf messages trades.items) }
+    ensures fault { IfErr result (λ refused. IfDay refused (λ fault. (messages : List Placed) →
+        AreOfMessages messages rows.now → (query : Meaning) → IsAnswerToMessages messages query (Err fault))) }
 {
-    let mut trades = price(alloc, rows.orders(), rows.executions())?;
-    trades.extend_from_slice(rows.own_priced())?;
+    let all = rows.partition(0).unwrap();
+    let mut trades = price(alloc, all)?;
+    trades.extend_from_slice(all.own_priced())?;
     Ok(trades)
 }
 
-/// Prices all executions.
-fn price<A: Allocator + Copy>(
-    alloc: A,
-    orders: &[OrderRow],
-    executions: &[Execution],
-) -> Result<Vec<Sale, A>, Refused>
-    requires orders { IsDistinct nat_eq (map (λ row. row.place) orders.now) }
-    requires executions { IsDistinct nat_eq (map (λ execution. execution.place) executions.now) }
-    ensures repeated { OnOk result (first_repeated orders.now ≡ None) }
-    ensures unknown { OnOk result (first_unknown orders.now executions.now ≡ None) }
-    ensures sales { IfOk result (λ sales. sales.items ≡ priced orders.now executions.now) }
+/// Prices all executions by a table that the orders are copied into.
+fn price<A: Allocator + Copy>(alloc: A, rows: &Partition<A>) -> Result<Vec<Sale, A>, Refused>
+    requires orders { IsDistinct nat_eq (map (λ row. row.place) rows.now.orders) }
+    requires executions { IsDistinct nat_eq (map (λ execution. execution.place) rows.now.executions) }
+    ensures repeated { OnOk result (first_repeated rows.now.orders ≡ None) }
+    ensures unknown { OnOk result (first_unknown rows.now.orders rows.now.executions ≡ None) }
+    ensures sales { IfOk result (λ sales. sales.items ≡ priced rows.now.orders rows.now.executions) }
     ensures fault { IfErr result (λ refused. IfDay refused (λ fault.
-        IsReferenceFault orders.now executions.now fault)) }
+        IsReferenceFault rows.now.orders rows.now.executions fault)) }
 {
-    let Built { table, repeated } = OrderTable::build(alloc, orders)?;
+    let mut orders = Vec::new(alloc);
+    rows.orders().append_to(&mut orders)?;
+    let Built { table, repeated } = OrderTable::of_vec(orders);
     if let Some(Repeated { place, order_no }) = repeated {
         return Err(Refused::Day(DayFault::RepeatedReference { place, order_no }));
     }
-    let Priced { sales, unknown } = price_all(alloc, &table, executions)?;
+    let Priced { sales, unknown } = price_all(alloc, &table, rows.executions())?;
     if let Some(Unknown { place, order_no }) = unknown {
         return Err(Refused::Day(DayFault::UnknownReference { place, order_no }));
     }

@@ -1,5 +1,5 @@
 -- What a reader of batches has read, as it goes on.
-use Rattle.std.proofs.Common.{◌≡◌, ℕ, ◌+◌, ◌≤◌, List, [], ◌++◌, length, All, ap, ◌∙◌, subst, append_assoc, arith, inl}
+use Rattle.std.proofs.Common.{◌≡◌, ℕ, ◌+◌, ◌≤◌, List, [], ◌++◌, length, All, ap, subst, append_assoc, arith, inl}
 use Rattle.std.specs.List.{concat}
 use Rattle.std.proofs.lemmas.List.{length-append}
 use Rattle.std.proofs.lemmas.List.Folds.{concat-append}
@@ -7,11 +7,12 @@ use Rattle.std.proofs.lemmas.List.Elements.{All-append}
 use Rattle.day_file.specs.Cuts.{IsCutBy}
 use Rattle.day_file.specs.Feeding.{CutterView, HasFed, IsFullRun, fed_length}
 use Rattle.day_file.specs.Frames.{IsTruncatedAt}
+use Rattle.day_file.specs.Given.{GaveAll}
 use Rattle.day_file.specs.declared.source.Source.{Ghosts as SourceOf}
 use Rattle.day_file.proofs.Fed.{fed_length_is, truncated_after_full}
 use Rattle.day_file.proofs.CutsBy.{cut_after}
 use Rattle.streaming.specs.Batches.{HasRead, IsLastFault, IsReadTo, IsReading, ReaderView, read_length}
-use Rattle.streaming.specs.Readings.{GaveAll, GaveSome, IsSourceFault, of_stream}
+use Rattle.streaming.specs.Readings.{IsSourceFault, of_stream}
 use Rattle.streaming.specs.declared.fault.SourceFault.{SourceFault}
 use Rattle.streaming.specs.declared.fault.SourceFault.TheVariants as fault
 
@@ -35,18 +36,7 @@ module _ {S : Type 0} (stream : SourceOf S) where
   pub read_to_none : (now : S) (reader : ReaderView) → stream.Gave now now [] → HasRead reader [] [] → IsReadTo stream now now [] reader
   read_to_none now reader gave has = record { bytes = []; gave = gave; has = has }
 
--- the source gives one piece more
-module _ {S : Type 0} (stream : SourceOf S)
-    (gave_more : (a b c : S) (xs ys : List ℕ) → stream.Gave a b xs → stream.Gave b c ys → stream.Gave a c (xs ++ ys))
-    {before was now : S} {bytes piece : List ℕ} (so_far : stream.Gave before was bytes) (gave : stream.Gave was now piece) where
-  pub gave_some : {limit : ℕ} → length bytes + length piece ≤ limit + 1 → GaveSome stream limit before now
-  gave_some within =
-      record { bytes = bytes ++ piece; gave = gave_more _ _ _ _ _ so_far gave; within = omega (arith, length-append bytes piece, within) }
-
-  pub gave_longer : (limit : ℕ) → length bytes + length piece ≡ limit + 1 → (all : List ℕ) × stream.Gave before now all × (length all ≡ limit + 1)
-  gave_longer limit longer = (bytes ++ piece, gave_more _ _ _ _ _ so_far gave, length-append bytes piece ∙ longer)
-
--- and the cutter of a reader is fed it
+-- the source gives one piece more, and the cutter of a reader is fed it
 pub read_on : {S : Type 0} (stream : SourceOf S)
     → ((a b c : S) (xs ys : List ℕ) → stream.Gave a b xs → stream.Gave b c ys → stream.Gave a c (xs ++ ys))
     → {before was now : S} {runs : List (List ℕ)} {reader : ReaderView} {cutter : CutterView} {piece : List ℕ} (to : IsReadTo stream before was runs reader)

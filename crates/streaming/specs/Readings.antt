@@ -1,9 +1,10 @@
 -- What is known of a source after it was read, whichever kind of source it is.
 -- To be believed.
-use Rattle.std.specs.Prelude.{◌≡◌, ℕ, ◌+◌, ◌<◌, ◌≤◌, ◌⊎◌, List, length}
+use Rattle.std.specs.Prelude.{◌≡◌, ℕ, ◌<◌, ◌≤◌, ◌⊎◌, List, length}
 use Rattle.lists.specs.declared.limits.TheConstants.{MOST_MORSELS}
 use Rattle.day_file.specs.Cuts.{IsCutBy}
 use Rattle.day_file.specs.Frames.{IsTruncatedAt}
+use Rattle.day_file.specs.Given.{GaveAll, GaveMore, GaveSome}
 use Rattle.day_file.specs.declared.source.Source.{Ghosts as SourceOf}
 use Rattle.streaming.specs.declared.fault.SourceFault.{SourceFault}
 use Rattle.streaming.specs.declared.fault.SourceFault.TheVariants as fault
@@ -37,21 +38,6 @@ IsSourceFault reading (fault.Truncated place) =
 IsSourceFault reading fault.TooManyMorsels = reading.too_many
 IsSourceFault reading fault.OutOfMemory = reading.some
 
--- S is the states of a source, and `stream` the members of its `Source`: `stream.Gave` says which bytes it gave from
--- one state to a later one, and `stream.HasEnded` that it said that no byte is left.
-module _ {S : Type 0} (stream : SourceOf S) where
-  -- the source gave some bytes, at most one more than the limit
-  pub record GaveSome (limit : ℕ) (before after : S) : Type 0 where
-    pub bytes : List ℕ
-    pub gave : stream.Gave before after bytes
-    pub within : length bytes ≤ limit + 1
-
-  -- the source gave these bytes, no more than the limit, and has said that no byte is left
-  pub record GaveAll (limit : ℕ) (before after : S) (day : List ℕ) : Type 0 where
-    pub gave : stream.Gave before after day
-    pub ended : stream.HasEnded after
-    pub within : length day ≤ limit
-
 -- what is known of a source S that is read in order, and whose bytes are cut by the target, from its states before
 -- and after. `all` says of bytes that it gave them up to its end, within the limit; `answerable`, that they are
 -- truncated or have few enough morsels; `some` and `failed`, that it gave at most one byte more than the limit;
@@ -63,7 +49,7 @@ of_stream stream limit target before after = record {
   answerable = λ day. ((place : ℕ) × IsTruncatedAt day place)
       ⊎ ((runs : List (List ℕ)) × IsCutBy target runs day × (length runs ≤ MOST_MORSELS));
   some = GaveSome stream limit before after;
-  longer = (bytes : List ℕ) × stream.Gave before after bytes × (length bytes ≡ limit + 1);
+  longer = GaveMore stream limit before after;
   failed = GaveSome stream limit before after;
   too_many = (day : List ℕ) × GaveAll stream limit before after day
       × ((runs : List (List ℕ)) × IsCutBy target runs day × (MOST_MORSELS < length runs));

@@ -154,6 +154,7 @@ impl BatchReader {
 
 // Feeds the cutter what one call of the source gives, at most what has room in `piece`, and says how many bytes those
 // are. No more than `left` and one more are asked for.
+#[tactic(auto, using(day_file::proofs::Given::some_given))]
 fn feed_next<S: Source>(
     source: &mut S,
     cutter: &mut Cutter,

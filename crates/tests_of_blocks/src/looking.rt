@@ -6,10 +6,12 @@ use std::test::Fail;
 /// The bytes of a frame of an added order.
 const FRAME: u64 = 38;
 
-/// A file as long as one may be, of orders whose references are in no order, and multiples of a number. One in so many
-/// frames adds an order, and the others are of a type that isn't read. It fails from the place `bad` on to its end.
+/// A file as long as one may be, of orders whose references rise or are in no order, and are multiples of a number.
+/// One in so many frames adds an order, and the others are of a type that isn't read. It fails from the place `bad` on
+/// to its end.
 #[derive(Drop)]
 struct Orders {
+    rise: bool,
     apart: u64,
     one_in: u64,
     bad: u64,
@@ -19,7 +21,8 @@ impl Orders {
     /// The byte at a place.
     fn byte_at(&self, place: u64) -> u8 {
         let number = place / FRAME;
-        let reference = (number.wrapping_mul(0x9e37_79b9_7f4a_7c15) >> 20).wrapping_mul(self.apart);
+        let mixed = number.wrapping_mul(0x9e37_79b9_7f4a_7c15) >> 20;
+        let reference = (if self.rise { number } else { mixed }).wrapping_mul(self.apart);
         match place % FRAME {
             1 => FRAME as u8 - 2,
             2 if number % self.one_in.max(1) == 0 => b'A',
@@ -64,8 +67,9 @@ fn told(orders: Orders, blocks: u32, parts: u32) -> Result<u32, SourceFault> {
 }
 
 /// A file of which each frame adds an order.
-fn of_orders(apart: u64) -> Orders {
+fn of_orders(rise: bool, apart: u64) -> Orders {
     Orders {
+        rise,
         apart,
         one_in: 1,
         bad: u64::MAX,
@@ -84,7 +88,25 @@ fn references_of_one_partition_are_put_into_others(rt: HostRuntime) -> Result<()
         (1, 1, 1),
     ] {
         assert!(rt;
-            told(of_orders(apart), 8, parts) == Ok(want),
+            told(of_orders(true, apart), 8, parts) == Ok(want),
+            "{apart} {parts}"
+        );
+    }
+    Ok(())
+}
+
+#[test]
+fn references_in_no_order_are_put_into_fewer_partitions(rt: HostRuntime) -> Result<(), Fail> {
+    for (apart, parts, want) in [
+        (1, 64, 48),
+        (64, 64, 49),
+        (64 * 49, 64, 50),
+        (256, 256, 193),
+        (64, 4, 3),
+        (1, 1, 1),
+    ] {
+        assert!(rt;
+            told(of_orders(false, apart), 8, parts) == Ok(want),
             "{apart} {parts}"
         );
     }
@@ -95,6 +117,7 @@ fn references_of_one_partition_are_put_into_others(rt: HostRuntime) -> Result<()
 fn few_references_choose_nothing(rt: HostRuntime) -> Result<(), Fail> {
     for (one_in, want) in [(12, 65), (16, 64)] {
         let orders = Orders {
+            rise: true,
             apart: 64,
             one_in,
             bad: u64::MAX,
@@ -112,6 +135,7 @@ fn a_short_source_is_not_looked_at(rt: HostRuntime) -> Result<(), Fail> {
         (7 << 20, 8, Err(SourceFault::ReadFailed)),
     ] {
         let orders = Orders {
+            rise: true,
             apart: 64,
             one_in: 1,
             bad,

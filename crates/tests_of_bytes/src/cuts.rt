@@ -10,8 +10,8 @@ use tests_support::{Day, NAMED, file_of};
 /// Where the morsels start.
 fn starts(alloc: Global, cut: &Cut) -> Result<Vec<u64>, AllocError> {
     let mut starts = Vec::new(alloc);
-    for number in 0..cut.count() {
-        starts.push(cut.morsel(number).start())?;
+    for morsel in cut.morsels() {
+        starts.push(morsel.start())?;
     }
     Ok(starts)
 }

@@ -3,13 +3,13 @@
 #![tactic(auto)]
 
 #[cfg(test)]
+mod bar_ranges;
+#[cfg(test)]
 mod lines;
 #[cfg(test)]
 mod listings;
 #[cfg(test)]
 mod names;
-#[cfg(test)]
-mod ranges;
 #[cfg(test)]
 mod sale_ranges;
 #[cfg(test)]

@@ -4,7 +4,7 @@ ghost use Rattle.std.specs.List.Sorted.{IsPermutation};
 ghost use Rattle.lists.specs.declared.limits.TheConstants.{TIME_LIMIT};
 ghost use Rattle.time_and_sales.specs.Lent.{AreApart, all_sales};
 
-use crate::ranges::{joined, names, sale};
+use crate::bar_ranges::{joined, names, sale};
 use probe::Sale;
 use std::alloc::Global;
 use std::test::Fail;

@@ -1,7 +1,5 @@
 pub mod LastRows
-pub mod MadeTexts
 pub mod MergedListings
-pub mod RangesJoined
 pub mod SalesInRanges
 pub mod SortedByPlace
 pub mod TrailingSpaces

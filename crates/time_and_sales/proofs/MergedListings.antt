@@ -10,10 +10,11 @@ use Rattle.std.proofs.lemmas.List.Folds.{flat_map-map}
 use Rattle.std.proofs.lemmas.Iterator.Adapters.{YieldsList-from_vec}
 use Rattle.std.proofs.lemmas.Map.Keys.{Less-from_sorted}
 use Rattle.itertools.specs.KMerge.{SourcesGive}
+use Rattle.ranges.specs.Ranges.{all_items}
+use Rattle.ranges.proofs.MadeTexts.{none_left}
 use Rattle.row_types.specs.declared.trade.Sale.{Sale}
 use Rattle.row_types.specs.SalesByPlace.{place_cmp, IsByPlace}
-use Rattle.time_and_sales.specs.Lent.{all_items, all_sales}
-use Rattle.time_and_sales.proofs.MadeTexts.{none_left}
+use Rattle.time_and_sales.specs.Lent.{all_sales}
 
 abbrev pub before : Sale → Sale → Bool
 before a b = ltb a.place b.place

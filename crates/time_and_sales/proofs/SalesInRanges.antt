@@ -1,17 +1,15 @@
 -- The sales of many listings that are in a range of places.
-use Rattle.std.proofs.Common.{◌≡◌, ℕ, Bool, All, Bor, List, ◌++◌, filter, IsPermutation, arith}
+use Rattle.std.proofs.Common.{◌≡◌, Bool, All, Bor, List, filter, IsPermutation, arith}
 use Rattle.std.specs.List.Sorted.{IsNonDecreasingBy}
 use Rattle.std.proofs.lemmas.Grind.{common_steps}
 use Rattle.std.proofs.lemmas.List.{get_or-map, length-map, map_more}
-use Rattle.std.proofs.lemmas.List.Concat.{flat_map-append}
 use Rattle.std.proofs.lemmas.List.Elements.{All-filter, filter-append}
 use Rattle.std.proofs.lemmas.List.Kept.{IsStrictlySortedBy-filter}
 use Rattle.std.proofs.lemmas.List.Sorted.{All-permutation, IsPermutation-sym, IsPermutation-trans}
-use Rattle.lists.proofs.Lists.{IsPermutation-filter}
+use Rattle.lists.proofs.Lists.{IsPermutation-filter, flat_map_next, flat_map_push}
 use Rattle.row_types.specs.SalesByPlace.{place_cmp, IsByPlace}
 use Rattle.time_and_sales.specs.Lent.{lent}
-use Rattle.time_and_sales.specs.Texts.{Sale, lines_text, sale_line}
-use Rattle.time_and_sales.proofs.RangesJoined.{flat_map_next, flat_map_push}
+use Rattle.time_and_sales.specs.Texts.{Sale}
 use Rattle.time_and_sales.proofs.SortedByPlace.{one_order, place_of, places_rise}
 
 pub seen_rise : (sales : List (Bor Sale)) → IsNonDecreasingBy (λ (sale : Bor Sale). sale.now.place) sales → IsNonDecreasingBy place_of (lent sales)
@@ -33,9 +31,6 @@ pub range_has : (P : Sale → Type 0) (p : Sale → Bool) (sales : List Sale) (r
 range_has P p sales range all part k d h =
     rw (get_or-map (λ (sale : Bor Sale). sale.now) range k d d.now h) at
     (All-permutation P (filter p sales) (lent range) part (All-filter p P sales all) k d.now (omega (arith, length-map range (λ (sale : Bor Sale). sale.now))))
-
-pub lines-append : (name : ℕ → List ℕ) (xs ys : List Sale) → lines_text name (xs ++ ys) ≡ lines_text name xs ++ lines_text name ys
-lines-append name xs ys = flat_map-append (λ (sale : Sale). sale_line sale (name sale.locate)) xs ys
 
 -- what the loops over listings and over sales take
 pub ruleset loops = (common_steps, map_more, filter-append, flat_map_next, flat_map_push, places_rise)

@@ -1,6 +1,6 @@
 -- Lists that are lent, and what lists of lists have together.
--- To be believed of a crate used by itself: clauses on many listings, tables or pieces of a text are in these words.
-use Rattle.std.specs.Prelude.{List, Vec, map, nat_eq}
+-- To be believed of a crate used by itself: clauses on many listings or tables are in these words.
+use Rattle.std.specs.Prelude.{List, map, nat_eq}
 use Rattle.std.specs.Borrow.{Bor}
 use Rattle.std.specs.List.{IsDistinct, flat_map}
 use Rattle.row_types.specs.declared.trade.Sale.{Sale}
@@ -16,7 +16,3 @@ all_sales lists = flat_map (λ sales. sales) lists
 -- no two of the sales have one place
 abbrev pub AreApart : List Sale → Type 0
 AreApart sales = IsDistinct nat_eq (map (λ sale. sale.place) sales)
-
--- the items of all vectors, vector by vector
-abbrev pub all_items : {X A : Type 0} → List (Vec X A) → List X
-all_items {X} {A} vectors = flat_map (λ (one : Vec X A). one.items) vectors

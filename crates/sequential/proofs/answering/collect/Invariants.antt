@@ -1,5 +1,5 @@
 use Rattle.std.proofs.Common.{◌≡◌}
-use Rattle.day_rows.proofs.RowsOfFrames.{IsCollecting}
+use Rattle.sequential.proofs.Steps.{IsCollecting}
 use Rattle.sequential.proofs.answering.collect.Given as goal
 
 -- the frames so far have right lengths, and have given their rows

@@ -2,18 +2,12 @@ use Rattle.std.proofs.Common.{◌++◌, subst, arith, length-take}
 use Rattle.std.proofs.lemmas.Result.{err_from_is_err_and}
 use Rattle.std.proofs.lemmas.List.{length-take-le, take-append-le}
 use Rattle.day_file.specs.Feeding.{HasFed}
-use Rattle.streaming.proofs.JoinedBatches.{gave_longer, gave_some}
+use Rattle.day_file.proofs.Given.{more_given, some_given}
 use Rattle.streaming.proofs.batches.feed_next.Goals as goal
-
-pub returns-in_err-taken-clause-fault : goal.returns-in_err-taken-clause-fault
-returns-in_err-taken-clause-fault g c =
-    let p = err_from_is_err_and c.from_residual.result c.from_residual.ensures.1 in
-    rw (p.1, p.2) (λ before bytes limit target so_far long.
-    gave_some g.S.Source g.met.S.Source.gave_more so_far c.in_err-taken.ensures.gave (omega (arith, long)))
 
 pub returns-then-taken-left-clause-fault : goal.returns-then-taken-left-clause-fault
 returns-then-taken-left-clause-fault g c = λ before bytes limit target so_far long.
-    gave_longer g.S.Source g.met.S.Source.gave_more so_far c.in_ok-taken.ensures.gave limit (omega (
+    more_given g.S.Source g.met.S.Source.gave_more so_far c.in_ok-taken.ensures.gave (omega (
       arith,
       long,
       length-take-le c.in_ok-taken.taken c.take.new.into c.in_ok-taken.ensures.count,
@@ -28,7 +22,7 @@ pub returns-in_err-feed-clause-fault : goal.returns-in_err-feed-clause-fault
 returns-in_err-feed-clause-fault g c =
     let p = err_from_is_err_and c.from_residual-in_err-feed.result c.from_residual-in_err-feed.ensures.1 in
     rw (p.1, p.2) (λ before bytes limit target so_far long.
-    gave_some g.S.Source g.met.S.Source.gave_more so_far c.in_ok-taken.ensures.gave
+    some_given g.S.Source g.met.S.Source.gave_more so_far c.in_ok-taken.ensures.gave
     (omega (arith, long, length-take-le c.in_ok-taken.taken c.take.new.into c.in_ok-taken.ensures.count, c.if-taken-left.false)))
 
 pub returns-clause-fed : goal.returns-clause-fed

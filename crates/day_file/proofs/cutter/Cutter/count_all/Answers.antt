@@ -5,7 +5,7 @@ use Rattle.day_file.proofs.cutter.Cutter.count_all.Goals.{then-self-gt0-via-then
 
 pub returns-in-Err-clause-fault : goal.returns-in-Err-clause-fault
 returns-in-Err-clause-fault c =
-    rw (← c.self.view_is) (λ fed has. rw c.length.ensures
+    rw (← c.self.view_is) (λ fed has. rw c.length.ensures.same
     (fed_truncated _ fed has c.in-Err.fault.place (rw (c.left.ensures.same, ← c.self.view_is) at c.in-Err.ensures.truncated)))
 
 pub returns-then-self-gt0-clause-fault : goal.returns-then-self-gt0-clause-fault

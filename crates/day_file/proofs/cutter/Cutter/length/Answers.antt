@@ -8,4 +8,4 @@ pub returns-clause-fed : goal.returns-clause-fed
 returns-clause-fed c = λ fed has.
     let s = c.self.inside in
     let now = ap fed_length c.self.view_is in
-    omega (arith, fed_length_is c.args.self.now fed has, now, c.length.ensures, c.len.ensures, s.rest.ok.0, length-drop s.start s.rest.items)
+    omega (arith, fed_length_is c.args.self.now fed has, now, c.length.ensures.same, c.len.ensures, s.rest.ok.0, length-drop s.start s.rest.items)

@@ -12,7 +12,7 @@ invariant_of-self-2 c =
         has = left.2;
         same = c.in_ok-cut.ensures.target ∙ inv.same;
         target_is = inv.target_is;
-        within = omega (arith, inv.within, c.in_ok-cut.ensures.length, c.length-2.ensures);
+        within = omega (arith, inv.within, c.in_ok-cut.ensures.length, c.length-2.ensures.same);
         limit_is = inv.limit_is;
         few = omega (
           arith,
@@ -29,5 +29,5 @@ invariant_of-self-2 c =
 pub returns-clause-taken : goal.returns-clause-taken
 returns-clause-taken c = λ runs bytes has.
     let s = c.self.inside in
-    rw (c.count-2.ensures.count, c.length-2.ensures) (batch_taken c.in_ok-cut.cut
+    rw (c.count-2.ensures.count, c.length-2.ensures.same) (batch_taken c.in_ok-cut.cut
     (rw c.self.invariant.0.same at c.in_ok-cut.ensures.full) c.in_ok-cut.ensures.fed (subst (λ v. HasRead v runs bytes) (sym c.self.view_is) has))

@@ -1,5 +1,0 @@
-use Rattle.answers.proofs.MomentLaws.{counted_decide}
-use Rattle.answers.proofs.laws.counted_messages_decide.Goals as goal
-
-pub returns : goal.returns
-returns c = counted_decide

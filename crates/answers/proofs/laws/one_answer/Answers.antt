@@ -1,5 +1,0 @@
-use Rattle.answers.proofs.OneAnswer.{answers_are_one}
-use Rattle.answers.proofs.laws.one_answer.Goals as goal
-
-pub returns : goal.returns
-returns c = answers_are_one

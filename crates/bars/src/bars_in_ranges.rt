@@ -1,0 +1,154 @@
+//! The lines of many tables, of ranges of locates by threads.
+ghost use Rattle.std.specs.Prelude.{◌≡◌, ◌<◌, ◌++◌, All, IfOk, OnOk, List, filter, map};
+ghost use Rattle.std.specs.List.Sorted.{IsSorted};
+ghost use Rattle.lists.specs.declared.limits.TheConstants.{TIME_LIMIT};
+ghost use Rattle.ranges.specs.Ranges.{all_items, is_in_first};
+ghost use Rattle.time_and_sales.specs.Lent.{lent};
+ghost use Rattle.time_and_sales.specs.Names.{names_by};
+ghost use Rattle.bars.specs.Bars.{FitIfTraded, IsTraded, IsUnionOf, all_bars, key_cmp};
+ghost use Rattle.bars.specs.Steps.{AreJoinedAlike, bar_at};
+ghost use Rattle.bars.specs.Texts.{lines_text};
+ghost use Rattle.bars.specs.declared.bar.Bar.{Bar as TheBar};
+
+use crate::OutOfMemory;
+use crate::bar::Bar;
+use crate::bucket_bars::BucketBars;
+use crate::form::Form;
+use crate::joined_lines::joined_lines;
+use crate::keyed::{Keyed, append_bars, append_sales};
+use crate::located::ByLocate;
+use ranges::{numbers_of, texts_in_ranges, within};
+use std::alloc::Global;
+use std::thread::Threads;
+use time_and_sales::Names;
+
+/// The lines of the bars of all tables, those of one locate and start joined, in pieces that are
+/// one text when they are put together. There are `ranges` pieces, or one: each is of the bars in a
+/// range of locates, which a thread of its own joins and writes. It is refused if a thread was
+/// refused memory.
+pub fn lines_in_ranges<R: Threads + Sync>(
+    rt: &R,
+    alloc: Global,
+    tables: &[&BucketBars],
+    names: &Names,
+    ranges: u32,
+) -> Result<Vec<Vec<u8>>, OutOfMemory>
+    requires sums { FitIfTraded (all_bars (lent tables.now)) }
+    requires starts { All (λ bar. bar.start < TIME_LIMIT) (all_bars (lent tables.now)) }
+    ensures { IfOk result (λ texts. (all : List TheBar) →
+        IsUnionOf (all_bars (lent tables.now)) all →
+        all_items texts.items ≡ lines_text (names_by names.now) all) }
+{
+    let locates = match longest(tables) {
+        Some(Form::Sales { sales, .. }) => {
+            numbers_of::<ByLocate, _>(alloc, sales.as_slice(), ranges)?
+        }
+        Some(Form::Bars(bars)) => numbers_of::<ByLocate, _>(alloc, bars.items(), ranges)?,
+        None => Vec::new(alloc),
+    };
+    texts_in_ranges::<Bar, _, _>(
+        rt,
+        alloc,
+        locates.as_slice(),
+        &|bounds: &[u64]| range_lines(alloc, tables, names, bounds),
+    )
+}
+
+/// Of what most is kept among the tables.
+fn longest<'a>(tables: &[&'a BucketBars]) -> Option<&'a Form> {
+    let forms = tables.iter().map(|table| table.form());
+    forms.max_by_key(|form| form.len())
+}
+
+/// The lines of the bars of all tables whose locates are in the first range.
+fn range_lines(
+    alloc: Global,
+    tables: &[&BucketBars],
+    names: &Names,
+    bounds: &[u64],
+) -> Result<Vec<u8>, OutOfMemory>
+    requires sums { FitIfTraded (all_bars (lent tables.now)) }
+    requires starts { All (λ bar. bar.start < TIME_LIMIT) (all_bars (lent tables.now)) }
+    ensures { IfOk result (λ text. (all : List TheBar) →
+        IsUnionOf (all_bars (lent tables.now)) all →
+        text.items ≡ lines_text (names_by names.now)
+        (filter (is_in_first (λ bar. bar.locate) bounds.now) all)) }
+{
+    let sorted = range_of(alloc, tables, bounds)?;
+    joined_lines(alloc, sorted.as_slice(), names)
+}
+
+/// What is kept of all tables of locates in the first range, in order of the keys of the bars.
+fn range_of<'a>(
+    alloc: Global,
+    tables: &[&'a BucketBars],
+    bounds: &[u64],
+) -> Result<Vec<Keyed<'a>>, OutOfMemory>
+    ensures rise { IfOk result (λ sorted. IsSorted key_cmp (map bar_at sorted.items)) }
+    ensures alike { IfOk result (λ sorted. AreJoinedAlike (map bar_at sorted.items)
+        (filter (is_in_first (λ bar. bar.locate) bounds.now) (all_bars (lent tables.now)))) }
+    ensures traded { IfOk result (λ sorted. All IsTraded (map bar_at sorted.items)) }
+    ensures tables { OnOk result (All IsTraded (all_bars (lent tables.now))) }
+{
+    let mut keyed = gathered(alloc, tables, bounds)?;
+    keyed.sort_by_key(|one| one.key())?;
+    Ok(keyed)
+}
+
+/// What is kept of all tables of locates in the first range, each sale or bar beside its key.
+#[tactic(auto, using(crate::proofs::BarsInRanges::gathering))]
+fn gathered<'a>(
+    alloc: Global,
+    tables: &[&'a BucketBars],
+    bounds: &[u64],
+) -> Result<Vec<Keyed<'a>>, OutOfMemory>
+    ensures alike { IfOk result (λ keyed. AreJoinedAlike (map bar_at keyed.items)
+        (filter (is_in_first (λ bar. bar.locate) bounds.now) (all_bars (lent tables.now)))) }
+    ensures traded { IfOk result (λ keyed. All IsTraded (map bar_at keyed.items)) }
+    ensures tables { OnOk result (All IsTraded (all_bars (lent tables.now))) }
+{
+    let mut keyed = Vec::with_capacity(alloc, count_within(tables, bounds))?;
+    for table in tables {
+        append_within(&mut keyed, table, bounds)?;
+    }
+    Ok(keyed)
+}
+
+/// Appends what is kept of a table of locates in the first range.
+#[tactic(auto, using(crate::proofs::BarsInRanges::locates_rise))]
+fn append_within<'a>(
+    keyed: &mut Vec<Keyed<'a>>,
+    table: &'a BucketBars,
+    bounds: &[u64],
+) -> Result<(), OutOfMemory>
+    ensures alike { OnOk result (AreJoinedAlike (map bar_at keyed.new.items)
+        (map bar_at keyed.old.items ++ filter (is_in_first (λ bar. bar.locate) bounds.now) table.now)) }
+    ensures traded { OnOk result
+        (All IsTraded (map bar_at keyed.old.items) → All IsTraded (map bar_at keyed.new.items)) }
+    ensures table { All IsTraded table.now }
+{
+    match table.form() {
+        Form::Sales { sales, width } => {
+            append_sales(
+                keyed,
+                within::<ByLocate, _>(sales.as_slice(), bounds),
+                *width,
+            )
+        }
+        Form::Bars(bars) => append_bars(keyed, within::<ByLocate, _>(bars.items(), bounds)),
+    }
+}
+
+/// How much is kept of all tables of locates in the first range, for room for it to be made.
+#[tactic(auto, using(crate::proofs::BarsInRanges::locates_rise))]
+fn count_within(tables: &[&BucketBars], bounds: &[u64]) -> usize {
+    let mut count = 0usize;
+    for table in tables {
+        let more = match table.form() {
+            Form::Sales { sales, .. } => within::<ByLocate, _>(sales.as_slice(), bounds).len(),
+            Form::Bars(bars) => within::<ByLocate, _>(bars.items(), bounds).len(),
+        };
+        count = count.saturating_add(more);
+    }
+    count
+}

@@ -1,6 +1,0 @@
-use Rattle.std.proofs.lemmas.Bool.{ltb-true}
-use Rattle.buckets.proofs.RisingRows.{below_last}
-use Rattle.buckets.proofs.rising.are_below.Goals as goal
-
-pub returns-else-is_empty : goal.returns-else-is_empty
-returns-else-is_empty c = λ less. below_last c.args.parts.now c.args.order_no c.index-parts-parts.result c.requires (ltb-true _ _ less)

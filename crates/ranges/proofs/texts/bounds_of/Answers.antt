@@ -1,0 +1,9 @@
+use Rattle.std.proofs.Common.{◌++◌, ap, sym, ◌∙◌}
+use Rattle.std.proofs.lemmas.List.{append-nil, at_drop_all}
+use Rattle.ranges.specs.Ranges.{greatest_so_far}
+use Rattle.ranges.proofs.texts.bounds_of.Goals as goal
+
+pub returns : goal.returns
+returns c =
+    let none = at_drop_all (greatest_so_far c.loop-number.bound) c.args.numbers.now c.loop-number.number-index c.loop-number-test.false in
+    sym (append-nil c.loop-number.bounds.items) ∙ ap (λ l. c.loop-number.bounds.items ++ l) (sym none) ∙ c.loop-number.invariant

@@ -1,0 +1,5 @@
+use Rattle.rehearsals.proofs.EachOnce.{all_arrived}
+use Rattle.rehearsals.proofs.rehearsal_laws.all_arrived_answers.Goals as goal
+
+pub returns : goal.returns
+returns c = all_arrived

@@ -1,0 +1,67 @@
+//! The inputs of all scans of a cut.
+ghost use Rattle.std.specs.Prelude.{◌≡◌, ◌+◌, ◌<◌, ◌≤◌, All, IfOk, OnOk, length};
+ghost use Rattle.std.specs.List.{concat};
+ghost use Rattle.lists.specs.declared.limits.TheConstants.{LONGEST_FILE, MOST_MORSELS, MOST_PARTITIONS};
+ghost use Rattle.lists.specs.Among.{AreBytes};
+ghost use Rattle.day_file.specs.Cuts.{IsRun};
+ghost use Rattle.scanning.specs.Scans.{inputs_from, inputs_of};
+
+use crate::OutOfMemory;
+use crate::input::ScanInput;
+use crate::scan_work::ScanWork;
+use day_file::Cut;
+use gathering::Inputs;
+use std::alloc::Global;
+use std::sync::Arc;
+
+/// The inputs of the scans of a cut: each of its morsels, in order, with this moment, in seconds since
+/// midnight, and this number of partitions. They share the morsels with the cut, whose bytes are freed
+/// once both are let go.
+///
+/// It is refused if memory for the list of inputs, or for one of them, is refused.
+pub fn scan_inputs(
+    alloc: Global,
+    cut: &Cut,
+    as_of: Option<u32>,
+    parts: u32,
+) -> Result<Inputs<ScanWork>, OutOfMemory>
+    requires { (0 < parts) × (parts ≤ MOST_PARTITIONS) }
+    ensures inputs { IfOk result (λ inputs. inputs ≡ inputs_of as_of parts cut.now) }
+    ensures runs { OnOk result (All IsRun cut.now) }
+    ensures bytes { OnOk result (All AreBytes cut.now) }
+    ensures within { OnOk result (length (concat cut.now) ≤ LONGEST_FILE) }
+{
+    batch_inputs(alloc, cut, 0, 0, as_of, parts)
+}
+
+/// The inputs of the scans of morsels of a cut that follow each other, where these were cut by themselves:
+/// the first is the morsel `first` of the whole file, and `start` bytes come before it. If none do, nothing
+/// is required of the cut, which has few morsels by itself and is no longer than a file may be. Otherwise they
+/// are as those of `scan_inputs`, and as that it is refused.
+#[tactic(auto, using(crate::proofs::MorselInputs::making))]
+pub fn batch_inputs(
+    alloc: Global,
+    cut: &Cut,
+    first: u32,
+    start: u64,
+    as_of: Option<u32>,
+    parts: u32,
+) -> Result<Inputs<ScanWork>, OutOfMemory>
+    requires parts { (0 < parts) × (parts ≤ MOST_PARTITIONS) }
+    requires within { 0 < start → start + length (concat cut.now) ≤ LONGEST_FILE }
+    requires few { 0 < first → first + length cut.now ≤ MOST_MORSELS }
+    ensures inputs { IfOk result (λ inputs. inputs ≡ inputs_from first start as_of parts cut.now) }
+    ensures runs { OnOk result (All IsRun cut.now) }
+    ensures bytes { OnOk result (All AreBytes cut.now) }
+    ensures within { OnOk result (length (concat cut.now) ≤ LONGEST_FILE) }
+{
+    let morsels = cut.morsels();
+    let mut inputs = Vec::with_capacity(alloc, morsels.len())?;
+    for morsel in morsels {
+        let number = first + morsel.number();
+        let place = start + morsel.start();
+        let input = ScanInput::of(Arc::try_clone(morsel)?, number, place, as_of, parts);
+        inputs.push(Arc::new(alloc, input)?)?;
+    }
+    Ok(Inputs::of(inputs))
+}

@@ -1,0 +1,53 @@
+//! The work whose tasks are the scans of morsels.
+ghost use Rattle.std.specs.Prelude.{◌≡◌};
+ghost use Rattle.std.proofs.Common.{◌∙◌, ap, sym};
+ghost use Rattle.lists.proofs.Exact.{exact_list};
+ghost use Rattle.scanning.specs.Scans.{AreOfOneCut, exact_input, scanned, total_of};
+
+use crate::OutOfMemory;
+use crate::input::ScanInput;
+use crate::open_scan::OpenScan;
+use crate::output::Scanned;
+use crate::total::ScanTotal;
+use gathering::Work;
+use std::alloc::Global;
+
+/// Scans morsels. The morsels of one cut may be scanned, with one moment and one number of
+/// partitions.
+#[derive(Drop)]
+pub struct ScanWork;
+
+impl Work for ScanWork {
+    type Input = ScanInput;
+
+    type Output = Scanned;
+
+    type Total = ScanTotal;
+
+    ghost Gives = { λ input output. output ≡ scanned input };
+
+    ghost IsTotalOf = { λ inputs total. total ≡ total_of inputs };
+
+    ghost IsAdmissible = { AreOfOneCut };
+
+    ghost equal_values = { λ a b output same is. is ∙ ap scanned (exact_input.one a b same) };
+
+    ghost equal_totals = { λ xs ys same total is. is ∙ sym (ap total_of ((exact_list exact_input).one xs ys same)) };
+
+    fn run(alloc: Global, input: &ScanInput) -> Result<Scanned, OutOfMemory> {
+        let as_of = input.as_of();
+        let bytes = input.bytes().len() as u64;
+        let mut scan = OpenScan::new(alloc, input.parts(), bytes)?;
+        scan.take_in(as_of, input.frames(), u64::MAX)?;
+        scan.finish(alloc)
+    }
+
+    fn empty(alloc: Global) -> ScanTotal {
+        ScanTotal::empty(alloc)
+    }
+
+    #[tactic(auto, using(crate::proofs::TotalOfScans::total_more))]
+    fn add(total: &mut ScanTotal, output: &Scanned) -> Result<(), OutOfMemory> {
+        total.add(output)
+    }
+}
