@@ -1,4 +1,4 @@
-ghost use Rattle.std.specs.Prelude.{◌≡◌, ◌<◌, ◌^◌, IfOk, IfSome, length};
+ghost use Rattle.std.specs.Prelude.{◌≡◌, ◌↔◌, ◌<◌, ◌≤◌, ◌^◌, IfOk, IfSome, IsErr, IsNone, length};
 ghost use Rattle.ranges.specs.Ranges.{all_items};
 
 use crate::OutOfMemory;
@@ -26,7 +26,8 @@ impl<A: Allocator> Text<A> {
     /// The text of these pieces. It is refused if they have 2^64 bytes or more, for which no machine
     /// has memory.
     pub fn of(pieces: Vec<Vec<u8, A>, A>) -> Result<Self, OutOfMemory>
-        ensures { IfOk result (λ text. text ≡ all_items pieces.items) }
+        ensures text { IfOk result (λ text. text ≡ all_items pieces.items) }
+        ensures refused { IsErr result ↔ (2 ^ 64 ≤ length (all_items pieces.items)) }
     {
         match length_of(pieces.as_slice()) {
             Some(_) => Ok(Text { pieces }),
@@ -52,7 +53,8 @@ impl<A: Allocator> Text<A> {
 
 /// How many bytes the pieces have, if fewer than 2^64.
 fn length_of<A: Allocator>(pieces: &[Vec<u8, A>]) -> Option<u64>
-    ensures { IfSome result (λ length_is. length_is ≡ length (all_items pieces.now)) }
+    ensures some { IfSome result (λ length_is. length_is ≡ length (all_items pieces.now)) }
+    ensures none { IsNone result → 2 ^ 64 ≤ length (all_items pieces.now) }
 {
     let mut length = 0u64;
     for piece in pieces {

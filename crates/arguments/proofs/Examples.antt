@@ -3,8 +3,7 @@ use Rattle.std.proofs.Common.{◌≡◌, refl, List, [], ◌∷◌, Some, codes,
 use Rattle.clap.specs.Words.{Text, fault_of, first_of, matches_of, one_of}
 use Rattle.clap.specs.declared.error.kind.ErrorKind.TheVariants as kind
 use Rattle.clap.proofs.OnLiterals.{clap_on_literals}
-use Rattle.arguments.specs.Arguments.{the_app}
-use Rattle.arguments.specs.Arguments.{is_given}
+use Rattle.arguments.specs.Arguments.{the_app, is_given}
 
 abbrev plain : List Text
 plain = codes "itch_bars" ∷ codes "day" ∷ codes "sales" ∷ []

@@ -1,7 +1,6 @@
 -- What clap found, as its getters give it: texts, and where values are from.
-use Rattle.std.proofs.Common.{arith}
+use Rattle.std.proofs.Common.{arith, ◌≡◌, ◌∙◌, Bool, Option, Some, sym, ap, is_some, true, Bor, find, option_and_then, option_map, bytes_eq}
 use Rattle.std.proofs.lemmas.Bool.Decides.{nat_tests}
-use Rattle.std.proofs.Common.{◌≡◌, ◌∙◌, Bool, Option, Some, sym, ap, is_some, true, Bor, find, option_and_then, option_map, bytes_eq}
 use Rattle.clap.specs.Facts.{Entry}
 use Rattle.clap.specs.Matches.{first_value, matched_of}
 use Rattle.clap.specs.Walk.{Row, Text, first_of, row_of, rows_of}

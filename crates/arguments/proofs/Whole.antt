@@ -7,6 +7,7 @@ use Rattle.std.proofs.lemmas.Bool.{both_ways}
 use Rattle.std.proofs.lemmas.List.{get_or-map, length-map}
 use Rattle.std.proofs.lemmas.Map.Keys.{apart_from_distinct}
 use Rattle.std.proofs.lemmas.Slice.Eq.{bytes_eq-Decides}
+use Rattle.lists.specs.declared.limits.TheConstants.{LARGEST_MORSEL, MOST_GATHERERS, MOST_PARTITIONS, MOST_WORKERS}
 use Rattle.clap.specs.Built.{IsParsedFrom, IsPlain, IsPlainArg}
 use Rattle.clap.specs.Facts.{args_of, groups_of, least_values, unwrap_or_range}
 use Rattle.clap.specs.Matches.{found_of}
@@ -34,10 +35,10 @@ use Rattle.arguments.proofs.Numbers.{HasNumberIn, signed_writes}
 pub record IsWhole (rows : List Row) : Type 0 where
   pub file : is_some (first_of (codes "FILE") rows) ≡ true
   pub query : is_some (first_of (codes "QUERY") rows) ≡ true
-  pub workers : HasNumberIn 1 64 (codes "workers") rows
-  pub morsel : HasNumberIn 1 1073741824 (codes "morsel") rows
-  pub partitions : HasNumberIn 1 256 (codes "partitions") rows
-  pub gatherers : HasNumberIn 1 8 (codes "gatherers") rows
+  pub workers : HasNumberIn 1 MOST_WORKERS (codes "workers") rows
+  pub morsel : HasNumberIn 1 LARGEST_MORSEL (codes "morsel") rows
+  pub partitions : HasNumberIn 1 MOST_PARTITIONS (codes "partitions") rows
+  pub gatherers : HasNumberIn 1 MOST_GATHERERS (codes "gatherers") rows
 
 abbrev the_rules : List Rule
 the_rules = required_rule (codes "FILE") ∷ required_rule (codes "QUERY") ∷ workers_rule ∷ morsel_rule ∷ partitions_rule ∷ gatherers_rule ∷ []
@@ -162,17 +163,17 @@ module _ (c : Command) (line : app_of c ≡ the_app) where
     whole_of : IsWhole (rows_of (found_of m))
     whole_of =
         let d = some_arg (args_of c) (rw six (omega arith)) in
-        let workers = has_text 2 d (Signed (pos 1) (pos 64)) (omega arith) (omega arith) refl refl in
-        let morsel = has_text 3 d (Unsigned 1 1073741824) (omega arith) (omega arith) refl refl in
-        let partitions = has_text 4 d (Signed (pos 1) (pos 256)) (omega arith) (omega arith) refl refl in
-        let gatherers = has_text 5 d (Signed (pos 1) (pos 8)) (omega arith) (omega arith) refl refl in
+        let workers = has_text 2 d (Signed (pos 1) (pos MOST_WORKERS)) (omega arith) (omega arith) refl refl in
+        let morsel = has_text 3 d (Unsigned 1 LARGEST_MORSEL) (omega arith) (omega arith) refl refl in
+        let partitions = has_text 4 d (Signed (pos 1) (pos MOST_PARTITIONS)) (omega arith) (omega arith) refl refl in
+        let gatherers = has_text 5 d (Signed (pos 1) (pos MOST_GATHERERS)) (omega arith) (omega arith) refl refl in
         record {
           file = has_value 0 d (omega arith) refl refl;
           query = has_value 1 d (omega arith) refl refl;
-          workers = (_, workers.1, signed_writes 1 64 workers.0 (omega arith) workers.2);
+          workers = (_, workers.1, signed_writes 1 MOST_WORKERS workers.0 (omega arith) workers.2);
           morsel = (_, morsel.1, (morsel.2.0, morsel.2.2, morsel.2.3));
-          partitions = (_, partitions.1, signed_writes 1 256 partitions.0 (omega arith) partitions.2);
-          gatherers = (_, gatherers.1, signed_writes 1 8 gatherers.0 (omega arith) gatherers.2);
+          partitions = (_, partitions.1, signed_writes 1 MOST_PARTITIONS partitions.0 (omega arith) partitions.2);
+          gatherers = (_, gatherers.1, signed_writes 1 MOST_GATHERERS gatherers.0 (omega arith) gatherers.2);
         }
 
 pub whole : (m : ArgMatches) → ((c : Command) × (app_of c ≡ the_app) × IsParsedFrom c m) → IsWhole (rows_of (found_of m))

@@ -1,16 +1,17 @@
-ghost use Rattle.std.specs.Prelude.{◌≡◌, ◌∷◌, false, IfErr, IfOk, List, [], map, string_bytes};
+ghost use Rattle.std.specs.Prelude.{◌≡◌, ◌∷◌, false, IfErr, IfOk, List, [], map, pos, string_bytes};
 ghost use Rattle.std.specs.declared.io.ErrorKind.TheVariants.{OutOfMemory as RanOut};
 ghost use Rattle.clap.specs.Values.{kind_of};
+ghost use Rattle.clap.specs.declared.builder.value_parser.ValueParser.TheVariants.{Signed};
 ghost use Rattle.clap.specs.declared.error.kind.ErrorKind.TheVariants.{InvalidValue};
 ghost use Rattle.clap.specs.Words.{FailsBy, HasKind, IsParsedFrom, Kinds, app_of, fault_of, found_of};
 ghost use Rattle.clap.specs.Words.{matches_of, rows_of, rule_of};
-ghost use Rattle.arguments.specs.Arguments.{HasSettingsOf, IsFaultOf, IsJobOf, gatherers_rule, is_given};
-ghost use Rattle.arguments.specs.Arguments.{morsel_rule, partitions_rule, required_rule, the_app, workers_rule};
+ghost use Rattle.arguments.specs.Arguments.{HasSettingsOf, IsFaultOf, IsJobOf, is_given, morsel_rule, number_rule};
+ghost use Rattle.arguments.specs.Arguments.{required_rule, the_app};
 
 use clap::error::ErrorKind;
 use clap::parser::ValueSource;
 use clap::{Arg, ArgAction, ArgMatches, Command, Error, value_parser};
-use lists::limits::LONGEST_FILE;
+use lists::limits::{LARGEST_MORSEL, LONGEST_FILE, MOST_GATHERERS, MOST_PARTITIONS, MOST_WORKERS};
 use outcomes::{Crew, Settings};
 use std::alloc::{AllocError, Global};
 use std::io;
@@ -21,6 +22,19 @@ const VERSION: &str = "0.1.0 (2026-11-26, proved in Rattle's logic dac8208d650f1
 
 /// How the program is called: the query is one word, which a shell takes in quotes.
 const USAGE: &str = "itch_bars [OPTIONS] <FILE> \"<QUERY>\"";
+
+/// What help says of `--workers`.
+const WORKERS_HELP: &str =
+    "Threads that work, 1 to 64: more take less time, up to\none for each processor";
+
+/// What help says of `--partitions`.
+const PARTITIONS_HELP: &str =
+    "Parts of the orders, 1 to 256, that threads look up one\nby one: with small morsels \
+    more of them take more time\nand memory";
+
+/// What help says of `--gatherers`.
+const GATHERERS_HELP: &str =
+    "Threads that put together what the workers find, 1 to\n8: more help only if one can't keep up";
 
 /// What help says after the options, in lines of at most 80 columns.
 const AFTER_HELP: &str = "\
@@ -159,10 +173,10 @@ fn clap_command<'a>(alloc: Global) -> Result<Command<'a>, AllocError>
         .after_help(AFTER_HELP)
         .arg(file)?
         .arg(required_argument(alloc, "QUERY", asked))?
-        .arg(workers_option(alloc))?
+        .arg(number_option(alloc, "workers", MOST_WORKERS, "4", WORKERS_HELP))?
         .arg(morsel_option(alloc))?
-        .arg(partitions_option(alloc))?
-        .arg(gatherers_option(alloc))
+        .arg(number_option(alloc, "partitions", MOST_PARTITIONS, "64", PARTITIONS_HELP))?
+        .arg(number_option(alloc, "gatherers", MOST_GATHERERS, "1", GATHERERS_HELP))
 }
 
 /// A word that has to be given.
@@ -177,18 +191,24 @@ fn required_argument<'a>(alloc: Global, name: &'a str, help: &'a str) -> Arg<'a>
         .help(help)
 }
 
-/// How many threads work.
-fn workers_option<'a>(alloc: Global) -> Arg<'a>
-    ensures rule { rule_of result ≡ workers_rule }
+/// An option with a number from 1 to `most`, and the default if it is left out.
+fn number_option<'a>(
+    alloc: Global,
+    name: &'a str,
+    most: u32,
+    default: &'a str,
+    help: &'a str,
+) -> Arg<'a>
+    ensures rule { rule_of result ≡ number_rule name.entry.now (Signed (pos 1) (pos most)) default.entry.now }
     ensures local { result.global ≡ false }
 {
-    Arg::new(alloc, "workers")
-        .long("workers")
+    Arg::new(alloc, name)
+        .long(name)
         .value_name("N")
         .action(ArgAction::Set)
-        .value_parser(value_parser!(u32).range(1..=64))
-        .default_value("4")
-        .help("Threads that work, 1 to 64: more take less time, up to\none for each processor")
+        .value_parser(value_parser!(u32).range(1..=i64::from(most)))
+        .default_value(default)
+        .help(help)
 }
 
 /// The least size of a morsel.
@@ -200,44 +220,11 @@ fn morsel_option<'a>(alloc: Global) -> Arg<'a>
         .long("morsel")
         .value_name("BYTES")
         .action(ArgAction::Set)
-        .value_parser(value_parser!(u64).range(1..=1_073_741_824))
+        .value_parser(value_parser!(u64).range(1..=LARGEST_MORSEL as i64))
         .default_value("1048576")
         .help(
             "Least size of the pieces in which standard input is\nheld, 1 to 1073741824; \
             over 65536 of them are refused.\nA file is held in such pieces only if this option is\ngiven",
-        )
-}
-
-/// How many partitions there are.
-fn partitions_option<'a>(alloc: Global) -> Arg<'a>
-    ensures rule { rule_of result ≡ partitions_rule }
-    ensures local { result.global ≡ false }
-{
-    Arg::new(alloc, "partitions")
-        .long("partitions")
-        .value_name("N")
-        .action(ArgAction::Set)
-        .value_parser(value_parser!(u32).range(1..=256))
-        .default_value("64")
-        .help(
-            "Parts of the orders, 1 to 256, that threads look up one\nby one: with small morsels \
-            more of them take more time\nand memory",
-        )
-}
-
-/// How many threads gather what the workers find.
-fn gatherers_option<'a>(alloc: Global) -> Arg<'a>
-    ensures rule { rule_of result ≡ gatherers_rule }
-    ensures local { result.global ≡ false }
-{
-    Arg::new(alloc, "gatherers")
-        .long("gatherers")
-        .value_name("N")
-        .action(ArgAction::Set)
-        .value_parser(value_parser!(u32).range(1..=8))
-        .default_value("1")
-        .help(
-            "Threads that put together what the workers find, 1 to\n8: more help only if one can't keep up",
         )
 }
 

@@ -1,10 +1,11 @@
 -- The sums of a bar: how large they can be, and what they mean for the text of a bar.
-use Rattle.std.proofs.Common.{◌≡◌, ℕ, ◌+◌, ◌*◌, ◌/◌, ◌^◌, ◌<◌, ◌≤◌, true, All, List, [], ◌∷◌, ◌++◌, length, map, take, drop, get_or, Some}
+use Rattle.std.proofs.Common.{◌≡◌, ℕ, ◌+◌, ◌-◌, ◌*◌, ◌/◌, ◌^◌, ◌<◌, ◌≤◌, true, All, List, [], ◌∷◌, ◌++◌, length, map, take, drop, get_or, Some}
 use Rattle.std.proofs.Common.{Contains, Equal, None, append_assoc, refl, sym, ap, ◌∙◌, arith, sum_by}
 use Rattle.std.proofs.lemmas.List.{take-append-drop}
 use Rattle.std.proofs.lemmas.List.Sums.{count_by-le-length, length-filter, sum_by-append, sum_by-cons}
 use Rattle.std.proofs.lemmas.List.Elements.{All-filter, All-head, All-map, All-tail, All-weaker, filter-append, filter_more}
 use Rattle.std.proofs.Math.Nat.{div-mul-le_self, div-le_of_le-mul}
+use Rattle.lists.specs.declared.limits.TheConstants.{NANOSECONDS, TIME_LIMIT, TRADE_LIMIT}
 use Rattle.row_types.specs.declared.trade.Sale.{Sale}
 use Rattle.time_and_sales.specs.Lent.{all_sales}
 use Rattle.bars.specs.Bars.{Key, Bar, interval_start, has_key, bar_of, key_cmp, AreBarsOf, AreBarsOfEach, CanJoin, IsUnionOf, AllSumsFit}
@@ -31,23 +32,23 @@ few_trades width sales bars alike key =
 
 sums_of_traded : (bars : List Bar) → All IsTraded bars
     → (sum_by (λ (b : Bar). b.volume) bars ≤ sum_by (λ (b : Bar). b.trades) bars * 2 ^ 64) ×
-    (sum_by (λ (b : Bar). b.notional) bars ≤ sum_by (λ (b : Bar). b.volume) bars * 4294967295)
+    (sum_by (λ (b : Bar). b.notional) bars ≤ sum_by (λ (b : Bar). b.volume) bars * (2 ^ 32 - 1))
 sums_of_traded [] h = (omega arith, omega arith)
 sums_of_traded (x ∷ xs) h =
     let one = All-head IsTraded x xs h in
     let more = sums_of_traded xs (All-tail IsTraded x xs h) in
     (omega (arith, one.2, more.0, sum_by-cons {X = Bar}), omega (arith, one.1, more.1, sum_by-cons {X = Bar}))
 
--- the sums of the bars of fewer than 2,147,483,648 sales fit, in whatever bars the sales are
+-- the sums of the bars of fewer sales than a file has room for fit, in whatever bars the sales are
 pub sums_of_few : (width : ℕ) (sales : List Sale) (bars : List Bar) → AreJoinedAlike bars (map (bar_of_one width) sales) → All IsTraded bars
-    → length sales < 2 ^ 31 → AllSumsFit bars
+    → length sales < TRADE_LIMIT → AllSumsFit bars
 sums_of_few width sales bars alike traded few =
     let at = λ (key : Key). sums_of_traded (under key bars) (All-filter (λ b. has b key) IsTraded bars traded) in
     let trades = few_trades width sales bars alike in
     record { volume = λ key. omega (arith, trades key, at key); notional = λ key. omega (arith, trades key, at key); trades = λ key. omega (arith, trades key) }
 
 pub all_sums_fit : (width : ℕ) (lists : List (List Sale)) (tables : List (List Bar)) → AreBarsOfEach width lists tables → All IsTraded (all_bars tables)
-    → length (all_sales lists) < 2 ^ 31 → AllSumsFit (all_bars tables)
+    → length (all_sales lists) < TRADE_LIMIT → AllSumsFit (all_bars tables)
 all_sums_fit width lists tables are = sums_of_few width (all_sales lists) (all_bars tables) (each_alike width lists tables are)
 
 -- ---- two bars whose sums fit together
@@ -88,19 +89,19 @@ fits_in_order bars sorted order fit = record {
 -- ---- what the text of a bar asks
 
 pub average_fits : (bar : Bar) → IsTraded bar → bar.notional / bar.volume < 2 ^ 32
-average_fits bar has = let quotient : bar.notional / bar.volume ≤ 4294967295 = div-le_of_le-mul bar.volume has.1 in omega (arith, quotient)
+average_fits bar has = let quotient : bar.notional / bar.volume ≤ 2 ^ 32 - 1 = div-le_of_le-mul bar.volume has.1 in omega (arith, quotient)
 
--- bars that are joined as those of sales whose times are of 48 bits start at such times
+-- bars that are joined as those of sales whose times are below the limit start at such times
 pub starts_of_sales : (width : ℕ) (sales : List Sale) (bars : List Bar) → AreJoinedAlike bars (map (bar_of_one width) sales)
-    → All (λ (s : Sale). s.time < 2 ^ 48) sales → All (λ (b : Bar). b.start < 2 ^ 48) bars
+    → All (λ (s : Sale). s.time < TIME_LIMIT) sales → All (λ (b : Bar). b.start < TIME_LIMIT) bars
 starts_of_sales width sales bars alike times =
-    starts_alike (2 ^ 48) bars _ alike (All-map (λ (b : Bar). b.start < 2 ^ 48) (bar_of_one width) sales
-    (All-weaker (λ (s : Sale). s.time < 2 ^ 48) (λ s. interval_start width s.time < 2 ^ 48)
-    (λ s h. omega (arith, h, div-mul-le_self s.time (width * 1000000000))) sales times))
+    starts_alike TIME_LIMIT bars _ alike (All-map (λ (b : Bar). b.start < TIME_LIMIT) (bar_of_one width) sales
+    (All-weaker (λ (s : Sale). s.time < TIME_LIMIT) (λ s. interval_start width s.time < TIME_LIMIT)
+    (λ s h. omega (arith, h, div-mul-le_self s.time (width * NANOSECONDS))) sales times))
 
 -- so each bar of a table of theirs can be written
 pub table_is_writable : (width : ℕ) (sales : List Sale) (table : List Bar) → AreBarsOf width sales table → All IsTraded table
-    → All (λ (s : Sale). s.time < 2 ^ 48) sales → All IsWritable table
+    → All (λ (s : Sale). s.time < TIME_LIMIT) sales → All IsWritable table
 table_is_writable width sales table are traded times =
     let starts = starts_of_sales width sales table (alike_from (ones_union width sales table are)) times in
     λ k d h. (starts k d h, (traded k d h).0, average_fits (get_or table k d) (traded k d h))

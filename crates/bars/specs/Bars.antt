@@ -1,6 +1,6 @@
 -- What the bar of a list of sales is, and which tables are those of a list of sales.
 -- To be believed.
-use Rattle.std.specs.Prelude.{◌≡◌, ℕ, ◌+◌, ◌*◌, ◌/◌, ◌==◌, ◌<◌, ◌≤◌, ◌^◌, nat_lt, max, min, All, Bool, ◌&&◌, cond, List, [], ◌∷◌, length, Option, Some, None, filter, find, sum_by}
+use Rattle.std.specs.Prelude.{◌≡◌, ℕ, ◌+◌, ◌-◌, ◌*◌, ◌/◌, ◌==◌, ◌<◌, ◌≤◌, ◌^◌, nat_lt, max, min, All, Bool, ◌&&◌, cond, List, [], ◌∷◌, length, Option, Some, None, filter, find, sum_by}
 use Rattle.std.specs.List.{AllZip, flat_map}
 use Rattle.std.specs.Ordering.{nat_cmp, ordering_then}
 use Rattle.std.specs.declared.cmp.Ordering.{Ordering}
@@ -69,7 +69,7 @@ pub record AreBarsOf (width : ℕ) (sales : List Sale) (table : List Bar) : Type
 -- bits can have
 abbrev pub IsTraded : Bar → Type 0
 IsTraded bar =
-    (0 < bar.volume) × (bar.notional ≤ bar.volume * 4294967295) × (bar.volume ≤ bar.trades * 2 ^ 64)
+    (0 < bar.volume) × (bar.notional ≤ bar.volume * (2 ^ 32 - 1)) × (bar.volume ≤ bar.trades * 2 ^ 64)
 
 -- ---- tables made one
 

@@ -29,8 +29,7 @@ IsWritable bar = (bar.start < TIME_LIMIT) × (0 < bar.volume) × (bar.notional /
 
 -- the line of a bar whose locate has the name
 abbrev pub bar_line : Bar → List ℕ → List ℕ
-bar_line bar name =
-    name ++ codes "," ++ seconds_text bar.start ++ prices_text bar ++ sums_text bar
+bar_line bar name = name ++ codes "," ++ seconds_text bar.start ++ prices_text bar ++ sums_text bar
 
 -- the first line of a table of bars
 abbrev pub bars_header : List ℕ

@@ -187,7 +187,8 @@ pub(crate) fn put_in_order<A: Allocator>(sales: &mut Vec<Sale, A>, width: u32) -
     count_bars_of(sales.as_slice(), width)
 }
 
-/// How many bars there are of sales that are in order of the keys of their bars.
+/// How many bars there are of sales that are in order of the keys of their bars. That each bar of one
+/// sale is traded is known where the sale is read, since its price is of 32 bits by its type.
 #[tactic(auto, using(std::proofs::lemmas::List::take_all))]
 fn count_bars_of(sales: &[Sale], width: u32) -> usize
     requires width { 0 < width }

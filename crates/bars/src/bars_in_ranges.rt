@@ -5,8 +5,8 @@ ghost use Rattle.lists.specs.declared.limits.TheConstants.{TIME_LIMIT};
 ghost use Rattle.ranges.specs.Ranges.{all_items, is_in_first};
 ghost use Rattle.time_and_sales.specs.Lent.{lent};
 ghost use Rattle.time_and_sales.specs.Names.{names_by};
-ghost use Rattle.bars.specs.Bars.{FitIfTraded, IsTraded, IsUnionOf, all_bars, key_cmp};
-ghost use Rattle.bars.specs.Steps.{AreJoinedAlike, bar_at};
+ghost use Rattle.bars.specs.Bars.{AllSumsFit, FitIfTraded, IsTraded, IsUnionOf, all_bars, key_cmp};
+ghost use Rattle.bars.specs.Steps.{AreJoinedAlike, AreOfForm, bar_at, bars_of_form};
 ghost use Rattle.bars.specs.Texts.{lines_text};
 ghost use Rattle.bars.specs.declared.bar.Bar.{Bar as TheBar};
 
@@ -84,11 +84,12 @@ fn range_of<'a>(
     tables: &[&'a BucketBars],
     bounds: &[u64],
 ) -> Result<Vec<Keyed<'a>>, OutOfMemory>
+    requires { FitIfTraded (all_bars (lent tables.now)) }
     ensures rise { IfOk result (λ sorted. IsSorted key_cmp (map bar_at sorted.items)) }
     ensures alike { IfOk result (λ sorted. AreJoinedAlike (map bar_at sorted.items)
         (filter (is_in_first (λ bar. bar.locate) bounds.now) (all_bars (lent tables.now)))) }
     ensures traded { IfOk result (λ sorted. All IsTraded (map bar_at sorted.items)) }
-    ensures tables { OnOk result (All IsTraded (all_bars (lent tables.now))) }
+    ensures sums { IfOk result (λ sorted. AllSumsFit (map bar_at sorted.items)) }
 {
     let mut keyed = gathered(alloc, tables, bounds)?;
     keyed.sort_by_key(|one| one.key())?;
@@ -102,32 +103,33 @@ fn gathered<'a>(
     tables: &[&'a BucketBars],
     bounds: &[u64],
 ) -> Result<Vec<Keyed<'a>>, OutOfMemory>
+    requires { FitIfTraded (all_bars (lent tables.now)) }
     ensures alike { IfOk result (λ keyed. AreJoinedAlike (map bar_at keyed.items)
         (filter (is_in_first (λ bar. bar.locate) bounds.now) (all_bars (lent tables.now)))) }
     ensures traded { IfOk result (λ keyed. All IsTraded (map bar_at keyed.items)) }
-    ensures tables { OnOk result (All IsTraded (all_bars (lent tables.now))) }
+    ensures sums { IfOk result (λ keyed. AllSumsFit (map bar_at keyed.items)) }
 {
     let mut keyed = Vec::with_capacity(alloc, count_within(tables, bounds))?;
     for table in tables {
-        append_within(&mut keyed, table, bounds)?;
+        append_within(&mut keyed, table.form(), bounds)?;
     }
     Ok(keyed)
 }
 
-/// Appends what is kept of a table of locates in the first range.
+/// Appends what is kept in a form of locates in the first range.
 #[tactic(auto, using(crate::proofs::BarsInRanges::locates_rise))]
 fn append_within<'a>(
     keyed: &mut Vec<Keyed<'a>>,
-    table: &'a BucketBars,
+    form: &'a Form,
     bounds: &[u64],
 ) -> Result<(), OutOfMemory>
-    ensures alike { OnOk result (AreJoinedAlike (map bar_at keyed.new.items)
-        (map bar_at keyed.old.items ++ filter (is_in_first (λ bar. bar.locate) bounds.now) table.now)) }
+    requires { AreOfForm form.now }
+    ensures alike { OnOk result (AreJoinedAlike (map bar_at keyed.new.items) (map bar_at keyed.old.items
+        ++ filter (is_in_first (λ bar. bar.locate) bounds.now) (bars_of_form form.now))) }
     ensures traded { OnOk result
         (All IsTraded (map bar_at keyed.old.items) → All IsTraded (map bar_at keyed.new.items)) }
-    ensures table { All IsTraded table.now }
 {
-    match table.form() {
+    match form {
         Form::Sales { sales, width } => {
             append_sales(
                 keyed,

@@ -45,6 +45,7 @@ impl BucketBars {
         ensures traded { All IsTraded result }
     {
         let count = put_in_order(&mut sales, width);
+        sales.shrink_to_fit();
         if count <= sales.len() / 2 {
             let alloc = *sales.allocator();
             if let Ok(bars) = BarTable::of_sorted(alloc, sales.as_slice(), width, count) {
@@ -53,7 +54,6 @@ impl BucketBars {
                 };
             }
         }
-        sales.shrink_to_fit();
         BucketBars {
             form: Form::Sales { sales, width },
         }

@@ -9,6 +9,7 @@ use Rattle.lists.specs.Among.{AreBytes}
 use Rattle.day_file.specs.Frames.{PlacedBody, IsStuck, StandsFrom}
 use Rattle.day_file.proofs.Joined.{StandsFrom-append}
 use Rattle.scanning.specs.Scans.{ScanView, scan_of}
+use Rattle.block_scan.specs.declared.block_reading.TheConstants.{LONGEST_FRAME}
 use Rattle.block_scan.specs.Pieces.{IsAskable}
 use Rattle.block_scan.proofs.Walked.{IsWalked, stuck_short}
 use Rattle.block_scan.specs.declared.request.Request.{Request}
@@ -18,7 +19,7 @@ pub record IsFilling {S : Type 0} (GaveAt : S → ℕ → List ℕ → Type 0) (
     (scan : ScanView) : Type 0 where
   pub frames : List PlacedBody
   pub bytes : List ℕ
-  pub room : 65537 < length buffer
+  pub room : LONGEST_FRAME < length buffer
   pub filled_is : length (take filled buffer) ≡ filled
   pub held : AreBytes (take filled buffer)
   pub gave : GaveAt source start (bytes ++ take filled buffer)
@@ -28,7 +29,7 @@ pub record IsFilling {S : Type 0} (GaveAt : S → ℕ → List ℕ → Type 0) (
   pub within : place + filled ≤ request.limit
   pub scan_is : scan ≡ scan_of request.parts request.as_of frames
   pub stuck : place < target → IsStuck (take filled buffer)
-  pub short : place < target → filled < 65538
+  pub short : place < target → filled ≤ LONGEST_FRAME
 
 -- the bytes between two places are moved to the front
 pub moved : (all : List ℕ) (from to : ℕ) → from ≤ to → to ≤ length all → take (to - from) (paste all 0 (drop from all) (to - from)) ≡ drop from (take to all)

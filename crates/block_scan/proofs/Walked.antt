@@ -12,6 +12,7 @@ use Rattle.day_file.proofs.Laws.{StandAt-split}
 use Rattle.day_file.proofs.Readings.{AreShort, IsReading}
 use Rattle.day_file.proofs.Walks.{frame_found}
 use Rattle.scanning.specs.Scans.{AreTakenIn, ScanView, TakesIn}
+use Rattle.block_scan.specs.declared.block_reading.TheConstants.{LONGEST_FRAME}
 
 -- what a walk did over bytes that begin at this place: the frames of the first `walked` of them were taken in, and it
 -- ended at the target, or where there is no whole frame
@@ -25,8 +26,8 @@ pub record IsWalked (as_of : Option ℕ) (bytes : List ℕ) (place target walked
 
 -- ---- what is read
 
--- a rest in which no frame stands is shorter than the longest frame
-pub stuck_short : (bytes : List ℕ) → AreBytes bytes → IsStuck bytes → length bytes < 65538
+-- a rest in which no frame stands is no longer than the longest frame
+pub stuck_short : (bytes : List ℕ) → AreBytes bytes → IsStuck bytes → length bytes ≤ LONGEST_FRAME
 stuck_short [] b s = omega arith
 stuck_short (high ∷ []) b s = omega arith
 stuck_short (high ∷ low ∷ after) b s = go (nat_le size (length after)) refl
@@ -37,7 +38,7 @@ stuck_short (high ∷ low ∷ after) b s = go (nat_le size (length after)) refl
     size : ℕ
     size = high * 256 + (low * 1 + 0)
 
-    go : (q : Bool) → nat_le size (length after) ≡ q → length bytes < 65538
+    go : (q : Bool) → nat_le size (length after) ≡ q → length bytes ≤ LONGEST_FRAME
     go true e =
         let found = frame_found bytes size b (record { told = refl; prefix = omega arith; body = leb-true size (length after) e }) in
         absurd (s (take size after) (drop size after) found.1 found.0)

@@ -22,6 +22,11 @@ use streaming::SourceFault;
 /// leave gaps there.
 const BUFFER: usize = 126_976;
 
+/// The most bytes of a frame: two of its length, and its body.
+pub(crate) const LONGEST_FRAME: usize = 65_537;
+
+const _: () = prove!(LONGEST_FRAME < BUFFER);
+
 /// How many bytes are looked at for where a frame begins, and how many behind its target a piece reads at a
 /// time, since its last frame mostly ends there.
 pub(crate) const SEEN: usize = 4_096;
@@ -60,7 +65,7 @@ pub(crate) fn scan_piece<S: BlockSource>(
 ) -> Result<ScannedBlock, SourceFault>
     requires request { IsAskable request }
     requires start { start ≤ request.limit }
-    requires room { 65537 < length buffer.old }
+    requires room { LONGEST_FRAME < length buffer.old }
     ensures tried { IsTried S.BlockSource.own source.now request result }
     ensures start { IfOk result (λ piece. piece.start ≡ start) }
     ensures more { IfOk result (λ piece. piece.tail ≡ Tail.More → target ≤ piece.end) }

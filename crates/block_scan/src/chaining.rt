@@ -4,6 +4,7 @@ ghost use Rattle.std.specs.Arc.{arc_value};
 ghost use Rattle.block_scan.specs.Attempts.{AreAttemptsOf, first_fault_of};
 ghost use Rattle.streaming.specs.declared.fault.SourceFault.{SourceFault as TheFault};
 ghost use Rattle.block_scan.specs.Blocks.{IsBlocksFault};
+ghost use Rattle.block_scan.specs.declared.block_reading.TheConstants.{LONGEST_FRAME};
 ghost use Rattle.block_scan.specs.Pieces.{Asked, ChainedView, IsAskable, IsChained, IsGoneOn, IsPiece, IsScannedWhole};
 
 use crate::attempt::{Attempt, Attempts};
@@ -108,7 +109,7 @@ impl<'a, S: BlockSource> Model for Chained<'a, S> {
       total = chain.total;
     } };
 
-    ghost invariant = { λ chain. IsAskable chain.request × (65537 < vec_len chain.buffer)
+    ghost invariant = { λ chain. IsAskable chain.request × (LONGEST_FRAME < vec_len chain.buffer)
         × IsChained S.BlockSource chain.source.now chain.request chain.at chain.total };
 }
 

@@ -1,7 +1,6 @@
 //! Looks at a source before it is scanned. Only speed hangs on what they find.
-ghost use Rattle.std.specs.Prelude.{◌<◌, ◌≤◌, IfErr, IfOk};
+ghost use Rattle.std.specs.Prelude.{◌<◌, ◌≤◌, ℕ, IfErr, IfOk};
 ghost use Rattle.lists.specs.declared.limits.TheConstants.{LONGEST_FILE, MOST_PARTITIONS};
-ghost use Rattle.block_scan.specs.Blocks.{IsBlocksFault};
 
 use crate::block_reading::SEEN;
 use crate::block_source::BlockSource;
@@ -9,7 +8,6 @@ use crate::division::Division;
 use crate::guessing::likely_offset;
 use day_file::{DeviceFailed, Frames};
 use scanning::{LOOKS, ReferenceSample};
-use streaming::SourceFault;
 
 /// A source that is shorter isn't looked at: the work of any partition takes some hundredths of a second. Nor is one
 /// that has a byte at the limit, which is asked for first: it will be refused.
@@ -17,16 +15,16 @@ const SHORT: u64 = 8 << 20;
 
 /// In how many partitions the rows of a source of about the division's length are best put: `parts`, or the next
 /// number by which no partition has far more orders than the others, as some references tell. Nothing more is promised
-/// of it, and no answer hangs on it.
+/// of it, and no answer hangs on it. It is refused if a reading fails.
 pub fn partitions_of<S: BlockSource>(
     source: &S,
     division: Division,
     limit: u64,
     parts: u32,
-) -> Result<u32, SourceFault>
+) -> Result<u32, DeviceFailed>
     requires { (0 < parts) × (parts ≤ MOST_PARTITIONS) }
     ensures parts { IfOk result (λ parts. (0 < parts) × (parts ≤ MOST_PARTITIONS)) }
-    ensures fault { IfErr result (IsBlocksFault S.BlockSource.own source.now limit) }
+    ensures failed { IfErr result (λ _. (place : ℕ) × S.FailsAt source.now place) }
 {
     let length = division.bytes * u64::from(division.blocks);
     let mut byte = [0u8; 1];

@@ -1,11 +1,9 @@
 -- What is found in one bucket more.
-use Rattle.std.proofs.Common.{◌≡◌, ℕ, ltb, Bool, List, [], ◌∷◌, ◌++◌, Option, Some, None, option_to_list, filter_map, map, refl, sym, ap, ◌∙◌}
+use Rattle.std.proofs.Common.{◌≡◌, List, [], ◌∷◌, ◌++◌, option_to_list, map, ap, ◌∙◌}
 use Rattle.std.specs.Arc.{arc_value}
 use Rattle.std.specs.declared.sync.Arc.{Arc}
-use Rattle.std.proofs.lemmas.List.Elements.{filter_map-append}
 use Rattle.lists.specs.Least.{least_by}
-use Rattle.std.proofs.lemmas.List.MinMax.{IsStrictWeakOrder-by_number}
-use Rattle.lists.proofs.Least.{best_by-append, better_option}
+use Rattle.lists.proofs.Least.{least_more}
 use Rattle.order_table.specs.declared.table.Repeated.{Repeated}
 use Rattle.row_types.specs.declared.trade.Unknown.{Unknown}
 use Rattle.buckets.specs.Buckets.{found, total_found}
@@ -13,23 +11,6 @@ use Rattle.buckets.specs.FoundRows.{FoundView, TotalView, all_found}
 use Rattle.buckets.specs.BucketRows.{BucketView}
 use Rattle.buckets.specs.declared.product.Product.{Product}
 use Rattle.std.proofs.lemmas.List.{map_push}
-use Rattle.lists.proofs.Lists.{cons_nil}
-
-module _ {W : Type 0} (place : W → ℕ) where
-  least_itself : (o : Option W) → least_by place (option_to_list o) ≡ o
-  least_itself None = refl
-  least_itself (Some w) = refl
-
-  -- the least of what items tell, with one item more
-  pub least_more : {X : Type 0} (f : X → Option W) (front : List X) (x : X)
-      → least_by place (filter_map f (front ++ x ∷ [])) ≡ least_by place (option_to_list (least_by place (filter_map f front)) ++ option_to_list (f x))
-  least_more f front x =
-      let beats : W → W → Bool = λ y best. ltb (place y) (place best) in
-      let ranks = IsStrictWeakOrder-by_number place in
-      ap (least_by place) (filter_map-append f front (x ∷ []) ∙ ap (λ l. filter_map f front ++ l) (cons_nil (f x)))
-      ∙ best_by-append beats ranks (filter_map f front) (option_to_list (f x))
-      ∙ ap (λ o. better_option beats ranks o (least_by place (option_to_list (f x)))) (sym (least_itself (least_by place (filter_map f front))))
-      ∙ sym (best_by-append beats ranks (option_to_list (least_by place (filter_map f front))) (option_to_list (f x)))
 
 -- a total with what is found in one more partition
 abbrev pub with_found : TotalView → FoundView → TotalView

@@ -1,7 +1,8 @@
 -- The sales by place are what a listing has.
-use Rattle.std.proofs.Common.{◌≡◌, ltb, Bool, true, false, cond, List, [], ◌∷◌, map, nat_eq, Less, arith, IsPermutation, refl}
+use Rattle.std.proofs.Common.{◌≡◌, ltb, true, false, List, [], ◌∷◌, map, nat_eq, Less, arith, IsPermutation}
 use Rattle.std.specs.List.{AllByRecursion, IsDistinct}
 use Rattle.std.specs.List.Sorted.{IsStrictlySortedBy}
+use Rattle.std.proofs.lemmas.Bool.{cond_both}
 use Rattle.std.proofs.lemmas.Bool.Decides.{nat_tests}
 use Rattle.std.proofs.lemmas.List.Sorted.{IsPermutation-refl, IsPermutation-sym, IsPermutation-trans, IsPermutation-append_left}
 use Rattle.std.proofs.lemmas.List.Sorted.{IsPermutation-append_right, IsPermutation-append_comm}
@@ -12,11 +13,9 @@ use Rattle.buckets.specs.Products.{by_place, put_by_place}
 
 kept_in : (P : Sale → Type 0) (sale : Sale) (xs : List Sale) → P sale → AllByRecursion P xs → AllByRecursion P (put_by_place sale xs)
 kept_in P sale [] one all = (one, tt)
-kept_in P sale (x ∷ xs) one all = go (ltb sale.place x.place) (kept_in P sale xs one all.1)
-  where
-    go : (b : Bool) → AllByRecursion P (put_by_place sale xs) → AllByRecursion P (cond b (sale ∷ x ∷ xs) (x ∷ put_by_place sale xs))
-    go true more = (one, all)
-    go false more = (all.0, more)
+kept_in P sale (x ∷ xs) one all =
+    let more = kept_in P sale xs one all.1 in
+    cond_both (ltb sale.place x.place) (sale ∷ x ∷ xs) (x ∷ put_by_place sale xs) (AllByRecursion P) (λ _. (one, all)) (λ _. (all.0, more))
 
 kept_by_place : (P : Sale → Type 0) (xs : List Sale) → AllByRecursion P xs → AllByRecursion P (by_place xs)
 kept_by_place P [] all = tt
@@ -24,13 +23,12 @@ kept_by_place P (x ∷ xs) all = kept_in P x (by_place xs) all.0 (kept_by_place 
 
 put_is : (sale : Sale) (xs : List Sale) → IsPermutation (sale ∷ xs) (put_by_place sale xs)
 put_is sale [] = IsPermutation-refl (sale ∷ [])
-put_is sale (x ∷ xs) = go (ltb sale.place x.place) (put_is sale xs)
-  where
-    go : (b : Bool) → IsPermutation (sale ∷ xs) (put_by_place sale xs) → IsPermutation (sale ∷ x ∷ xs) (cond b (sale ∷ x ∷ xs) (x ∷ put_by_place sale xs))
-    go true more = IsPermutation-refl (sale ∷ x ∷ xs)
-    go false more = IsPermutation-trans (sale ∷ x ∷ xs) (x ∷ sale ∷ xs) (x ∷ put_by_place sale xs)
-        (IsPermutation-append_left xs (sale ∷ x ∷ []) (x ∷ sale ∷ []) (IsPermutation-append_comm (sale ∷ []) (x ∷ [])))
-        (IsPermutation-append_right (x ∷ []) (sale ∷ xs) (put_by_place sale xs) more)
+put_is sale (x ∷ xs) =
+    let more = put_is sale xs in
+    cond_both (ltb sale.place x.place) (sale ∷ x ∷ xs) (x ∷ put_by_place sale xs) (IsPermutation (sale ∷ x ∷ xs)) (λ _. IsPermutation-refl (sale ∷ x ∷ xs))
+    (λ _. IsPermutation-trans (sale ∷ x ∷ xs) (x ∷ sale ∷ xs) (x ∷ put_by_place sale xs)
+    (IsPermutation-append_left xs (sale ∷ x ∷ []) (x ∷ sale ∷ []) (IsPermutation-append_comm (sale ∷ []) (x ∷ [])))
+    (IsPermutation-append_right (x ∷ []) (sale ∷ xs) (put_by_place sale xs) more))
 
 pub by_place_is : (xs : List Sale) → IsPermutation xs (by_place xs)
 by_place_is [] = IsPermutation-refl []
@@ -55,11 +53,10 @@ all_through a b h (x ∷ xs) all = (through a b x h all.0, all_through a b h xs 
 put_rises : (sale : Sale) (xs : List Sale) → IsByPlace xs → AllByRecursion (λ x. nat_eq sale.place x.place ≡ false) xs → IsByPlace (put_by_place sale xs)
 unfolding IsStrictlySortedBy
 put_rises sale [] up apart = (tt, tt)
-put_rises sale (x ∷ xs) up apart = go (ltb sale.place x.place) refl (put_rises sale xs up.1 apart.1)
-  where
-    go : (b : Bool) → ltb sale.place x.place ≡ b → IsByPlace (put_by_place sale xs) → IsByPlace (cond b (sale ∷ x ∷ xs) (x ∷ put_by_place sale xs))
-    go true e more = ((lower sale x e, all_through sale x e xs up.0), up)
-    go false e more = (kept_in (λ y. place_cmp x y ≡ Less) sale xs (higher sale x e apart.0) up.0, more)
+put_rises sale (x ∷ xs) up apart =
+    let more = put_rises sale xs up.1 apart.1 in
+    cond_both (ltb sale.place x.place) (sale ∷ x ∷ xs) (x ∷ put_by_place sale xs) IsByPlace
+    (λ e. ((lower sale x e, all_through sale x e xs up.0), up)) (λ e. (kept_in (λ y. place_cmp x y ≡ Less) sale xs (higher sale x e apart.0) up.0, more))
 
 of_places : (sale : Sale) (xs : List Sale) → AllByRecursion (λ n. nat_eq sale.place n ≡ false) (map (λ s. s.place) xs)
     → AllByRecursion (λ x. nat_eq sale.place x.place ≡ false) xs

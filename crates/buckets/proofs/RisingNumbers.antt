@@ -8,6 +8,7 @@ use Rattle.lists.specs.Among.{HasNumbersOf, is_among}
 use Rattle.lists.specs.Least.{numbers_below}
 use Rattle.lists.proofs.Among.{among_from, from_among, same_from_numbers, same_members}
 use Rattle.lists.proofs.Order.{Contains-filter, passes_filter}
+use Rattle.meaning.proofs.ListedLocates.{numbers_rise}
 use Rattle.buckets.specs.Plans.{rising}
 
 below_has : (n k : ℕ) → k < n → Contains (numbers_below n) k
@@ -19,13 +20,8 @@ rising_among xs k =
     (λ c. Contains-filter (is_among xs) (numbers_below (suc (sum xs))) k
     (below_has (suc (sum xs)) k (omega (arith, get_or-le-sum_by (λ n. n) xs c.0 k c.1, c.2))) (among_from xs k c))
 
-below_rises : (n : ℕ) → IsStrictlyIncreasing (numbers_below n)
-below_rises n k inside =
-    let few = length-range_with_len 0 n in
-    omega (arith, get_or-range_with_len 0 n k 0 (omega (arith, inside, few)), get_or-range_with_len 0 n (k + 1) 0 (omega (arith, inside, few)))
-
 -- a rising list of their numbers is that one
 pub rising_is : (xs numbers : List ℕ) → HasNumbersOf xs numbers → IsStrictlyIncreasing numbers → numbers ≡ rising xs
 rising_is xs numbers has up =
-    same_from_numbers numbers (rising xs) up (IsStrictlyIncreasing-filter (is_among xs) (numbers_below (suc (sum xs))) (below_rises (suc (sum xs))))
+    same_from_numbers numbers (rising xs) up (IsStrictlyIncreasing-filter (is_among xs) (numbers_below (suc (sum xs))) (numbers_rise (suc (sum xs))))
     (λ k. has k ∙ sym (rising_among xs k))

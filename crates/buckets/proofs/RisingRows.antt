@@ -1,11 +1,11 @@
 -- Order rows in lists whose references rise, each list above those before it: they rise as one, and the list that a
 -- search finds has the first row of the reference, if there is one.
-use Rattle.std.proofs.Common.{◌≡◌, ℕ, zero, suc, Bool, ◌-◌, ◌<◌, ◌≤◌, ◌≢◌, true, false, cond, eqb, ltb, List, [], ◌∷◌, ◌++◌, length, get_or, flat_map}
+use Rattle.std.proofs.Common.{◌≡◌, ℕ, zero, suc, ◌-◌, ◌<◌, ◌≤◌, ◌≢◌, true, false, eqb, ltb, List, [], ◌∷◌, ◌++◌, length, get_or, flat_map}
 use Rattle.std.proofs.Common.{Option, Some, None, arith, ap, refl, sym, ◌∙◌}
 use Rattle.std.specs.List.{All, AllPairs, find}
 use Rattle.std.specs.List.Sorted.{IsNonDecreasingBy, IsPartitionPoint}
 use Rattle.std.specs.Option.{option_or}
-use Rattle.std.proofs.lemmas.Bool.{eqb-true, ltb-false, ltb-true}
+use Rattle.std.proofs.lemmas.Bool.{cond_both, eqb-true, ltb-false, ltb-true}
 use Rattle.std.proofs.lemmas.List.{append-nil, get_or_default}
 use Rattle.std.proofs.lemmas.List.Concat.{flat_map-append}
 use Rattle.std.proofs.lemmas.List.Elements.{All-append, All-push, All-tail}
@@ -107,12 +107,9 @@ ListPoint parts q i = IsPartitionPoint (λ part. ltb part.last q ≡ true) (λ p
 
 nowhere : (rows : List OrderRow) (q : ℕ) → All (λ row. row.order_no ≢ q) rows → find (λ row. eqb row.order_no q) rows ≡ None
 nowhere [] q others = refl
-nowhere (row ∷ rows) q others = go (nowhere rows q (All-tail (λ (other : OrderRow). other.order_no ≢ q) row rows others)) (eqb row.order_no q) refl
-  where
-    go : find (λ (other : OrderRow). eqb other.order_no q) rows ≡ None → (b : Bool) → eqb row.order_no q ≡ b
-        → cond b (Some row) (find (λ (other : OrderRow). eqb other.order_no q) rows) ≡ None
-    go more true e = absurd (others 0 row (omega arith) (eqb-true _ _ e))
-    go more false e = more
+nowhere (row ∷ rows) q others =
+    cond_both (eqb row.order_no q) (Some row) (find (λ (other : OrderRow). eqb other.order_no q) rows) (λ found. found ≡ None)
+    (λ e. absurd (others 0 row (omega arith) (eqb-true _ _ e))) (λ _. nowhere rows q (All-tail (λ (other : OrderRow). other.order_no ≢ q) row rows others))
 
 or_none : (found : Option OrderRow) → option_or found None ≡ found
 or_none None = refl

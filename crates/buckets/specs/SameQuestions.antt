@@ -19,8 +19,7 @@ is_same_what = (what_eq.ghosts).eq
 
 -- what `==` says of two selections
 unfoldable pub is_same_selection : Selection Global → Selection Global → Bool
-is_same_selection =
-    (selection_eq.ghosts global.the_row allocator.ghosts selection_eq.no_dict selection_eq.no_dict).eq
+is_same_selection = (selection_eq.ghosts global.the_row allocator.ghosts selection_eq.no_dict selection_eq.no_dict).eq
 
 -- ---- the tests are exact
 

@@ -1,7 +1,7 @@
 //! The rows of one partition in all morsels.
 ghost use Rattle.std.specs.Prelude.{◌≡◌, IfOk};
 ghost use Rattle.std.specs.Cmp.Lexicographic.{pointwise};
-ghost use Rattle.morsel_rows.specs.Partitions.{joined_partitions, no_rows_in, partition_at};
+ghost use Rattle.morsel_rows.specs.Partitions.{joined_partitions, partition_at};
 ghost use Rattle.morsel_rows.specs.SameRows.{is_same_partition};
 ghost use Rattle.buckets.specs.BucketRows.{rows_at, rows_of_parts};
 
@@ -22,7 +22,7 @@ pub(crate) fn parts_of<'a>(
     let mut parts = Vec::with_capacity(alloc, morsels.len())?;
     for morsel in morsels {
         if let Some(part) = morsel.partition(number) {
-            if !is_empty(part) {
+            if !part.is_empty() {
                 parts.push(part)?;
             }
         }
@@ -57,14 +57,8 @@ fn same_part(number: u32, one: &MorselRows, other: &MorselRows) -> bool
 {
     match (one.partition(number), other.partition(number)) {
         (Some(one), Some(other)) => *one == *other,
-        (Some(one), None) => is_empty(one),
-        (None, Some(other)) => is_empty(other),
+        (Some(one), None) => one.is_empty(),
+        (None, Some(other)) => other.is_empty(),
         (None, None) => true,
     }
-}
-
-fn is_empty(part: &Partition) -> bool
-    ensures { result ≡ is_same_partition part.now no_rows_in }
-{
-    part.orders().len() == 0 && part.executions().is_empty() && part.own_priced().is_empty()
 }

@@ -2,8 +2,7 @@
 ghost use Rattle.std.specs.Prelude.{◌≡◌, ◌++◌, IfOk, OnOk, List, map, nat_eq};
 ghost use Rattle.std.specs.List.{IsDistinct};
 ghost use Rattle.row_types.specs.declared.order.OrderRow.{OrderRow as TheRow};
-ghost use Rattle.probe.specs.Pricing.{IsPricingOf};
-ghost use Rattle.probe.specs.Pricing.{priced};
+ghost use Rattle.probe.specs.Pricing.{IsPricingOf, priced};
 ghost use Rattle.morsel_rows.specs.Partitions.{AreRowsByPlace};
 ghost use Rattle.buckets.specs.BucketRows.{rows_of_parts};
 ghost use Rattle.buckets.specs.FoundRows.{repeated_in, trades_in, unknown_in};

@@ -18,8 +18,7 @@ use Rattle.query.specs.Values.{number_from, count_of, unit_of, pair_at, clock_of
 use Rattle.meaning.specs.Meaning.{CanBeSpelled, Kinds, Meaning, Span, are_symbols, has_some, is_symbol_byte, is_symbol, is_width}
 use Rattle.meaning.specs.declared.query.What.TheVariants.{Bars, Sales}
 use Rattle.meaning.specs.declared.query.What.{What}
-use Rattle.query.specs.Grammar.{Said, only, meaning_of, Conditions, Linked, Moment, Means}
-use Rattle.query.specs.Grammar.{symbol, time, kind, done, further, any_moment, up_to, sales, bars}
+use Rattle.query.specs.Grammar.{Said, only, meaning_of, Conditions, Linked, Moment, Means, symbol, time, kind, done, further, any_moment, up_to, sales, bars}
 use Rattle.canonical_query.specs.Canonical.{pair_text, clock_text, what_words, symbol_condition, time_condition, kind_letters, kind_condition}
 use Rattle.canonical_query.specs.Canonical.{canonical, conditions_of, linked, moment_words}
 

@@ -9,20 +9,16 @@ use Rattle.meaning.specs.Meaning.{Meaning, is_symbol}
 use Rattle.query.specs.Words.{Word, word, reads_as}
 use Rattle.query.specs.Values.{count_of, unit_of, clock_of, time_of, symbols_of, kinds_of}
 use Rattle.query.specs.Grammar.{Said, meaning_of, Means}
-use Rattle.query.specs.Faults.{Next, QueryFault, UnknownWord, BadNumber, BadTime, Repeated, EmptyRange, Incomplete}
-use Rattle.query.specs.Faults.{ended, first_query_fault, read_from, step, timed, valued}
-use Rattle.query.specs.Faults.{refused, condition, query, width}
+use Rattle.query.specs.Faults.{Next, QueryFault, UnknownWord, BadNumber, BadTime, Repeated, EmptyRange, Incomplete, ended, first_query_fault, read_from, step}
+use Rattle.query.specs.Faults.{timed, valued, refused, condition, query, width}
 use Rattle.query.proofs.WordByWord.{reads, stays}
-use Rattle.query.proofs.MeaningOrFault.{means_from_read, means_read}
+use Rattle.query.proofs.MeaningOrFault.{means_from_read, means_read, same_word}
 use Rattle.canonical_query.specs.WrongWords.{GoesOn, HasNoUnit, HasNoEnd, HasNoCondition, HasOwnFault, HasWrong, IsFirstFault, IsWrong}
 use Rattle.canonical_query.specs.WrongWords.{IsAgain, IsNoLater, IsNoNumber, IsNoTime, IsNoWidth, lead_to_time, begins_again}
-use Rattle.canonical_query.proofs.Places.{lead, read_more, one_more, not_refused, same_word, none_or_some, unit_next, at_moment}
-use Rattle.canonical_query.proofs.Places.{with_span, end_next, until_next}
-use Rattle.canonical_query.proofs.Places.{condition_cases, Place, what, time_of_day, first_condition, given}
-use Rattle.canonical_query.proofs.Places.{next_condition, symbols_in, time_word}
+use Rattle.canonical_query.proofs.Places.{lead, read_more, one_more, not_refused, none_or_some, unit_next, at_moment, with_span, end_next}
+use Rattle.canonical_query.proofs.Places.{until_next, condition_cases, Place, what, time_of_day, first_condition, given, next_condition, symbols_in, time_word}
 use Rattle.canonical_query.proofs.PlacesGoOn.{goes_on}
-use Rattle.canonical_query.proofs.PlaceToPlace.{Tells, one_step, Found, found}
-use Rattle.canonical_query.proofs.PlaceToPlace.{reached, behind}
+use Rattle.canonical_query.proofs.PlaceToPlace.{Tells, one_step, Found, found, reached, behind}
 
 -- ---- words that go on aren't refused
 

@@ -8,12 +8,11 @@ use Rattle.meaning.specs.declared.query.What.{What}
 use Rattle.query.specs.Words.{Word, word, reads_as}
 use Rattle.query.specs.Values.{count_of, unit_of, time_of, symbols_of, kinds_of}
 use Rattle.query.specs.Grammar.{Said, only, meaning_of}
-use Rattle.query.specs.Faults.{Next, QueryFault, UnknownWord, BadNumber, BadTime, Repeated, EmptyRange}
-use Rattle.query.specs.Faults.{step, text, timed, valued}
-use Rattle.query.specs.Faults.{refused, needs, condition, linked, moment, query, width, symbol_list, time_span, kind_list}
-use Rattle.canonical_query.specs.WrongWords.{Begins, HasOwnFault}
-use Rattle.canonical_query.specs.WrongWords.{lead_to_time, begins_again}
-use Rattle.canonical_query.proofs.Places.{lead, one_more, same_word, either, of_value, unit_next, at_moment, of_next}
+use Rattle.query.specs.Faults.{Next, QueryFault, UnknownWord, BadNumber, BadTime, Repeated, EmptyRange, step, text, timed, valued, refused, needs, condition}
+use Rattle.query.specs.Faults.{linked, moment, query, width, symbol_list, time_span, kind_list}
+use Rattle.query.proofs.MeaningOrFault.{same_word}
+use Rattle.canonical_query.specs.WrongWords.{Begins, HasOwnFault, lead_to_time, begins_again}
+use Rattle.canonical_query.proofs.Places.{lead, one_more, either, of_value, unit_next, at_moment, of_next}
 use Rattle.canonical_query.proofs.Places.{with_symbols, symbols_next, with_span, end_next, until_next, with_kinds, kinds_next, IsBare}
 use Rattle.canonical_query.proofs.Places.{condition_cases, Place, start, number, unit, what, as_word, of_word, time_of_day, first_condition, given}
 use Rattle.canonical_query.proofs.Places.{next_condition, symbol_word, symbols_in, time_word, from_word, since_word, until_word, kind_word, kinds_in}

@@ -1,21 +1,17 @@
 -- Where words lead if none of them is wrong: places, and what must come next there.
-use Rattle.std.proofs.Common.{◌≡◌, ℕ, ◌*◌, Bool, true, false, cond, nat_lt, List, [], ◌∷◌, ◌++◌, Option, Some, None, refl, ap, ◌∙◌, codes}
-use Rattle.std.proofs.Common.{◌⊎◌, inl, inr, fold}
+use Rattle.std.proofs.Common.{◌≡◌, ℕ, ◌*◌, Bool, true, false, cond, nat_lt, List, [], ◌∷◌, ◌++◌, Option, Some, None, refl, ap, ◌∙◌, codes, ◌⊎◌, inl, inr, fold}
 use Rattle.std.specs.Prelude.{is_some, Err}
 use Rattle.std.proofs.lemmas.List.Sums.{fold-append}
-use Rattle.std.proofs.lemmas.Slice.Eq.{bytes_eq-Decides}
 use Rattle.meaning.specs.Meaning.{Kinds, is_width}
 use Rattle.meaning.specs.declared.query.What.TheVariants.{Bars}
 use Rattle.query.specs.Words.{Word, word, reads_as}
 use Rattle.query.specs.Values.{count_of, unit_of, time_of, symbols_of, kinds_of}
 use Rattle.query.specs.Grammar.{Said, only, meaning_of}
-use Rattle.query.specs.Faults.{Next, QueryFault, UnknownWord, BadNumber, Repeated, EmptyRange}
-use Rattle.query.specs.Faults.{ended, opened, read_from, step, text, timed, valued}
-use Rattle.query.specs.Faults.{refused, needs, condition, linked, moment, query, width, symbol_list, time_span, kind_list}
+use Rattle.query.specs.Faults.{Next, QueryFault, UnknownWord, BadNumber, Repeated, EmptyRange, ended, opened, read_from, step, text, timed, valued, refused}
+use Rattle.query.specs.Faults.{needs, condition, linked, moment, query, width, symbol_list, time_span, kind_list}
 use Rattle.query.proofs.WordByWord.{stays}
 use Rattle.query.proofs.MeaningOrFault.{means_read}
-use Rattle.canonical_query.specs.WrongWords.{Begins}
-use Rattle.canonical_query.specs.WrongWords.{begins_again}
+use Rattle.canonical_query.specs.WrongWords.{Begins, begins_again}
 
 -- what some words lead to
 abbrev pub lead : List Word → Next
@@ -35,9 +31,6 @@ not_refused ws fault e b =
     let more = read_more query ws b.0 in
     let none : read_from (lead ws) b.0 ≡ Err fault = ap (λ n. read_from n b.0) e ∙ stays fault b.0 in
     absurd (cc)
-
-pub same_word : (bytes : List ℕ) (w : Word) → reads_as bytes w ≡ true → w ≡ word w.at bytes
-same_word bytes w e = ap (λ b. word w.at b) ((bytes_eq-Decides w.bytes bytes).0 e)
 
 -- ---- cases of what comes next
 

@@ -1,6 +1,5 @@
 -- Words that lead to a place go on: a query begins with them, or they are one of three beginnings that are let pass.
-use Rattle.std.proofs.Common.{◌≡◌, ℕ, ◌*◌, true, false, nat_lt, List, [], ◌∷◌, ◌++◌, Some, refl, sym, ap, ◌∙◌, subst, arith, codes}
-use Rattle.std.proofs.Common.{map, ◌⊎◌, inl, inr}
+use Rattle.std.proofs.Common.{◌≡◌, ℕ, ◌*◌, true, false, nat_lt, List, [], ◌∷◌, ◌++◌, Some, refl, sym, ap, ◌∙◌, subst, arith, codes, map, ◌⊎◌, inl, inr}
 use Rattle.std.specs.Prelude.{is_some, Ok}
 use Rattle.std.proofs.lemmas.Bool.{cases_Bool}
 use Rattle.lists.specs.declared.limits.TheConstants.{SECONDS_OF_DAY}
@@ -9,16 +8,13 @@ use Rattle.meaning.specs.declared.query.What.TheVariants.{Bars}
 use Rattle.query.specs.Words.{Word, word}
 use Rattle.query.specs.Values.{count_of, unit_of, pair_at, clock_of, time_of, symbols_of, kinds_of}
 use Rattle.query.specs.Grammar.{Said, only, meaning_of, Means}
-use Rattle.query.specs.Faults.{Next, QueryFault, UnknownWord, Repeated}
-use Rattle.query.specs.Faults.{ended, read_from, step, timed}
-use Rattle.query.specs.Faults.{refused, condition, linked, query}
+use Rattle.query.specs.Faults.{Next, QueryFault, UnknownWord, Repeated, ended, read_from, step, timed, refused, condition, linked, query}
 use Rattle.query.proofs.WordByWord.{reads, read_end, stays}
 use Rattle.query.proofs.MeaningOrFault.{means_from_read, means_read}
 use Rattle.canonical_query.specs.WrongWords.{Begins, GoesOn}
-use Rattle.canonical_query.proofs.Places.{lead, read_more, none_or_some}
-use Rattle.canonical_query.proofs.Places.{until_next}
-use Rattle.canonical_query.proofs.Places.{condition_cases, Place, start, number, unit, what, as_word, of_word, time_of_day, first_condition, given}
-use Rattle.canonical_query.proofs.Places.{next_condition, symbol_word, symbols_in, time_word, from_word, since_word, until_word, kind_word, kinds_in}
+use Rattle.canonical_query.proofs.Places.{lead, read_more, none_or_some, until_next, condition_cases, Place, start, number, unit, what, as_word, of_word}
+use Rattle.canonical_query.proofs.Places.{time_of_day, first_condition, given, next_condition, symbol_word, symbols_in, time_word, from_word, since_word}
+use Rattle.canonical_query.proofs.Places.{until_word, kind_word, kinds_in}
 
 -- a query begins with words, if a few more lead from where they do to one
 pub begins : (ws : List Word) (s : Next) → lead ws ≡ s → (more : List (List ℕ)) {q : Meaning} → read_from s (map (word 0) more) ≡ Ok q → Begins ws

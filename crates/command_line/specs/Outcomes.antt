@@ -15,8 +15,8 @@ use Rattle.reports.specs.Reports.{Delivered, Reported, status_of_outcome}
 
 -- What the program did to its devices, and its status. K is the states of its output, L of its errors, and `out_sink`
 -- and `sink` are the members of their `Sink`.
-module _ {K L : Type 0} (out_sink : SinkOf K) (sink : SinkOf L)
-    (job : Job) (out out_after : K) (errors errors_after : L) (status : ℕ) where
+module _ {K L : Type 0} (job : Job) (out_sink : SinkOf K) (out out_after : K)
+    (sink : SinkOf L) (errors errors_after : L) (status : ℕ) where
   -- given what is known of its source, the job did to its output what a run of its query does, and the output failed
   -- if and only if the outcome says so; the status is the outcome's, and the line of its fault, if it has one, went to
   -- the errors
@@ -37,8 +37,7 @@ module _ {K L : Type 0} (out_sink : SinkOf K) (sink : SinkOf L)
 
   -- the job was done over a source that is read at places, and its words give no size of morsels
   abbrev pub DidBlocks : {S : Type 0} → BlockSourceOf S → Type 0
-  DidBlocks {S} device =
-      (job.morsel_given ≡ false) × (source : S) × Did (of_blocks device job.settings.limit source)
+  DidBlocks {S} device = (job.morsel_given ≡ false) × (source : S) × Did (of_blocks device job.settings.limit source)
 
   -- the file could not be opened: this is the status of a failed reading, its line went to the errors, and the output
   -- was left alone

@@ -25,7 +25,7 @@ pub fn perform<R: Threads + Wait + Sync, S: Source, K: Sink, L: Sink>(
     requires source { S.has_failed source.old ≡ false }
     requires out { K.has_failed out.old ≡ false }
     requires errors { L.has_failed errors.old ≡ false }
-    ensures did { Did K.Sink L.Sink job.now out.old out.new errors.old errors.new result
+    ensures did { Did job.now K.Sink out.old out.new L.Sink errors.old errors.new result
         (of_stream S.Source job.now.settings.limit job.now.settings.morsel source.old source.new) }
     ensures read_failed { S.has_failed source.new ≡ (result == status_of RunFault.ReadFailed) }
     ensures quiet { result ≡ 0 → errors.new ≡ errors.old }
@@ -48,7 +48,7 @@ pub fn perform_blocks<R: Threads + Wait + Sync, S: BlockSource + Send + Sync, K:
 ) -> u8
     requires out { K.has_failed out.old ≡ false }
     requires errors { L.has_failed errors.old ≡ false }
-    ensures did { Did K.Sink L.Sink job.now out.old out.new errors.old errors.new result
+    ensures did { Did job.now K.Sink out.old out.new L.Sink errors.old errors.new result
         (of_blocks S.BlockSource.own job.now.settings.limit source) }
     ensures quiet { result ≡ 0 → errors.new ≡ errors.old }
 {
@@ -71,8 +71,8 @@ pub fn perform_opened<R: Threads + Wait + Sync, S: Source + Drop, K: Sink, L: Si
     requires out { K.has_failed out.old ≡ false }
     requires errors { L.has_failed errors.old ≡ false }
     ensures did { MatchOption opened
-        (DidNotOpen K.Sink L.Sink job.now out.old out.new errors.old errors.new result)
-        (λ source. (after : S) × Did K.Sink L.Sink job.now out.old out.new errors.old errors.new result
+        (DidNotOpen job.now K.Sink out.old out.new L.Sink errors.old errors.new result)
+        (λ source. (after : S) × Did job.now K.Sink out.old out.new L.Sink errors.old errors.new result
         (of_stream S.Source job.now.settings.limit job.now.settings.morsel source after)
         × (S.has_failed after ≡ (result == status_of RunFault.ReadFailed))) }
     ensures quiet { result ≡ 0 → errors.new ≡ errors.old }

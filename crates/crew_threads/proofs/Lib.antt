@@ -1,2 +1,3 @@
 -- Lemmas that several proofs share.
+pub mod ByNumber
 pub mod Workers

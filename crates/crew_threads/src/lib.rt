@@ -5,6 +5,7 @@
 //! schedule of its threads changes the total.
 #![tactic(auto)]
 
+mod by_number;
 mod caller_runs;
 mod employ;
 mod gate;

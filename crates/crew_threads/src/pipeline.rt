@@ -2,12 +2,14 @@
 ghost use Rattle.std.specs.Prelude.{◌≡◌, ◌<◌, length, IfOk, OnOk};
 ghost use Rattle.std.specs.Arc.{arc_value};
 
+use crate::by_number::{Known, numbered};
 use crate::caller_runs::run_missing;
 use crate::gate::Gate;
 use crate::gatherers::{gather_all, gather_until_covered, merge_all, start_gatherers};
 use gathering::{Gathering, Inputs, OutOfMemory, Piece, TotalRefused, Work};
 use outcomes::Crew;
 use std::alloc::{AllocError, Global};
+use std::marker::Brand;
 use std::sync::{Arc, Wait};
 use std::thread::{Scope, Threads};
 
@@ -31,6 +33,25 @@ pub fn run_pipeline<'s, E, W: Work + 's, G: Gate, R: Threads + Wait + Sync>(
     ensures total { IfOk result (λ total. W.IsTotalOf (arc_value inputs) total) }
     ensures admissible { OnOk result (W.IsAdmissible (arc_value inputs)) }
 {
+    run_known::<E, W, Brand, G, R>(scope, rt, alloc, inputs, crew, gate, number)
+}
+
+/// Runs a pipeline over the inputs that K names. Its tasks know them by number, so that pieces are gathered without
+/// a look at what their inputs hold.
+fn run_known<'s, E, W: Work + 's, K: Known<W::Input> + 's, G: Gate, R: Threads + Wait + Sync>(
+    scope: &Scope<'s, E>,
+    rt: &'s R,
+    alloc: Global,
+    inputs: Arc<Inputs<W>, Global>,
+    crew: Crew,
+    gate: &'s G,
+    number: u8,
+) -> Result<W::Total, OutOfMemory>
+    requires known { arc_value inputs ≡ K.inputs }
+    ensures total { IfOk result (λ total. W.IsTotalOf (arc_value inputs) total) }
+    ensures admissible { OnOk result (W.IsAdmissible (arc_value inputs)) }
+{
+    let inputs = Arc::new(alloc, numbered::<W, K>(alloc, &inputs)?)?;
     let mut gathering = Gathering::new(alloc, Arc::try_clone(&inputs)?)?;
     let pipeline = Pipeline {
         rt,

@@ -1,6 +1,6 @@
 -- What was fed to a cutter, as it goes on.
 use Rattle.std.proofs.Common.{◌≡◌, ℕ, ◌+◌, ◌<◌, ◌≤◌, List, [], ◌∷◌, ◌++◌, length, take, drop, All, refl, sym, ap, ◌∙◌, subst, append_assoc, append-nil, ◌⊎◌}
-use Rattle.std.proofs.Common.{inl, inr, Bool, true, false, if◌then◌else◌, arith}
+use Rattle.std.proofs.Common.{inl, inr, Result, Ok, Err, OnOk, OnErr, arith}
 use Rattle.std.proofs.Math.Seq.{take-append_seam, drop-append_seam}
 use Rattle.std.specs.List.{concat}
 use Rattle.std.proofs.lemmas.List.{length-append, length-drop, length-take-le, nil_from_length, take-append-drop, take-append-le}
@@ -165,10 +165,9 @@ pub HasFed-more : (v : CutterView) (fed piece : List ℕ) → HasFed v fed → H
 HasFed-more v fed piece h = grind (arith, append_assoc)
 
 -- a piece was appended, or refused
-pub Cutting-grown : (b : Bool) (whole : ℕ) (v : CutterView) (piece grown : List ℕ) → IsCutting v whole → grown ≡ (if b then v.rest ++ piece else v.rest)
-    → fed_length v + length piece ≤ LONGEST_FILE → IsCutting (record v { rest = grown }) whole
-Cutting-grown false whole v piece grown c e h = rw e c
-Cutting-grown true whole v piece grown c e h = rw e (record {
+pub Cutting-grown : {A B : Type 0} {v : CutterView} {whole : ℕ} (r : Result A B) (piece grown : List ℕ) → IsCutting v whole
+    → OnOk r (grown ≡ v.rest ++ piece) → OnErr r (grown ≡ v.rest) → fed_length v + length piece ≤ LONGEST_FILE → IsCutting (record v { rest = grown }) whole
+Cutting-grown {v = v} {whole = whole} (Ok _) piece grown c e _ h = rw e (record {
   fed = c.fed ++ piece;
   has = HasFed-more v c.fed piece c.has;
   below = c.below;
@@ -176,3 +175,4 @@ Cutting-grown true whole v piece grown c e h = rw e (record {
   front = rw (take-append-le whole v.rest piece c.within) c.front;
   bound = omega (arith, h, length-append v.rest piece);
 })
+Cutting-grown (Err _) piece grown c _ e h = rw e c

@@ -1,10 +1,11 @@
-ghost use Rattle.std.specs.Prelude.{◌≡◌, ◌≤◌, ◌<◌, ◌+◌, ◌++◌, ◌⊎◌, [], ℕ, List, length, drop, IfErr, IfOk, IfSome, IsNone, OnErr, OnOk, vec_len, All};
+ghost use Rattle.std.specs.Prelude.{◌≡◌, ◌≤◌, ◌<◌, ◌+◌, ◌++◌, ◌⊎◌, [], ℕ, List, length, IfErr, IfOk, IfSome, IsNone, OnErr, OnOk, All};
 ghost use Rattle.std.specs.List.{concat};
 ghost use Rattle.lists.specs.declared.limits.TheConstants.{MOST_MORSELS};
 ghost use Rattle.day_file.specs.Cuts.{IsCutBy, IsCutFault, IsFirstRun};
 ghost use Rattle.day_file.specs.Feeding.{HasFed, IsFullRun, IsTaken, fed_length};
 ghost use Rattle.day_file.specs.Frames.{IsTruncatedAt, IsWhole};
 
+use crate::rest::Rest;
 use crate::runs::{count_runs, head_of};
 use crate::{Cut, CutFault, OutOfMemory};
 use lists::limits::{LONGEST_FILE, MOST_MORSELS};
@@ -20,30 +21,19 @@ pub struct Cutter {
     target: u64,
     cut: Cut,
     past: u64,
-    rest: Vec<u8>,
-    start: usize,
+    rest: Rest,
     whole: usize,
 }
 
 impl Model for Cutter {
-    ghost use Rattle.std.specs.Prelude.{◌≤◌, drop, vec_len};
     ghost use Rattle.day_file.specs.Feeding.{CutterView, IsCutting};
 
     ghost Value = { CutterView };
 
-    ghost view = { λ c. record {
-      target = c.target;
-      cut = c.cut;
-      past = c.past;
-      rest = drop c.start c.rest.items;
-    } };
+    ghost view = { λ c. record { target = c.target; cut = c.cut; past = c.past; rest = c.rest } };
 
-    ghost invariant = { λ c. IsCutting (record {
-      target = c.target;
-      cut = c.cut;
-      past = c.past;
-      rest = drop c.start c.rest.items;
-    }) c.whole × (c.start ≤ vec_len c.rest) };
+    ghost invariant = { λ c.
+        IsCutting (record { target = c.target; cut = c.cut; past = c.past; rest = c.rest }) c.whole };
 }
 
 impl Cutter {
@@ -59,8 +49,7 @@ impl Cutter {
             target,
             cut: Cut::empty(alloc),
             past: 0,
-            rest: Vec::new(alloc),
-            start: 0,
+            rest: Rest::empty(alloc),
             whole: 0,
         }
     }
@@ -71,7 +60,7 @@ impl Cutter {
         ensures fed { (fed : List ℕ) → HasFed self.now fed → result ≡ length fed }
         ensures within { result ≤ LONGEST_FILE }
     {
-        self.cut.length() + self.past + (self.rest.len() - self.start) as u64
+        self.cut.length() + self.past + self.rest.as_slice().len() as u64
     }
 
     /// The morsels that it has cut so far and keeps, in order. They are the first ones of the cut that
@@ -108,10 +97,8 @@ impl Cutter {
         ensures same { OnErr result ((fed : List ℕ) → HasFed self.old fed → HasFed self.new fed) }
         ensures target { self.new.target ≡ self.old.target }
     {
-        self.cut_off()?;
-        remove_front(&mut self.rest, self.start);
-        self.start = 0;
-        self.rest.extend_from_slice(piece)
+        self.cut_off(piece.len())?;
+        self.rest.append(piece)
     }
 
     /// The cut of all bytes that were fed, or why there is none: the same as `cut` gives of them.
@@ -120,28 +107,25 @@ impl Cutter {
         ensures fault { IfErr result (λ fault. (fed : List ℕ) → HasFed self fed → IsCutFault self.target fed fault) }
     {
         self.count_all()?;
-        self.cut_off()?;
+        self.cut_off(0)?;
         let Cutter {
             alloc,
             mut cut,
-            mut rest,
-            start,
+            rest,
             ..
         } = self;
-        remove_front(&mut rest, start);
-        cut.append_rest(alloc, rest)?;
+        cut.append_rest(alloc, rest.into_bytes())?;
         Ok(cut)
     }
 
     // Whether all that was fed has a cut of no more runs than a cut may have.
     fn count_all(&self) -> Result<(), CutFault>
-        ensures some { (fed : List ℕ) × HasFed self.now fed }
         ensures few { OnOk result ((fed : List ℕ) → HasFed self.now fed
             → (runs : List (List ℕ)) × IsCutBy self.now.target runs fed × (length runs ≤ MOST_MORSELS)) }
         ensures fault { IfErr result (λ fault. (fed : List ℕ) → HasFed self.now fed
             → IsCutFault self.now.target fed fault) }
     {
-        let more = match count_runs(self.left(), self.target) {
+        let more = match count_runs(self.rest.as_slice(), self.target) {
             Ok(more) => more,
             Err(fault) => {
                 let ended = self.cut.length() + self.past;
@@ -156,17 +140,9 @@ impl Cutter {
         Ok(())
     }
 
-    // The bytes after all full runs.
-    fn left(&self) -> &[u8]
-        ensures same { result.now ≡ self.now.rest }
-        ensures within { length result.now ≤ LONGEST_FILE }
-        ensures target { 0 < self.now.target }
-    {
-        &self.rest[self.start..]
-    }
-
-    // Takes all full runs off the rest.
-    fn cut_off(&mut self) -> Result<(), OutOfMemory>
+    // Takes all full runs off the rest. Next, `next` bytes are fed.
+    fn cut_off(&mut self, next: usize) -> Result<(), OutOfMemory>
+        requires { fed_length self.old + next ≤ LONGEST_FILE }
         ensures fed { (fed : List ℕ) → HasFed self.old fed → HasFed self.new fed }
         ensures target { self.new.target ≡ self.old.target }
         ensures length { fed_length self.new ≡ fed_length self.old }
@@ -174,7 +150,7 @@ impl Cutter {
             ⊎ ((place : ℕ) × IsTruncatedAt self.new.rest place)) }
     {
         while let Some(end) = self.next_run() {
-            self.take_run(end)?;
+            self.take_run(end, next)?;
         }
         Ok(())
     }
@@ -188,7 +164,7 @@ impl Cutter {
         ensures none { IsNone result → (IsWhole self.old.rest × (length self.old.rest < self.old.target))
             ⊎ ((place : ℕ) × IsTruncatedAt self.old.rest place) }
     {
-        match head_of(self.left(), self.whole, self.target) {
+        match head_of(self.rest.as_slice(), self.whole, self.target) {
             Ok(end) => Some(end),
             Err(whole) => {
                 self.whole = whole;
@@ -197,35 +173,21 @@ impl Cutter {
         }
     }
 
-    // Takes the full run off the head of the rest.
-    fn take_run(&mut self, end: usize) -> Result<(), OutOfMemory>
+    // Takes the full run off the head of the rest. Next, `next` bytes are fed.
+    fn take_run(&mut self, end: usize, next: usize) -> Result<(), OutOfMemory>
         requires run { IsFirstRun self.old.target end self.old.rest }
         requires full { self.old.target ≤ end }
+        requires room { fed_length self.old + next ≤ LONGEST_FILE }
         ensures taken { OnOk result (IsTaken end self.old self.new) }
         ensures same { OnErr result (self.new ≡ self.old) }
     {
-        let after = self.start + end;
         if self.cut.count() < MOST_MORSELS {
-            let run = Vec::from_slice(self.alloc, &self.left()[..end])?;
-            self.cut.append(self.alloc, run)?;
+            self.rest.take_run(self.alloc, &mut self.cut, end, next)?;
         } else {
             self.past += end as u64;
+            self.rest.skip(end);
         }
-        self.start = after;
         self.whole = 0;
         Ok(())
     }
-}
-
-// Removes the bytes before this place.
-fn remove_front(bytes: &mut Vec<u8>, start: usize)
-    requires { start ≤ vec_len bytes.old }
-    ensures { bytes.new.items ≡ drop start bytes.old.items }
-{
-    if start == 0 {
-        return;
-    }
-    let left = bytes.len() - start;
-    bytes.copy_within(start.., 0);
-    bytes.truncate(left);
 }

@@ -69,10 +69,10 @@ fn make_cut(alloc: Global, bytes: &[u8], target: u64) -> Result<Cut, CutFault>
     let mut start = 0;
     while start < bytes.len() {
         let length = run_at(bytes, start, target)?;
-        cut.append(
-            alloc,
-            Vec::from_slice(alloc, &bytes[start..start + length])?,
-        )?;
+        let run = Vec::from_slice(alloc, &bytes[start..start + length])?;
+        let Ok(()) = cut.append(alloc, run) else {
+            return Err(CutFault::OutOfMemory);
+        };
         start += length;
     }
     Ok(cut)

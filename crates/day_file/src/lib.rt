@@ -13,6 +13,7 @@ mod frame;
 mod frame_laws;
 mod morsel;
 mod morsels;
+mod rest;
 mod runs;
 mod source;
 mod truncated;

@@ -70,6 +70,13 @@ impl Morsel {
         &self.bytes
     }
 
+    // Its bytes, without a copy.
+    pub(crate) fn into_bytes(self) -> Vec<u8>
+        ensures { result.items ≡ self.bytes }
+    {
+        self.bytes
+    }
+
     /// Its frames in order, with their places in the file, without a copy of a body.
     pub fn frames(&self) -> Frames<'_>
         ensures stand { StandsFrom self.now.start result.frames self.now.bytes }

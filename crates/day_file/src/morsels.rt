@@ -1,4 +1,4 @@
-ghost use Rattle.std.specs.Prelude.{◌≡◌, ◌≤◌, ◌<◌, ◌+◌, ◌++◌, ◌∷◌, [], ℕ, List, length, map, OnOk, OnErr, IfOk, slice_get, Some, vec_len};
+ghost use Rattle.std.specs.Prelude.{◌≡◌, ◌≤◌, ◌<◌, ◌+◌, ◌++◌, ◌∷◌, [], ℕ, List, length, map, OnOk, OnErr, IfErr, IfOk, slice_get, Some, vec_len};
 ghost use Rattle.std.specs.List.{concat};
 ghost use Rattle.std.specs.Arc.{arc_value};
 ghost use Rattle.day_file.specs.Cuts.{IsRun, rest_run, start_of};
@@ -7,7 +7,7 @@ ghost use Rattle.day_file.specs.Kept.{AreMorsels};
 
 use crate::{Morsel, OutOfMemory};
 use lists::limits::{LONGEST_FILE, MOST_MORSELS};
-use std::alloc::Global;
+use std::alloc::{AllocFailed, Global};
 use std::marker::Model;
 use std::sync::Arc;
 
@@ -43,20 +43,32 @@ impl Cut {
         }
     }
 
-    // Adds these frames as the last morsel, without a copy.
+    // Adds these frames as the last morsel, without a copy. A refusal gives them back.
     #[tactic(auto, using(crate::proofs::Kept::growing))]
-    pub(crate) fn append(&mut self, alloc: Global, run: Vec<u8>) -> Result<(), OutOfMemory>
+    pub(crate) fn append(&mut self, alloc: Global, run: Vec<u8>) -> Result<(), AllocFailed<Vec<u8>>>
         requires run { IsRun run.items }
         requires room { length self.old < MOST_MORSELS }
         requires within { length (concat self.old) + vec_len run ≤ LONGEST_FILE }
         ensures ok { OnOk result (self.new ≡ self.old ++ run.items ∷ []) }
         ensures err { OnErr result (self.new ≡ self.old) }
+        ensures returned { IfErr result (λ refused. refused.value.items ≡ run.items) }
     {
+        if self.morsels.reserve(1).is_err() {
+            return Err(AllocFailed { value: run });
+        }
         let length = run.len() as u64;
         let morsel = Morsel::of(self.morsels.len() as u32, self.length, run);
-        self.morsels.push(Arc::new(alloc, morsel)?)?;
-        self.length += length;
-        Ok(())
+        match Arc::new(alloc, morsel) {
+            Ok(morsel) => {
+                // There is room.
+                let _ = self.morsels.push(morsel);
+                self.length += length;
+                Ok(())
+            }
+            Err(refused) => Err(AllocFailed {
+                value: refused.value.into_bytes(),
+            }),
+        }
     }
 
     // Adds the rest of the bytes as the last morsel, if there is any, without a copy.
@@ -69,7 +81,7 @@ impl Cut {
         if rest.is_empty() {
             return Ok(());
         }
-        self.append(alloc, rest)
+        Ok(self.append(alloc, rest)?)
     }
 
     /// How many morsels there are.

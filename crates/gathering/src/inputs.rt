@@ -43,6 +43,15 @@ impl<W: Work> Inputs<W> {
         self.items.len() as u32
     }
 
+    /// All of them, in order: an admissible list.
+    pub fn all(&self) -> &[Arc<W::Input, Global>]
+        ensures inputs { map arc_value result.now ≡ self.now }
+        ensures admissible { W.IsAdmissible self.now }
+        ensures few { length result.now ≤ MOST_TASKS }
+    {
+        self.items.as_slice()
+    }
+
     /// The input of a task.
     pub fn input(&self, number: u32) -> &Arc<W::Input, Global>
         requires { number < length self.now }

@@ -50,14 +50,14 @@ fn start<R: Threads + Wait + Sync, K: Sink, L: Sink>(
 ) -> u8
     requires out { K.has_failed out.old ≡ false }
     requires errors { L.has_failed errors.old ≡ false }
-    ensures did { DidStream K.Sink L.Sink job.now out.old out.new errors.old errors.new result
+    ensures did { DidStream job.now K.Sink out.old out.new L.Sink errors.old errors.new result
         ⟦<Counted<Stdin> as Source>⟧
-        ⊎ DidStream K.Sink L.Sink job.now out.old out.new errors.old errors.new result
+        ⊎ DidStream job.now K.Sink out.old out.new L.Sink errors.old errors.new result
         ⟦<Counted<File> as Source>⟧
         ⊎ (let file = ⟦<FileBlocks<File> as BlockSource>⟧ in
-        DidBlocks K.Sink L.Sink job.now out.old out.new errors.old errors.new result
+        DidBlocks job.now K.Sink out.old out.new L.Sink errors.old errors.new result
         (record { GaveAt = file.GaveAt; EndsAt = file.EndsAt; FailsAt = file.FailsAt }))
-        ⊎ DidNotOpen K.Sink L.Sink job.now out.old out.new errors.old errors.new result }
+        ⊎ DidNotOpen job.now K.Sink out.old out.new L.Sink errors.old errors.new result }
     ensures quiet { result ≡ 0 → errors.new ≡ errors.old }
 {
     if job.file.as_str() == STANDARD_INPUT {

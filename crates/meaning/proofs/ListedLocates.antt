@@ -19,7 +19,7 @@ use Rattle.meaning.specs.Selected.{has_name, locates_of, selected_locates}
 numbers_more : (n : ℕ) → numbers_below (n + 1) ≡ numbers_below n ++ n ∷ []
 numbers_more n = rw (map-id, map-id) at (map-range_with_len_more (λ (k : ℕ). k) 0 n n (omega arith))
 
-numbers_rise : (n : ℕ) → IsStrictlyIncreasing (numbers_below n)
+pub numbers_rise : (n : ℕ) → IsStrictlyIncreasing (numbers_below n)
 numbers_rise n k within =
     let long = length-range_with_len 0 n in
     omega (arith, long, within, get_or-range_with_len 0 n k 0 (omega (arith, long, within)), get_or-range_with_len 0 n (k + 1) 0 (omega (arith, long, within)))

@@ -3,6 +3,5 @@ pub mod MessagesOfPartition
 pub mod JoinedInPartitions
 pub mod DividedRows
 mod Remainders
-mod SearchedRows
 mod TakenRows
 mod Masks

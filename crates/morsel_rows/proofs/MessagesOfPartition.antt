@@ -6,7 +6,7 @@ use Rattle.std.specs.List.Sorted.{IsStrictlySortedBy}
 use Rattle.std.specs.Ordering.{nat_cmp}
 use Rattle.std.proofs.lemmas.List.Kept.{IsStrictlySortedBy-filter}
 use Rattle.itch_messages.specs.declared.message.Message.{Message}
-use Rattle.itch_messages.specs.declared.message.Message.TheVariants.{Add, Executed, ExecutedAt, Replace, Trade, Cross, Broken, Directory, Skipped}
+use Rattle.itch_messages.specs.declared.message.Message.TheVariants.{Add, Executed, Replace}
 use Rattle.lists.specs.Least.{part}
 use Rattle.lists.specs.declared.limits.TheConstants.{TRADE_LIMIT}
 use Rattle.row_types.specs.declared.order.OrderRow.{OrderRow}
@@ -14,7 +14,6 @@ use Rattle.row_types.specs.declared.trade.Execution.{Execution}
 use Rattle.row_types.specs.declared.trade.Sale.{Sale}
 use Rattle.day_rows.specs.DayRows.{AreByPlace, rows_of}
 use Rattle.day_rows.specs.Messages.{Placed, order_row_at, execution_at, own_priced_at, executions, own_priced_sales}
-use Rattle.day_rows.proofs.TradesOfRows.{own_keeps_place}
 use Rattle.day_rows.proofs.CountedMessages.{fewer_of_filter}
 use Rattle.morsel_rows.specs.Partitions.{AreRowsByPlace, no_rows_in, partition_of}
 
@@ -55,48 +54,13 @@ module _ {Y : Type 0} (n b : ℕ) (number : Y → ℕ) (give : ℕ → Message �
       ∙ once (goes_to n b m) m (filter (goes_to n b) ms)
 
 order_number : (place : ℕ) (message : Message) (row : OrderRow) → order_row_at place message ≡ Some row → row.order_no ≡ number_at place message
-order_number place (Add add) row e = let same : record { place = place; order_no = add.order_no; price = add.price } ≡ row = cc in
-    sym (ap (λ (r : OrderRow). r.order_no) same)
-order_number place (Replace replace) row e = let same : record { place = place; order_no = replace.new_no; price = replace.price } ≡ row = cc in
-    sym (ap (λ (r : OrderRow). r.order_no) same)
-order_number place (Executed executed) row e = absurd (cc)
-order_number place (ExecutedAt executed) row e = absurd (cc)
-order_number place (Trade trade) row e = absurd (cc)
-order_number place (Cross cross) row e = absurd (cc)
-order_number place (Broken broken) row e = absurd (cc)
-order_number place (Directory directory) row e = absurd (cc)
-order_number place Skipped row e = absurd (cc)
+order_number place message row e = grind arith
 
 execution_number : (place : ℕ) (message : Message) (row : Execution) → execution_at place message ≡ Some row → row.order_no ≡ number_at place message
-execution_number place (Executed executed) row e =
-    let made : Execution = record {
-      place = place;
-      time = executed.header.time;
-      locate = executed.header.locate;
-      order_no = executed.order_no;
-      shares = executed.shares;
-      trade_no = executed.trade_no;
-    } in
-    let same : made ≡ row = cc in sym (ap (λ (r : Execution). r.order_no) same)
-execution_number place (Add add) row e = absurd (cc)
-execution_number place (Replace replace) row e = absurd (cc)
-execution_number place (ExecutedAt executed) row e = absurd (cc)
-execution_number place (Trade trade) row e = absurd (cc)
-execution_number place (Cross cross) row e = absurd (cc)
-execution_number place (Broken broken) row e = absurd (cc)
-execution_number place (Directory directory) row e = absurd (cc)
-execution_number place Skipped row e = absurd (cc)
+execution_number place message row e = grind arith
 
 own_number : (place : ℕ) (message : Message) (sale : Sale) → own_priced_at place message ≡ Some sale → sale.place ≡ number_at place message
-own_number place (Add add) sale e = absurd (cc)
-own_number place (Executed executed) sale e = absurd (cc)
-own_number place (Replace replace) sale e = absurd (cc)
-own_number place (ExecutedAt executed) sale e = own_keeps_place place (ExecutedAt executed) sale e
-own_number place (Trade trade) sale e = own_keeps_place place (Trade trade) sale e
-own_number place (Cross cross) sale e = own_keeps_place place (Cross cross) sale e
-own_number place (Broken broken) sale e = absurd (cc)
-own_number place (Directory directory) sale e = absurd (cc)
-own_number place Skipped sale e = absurd (cc)
+own_number place message sale e = grind arith
 
 -- a partition of messages has the rows of some of them
 pub partition_by_place : (n b : ℕ) (messages : List Placed) → AreByPlace messages

@@ -65,6 +65,15 @@ module _ {Z : Type 0} where
   set_same (one ∷ taken) zero here is = ap (λ it. it ∷ taken) is
   set_same (one ∷ taken) (suc number) here is = ap (λ rest. one ∷ rest) (set_same taken number here is)
 
+  -- where the same rows are put in the place of some, all are the same
+  pub put_same : (taken : List (Option (Box PartitionView Z))) (at : ℕ) (here next : Option (Box PartitionView Z)) → here ≡ slice_index_or taken at here
+      → rows_of_taken next ≡ rows_of_taken here → (number : ℕ) → rows_taken_at (slice_set taken at next) number ≡ rows_taken_at taken number
+  put_same [] at here next is same number = refl
+  put_same (one ∷ taken) zero here next is same zero = same ∙ ap rows_of_taken is
+  put_same (one ∷ taken) zero here next is same (suc number) = refl
+  put_same (one ∷ taken) (suc at) here next is same zero = refl
+  put_same (one ∷ taken) (suc at) here next is same (suc number) = put_same taken at here next is same number
+
 module _ {Z : Type 0} (n : ℕ) where
   -- there are as many as there are to be
   pub length_seen : (taken : List (Option (Box PartitionView Z))) → length (partitions_seen n taken) ≡ n

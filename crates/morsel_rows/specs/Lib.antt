@@ -1,5 +1,4 @@
 pub mod Partitions
-pub mod ShortRows
 pub mod MoreRows
 pub mod SameRows
 pub mod TakenPartitions

@@ -1,16 +1,13 @@
 //! The same rows in more partitions.
-ghost use Rattle.std.specs.Prelude.{◌≡◌, ℕ, ◌*◌, ◌<◌, [], IfOk, List, OnOk};
-ghost use Rattle.row_types.specs.declared.order.OrderRow.{OrderRow as TheOrder};
-ghost use Rattle.row_types.specs.declared.trade.Execution.{Execution as TheExecution};
-ghost use Rattle.row_types.specs.declared.trade.Sale.{Sale as TheSale};
-ghost use Rattle.day_rows.specs.DayRows.{DayRows};
+ghost use Rattle.std.specs.Prelude.{◌≡◌, ℕ, ◌*◌, ◌<◌, IfOk, OnOk};
+ghost use Rattle.day_rows.specs.DayRows.{DayRows, no_rows};
 ghost use Rattle.morsel_rows.specs.MoreRows.{BecomesJoined, only_partition};
 ghost use Rattle.morsel_rows.specs.Partitions.{in_partitions, joined_partitions};
 
 use crate::OutOfMemory;
-use crate::orders::OrderList;
 use crate::partition::Partition;
 use crate::rows::MorselRows;
+use order_list::OrderList;
 use row_types::{Execution, Sale};
 use std::alloc::{AllocError, Allocator};
 
@@ -78,8 +75,7 @@ impl<A: Allocator + Copy> MorselRows<A> {
     }
 
     fn push_orders(&mut self, rows: &OrderList<A>) -> Result<(), OutOfMemory>
-        ensures { OnOk result (BecomesJoined
-            (only_partition (record { orders = rows.now; executions = []; own_priced = [] })) self.old self.new) }
+        ensures { OnOk result (BecomesJoined (record no_rows { orders = rows.now }) self.old self.new) }
     {
         for row in rows.iter() {
             self.push_order(row)?;
@@ -88,8 +84,7 @@ impl<A: Allocator + Copy> MorselRows<A> {
     }
 
     fn push_executions(&mut self, rows: &[Execution]) -> Result<(), OutOfMemory>
-        ensures { OnOk result (BecomesJoined
-            (only_partition (record { orders = []; executions = rows.now; own_priced = [] })) self.old self.new) }
+        ensures { OnOk result (BecomesJoined (record no_rows { executions = rows.now }) self.old self.new) }
     {
         for row in rows {
             self.push_execution(*row)?;
@@ -98,8 +93,7 @@ impl<A: Allocator + Copy> MorselRows<A> {
     }
 
     fn push_sales(&mut self, rows: &[Sale]) -> Result<(), OutOfMemory>
-        ensures { OnOk result (BecomesJoined
-            (only_partition (record { orders = []; executions = []; own_priced = rows.now })) self.old self.new) }
+        ensures { OnOk result (BecomesJoined (record no_rows { own_priced = rows.now }) self.old self.new) }
     {
         for row in rows {
             self.push_sale(*row)?;

@@ -6,8 +6,7 @@ ghost use Rattle.morsel_rows.specs.Partitions.{no_rows_in};
 ghost use Rattle.morsel_rows.specs.SameRows.{is_same_partition, partition_equiv};
 
 use crate::OutOfMemory;
-use crate::orders::OrderList;
-use crate::pushing::push;
+use order_list::{OrderList, push};
 use row_types::{Execution, OrderRow, Sale};
 use std::alloc::{Allocator, Global};
 use std::marker::Model;
@@ -90,6 +89,14 @@ impl<A: Allocator> Partition<A> {
         ensures { result.now ≡ self.now.own_priced }
     {
         self.own_priced.as_slice()
+    }
+
+    /// Whether there are no rows.
+    #[inline(always)]
+    pub fn is_empty(&self) -> bool
+        ensures { result ≡ is_same_partition self.now no_rows_in }
+    {
+        self.orders.len() == 0 && self.executions.is_empty() && self.own_priced.is_empty()
     }
 
     /// Adds an execution. Where there is no memory for it, the partition stays as it was.

@@ -1,10 +1,9 @@
 //! The rows of one morsel.
-ghost use Rattle.std.specs.Prelude.{◌≡◌, ℕ, ◌<◌, ◌≤◌, IfOk, MatchOption, OnErr, OnOk, Some};
-ghost use Rattle.std.specs.Prelude.{length, slice_get, vec_len};
+ghost use Rattle.std.specs.Prelude.{◌≡◌, ℕ, ◌<◌, ◌≤◌, IfOk, MatchOption, OnErr, OnOk, Some, length, slice_get, vec_len};
 ghost use Rattle.day_rows.specs.DayRows.{DayRows, counted_rows_at, joined, no_rows, told};
 ghost use Rattle.morsel_rows.specs.MoreRows.{BecomesJoined};
 ghost use Rattle.morsel_rows.specs.Partitions.{in_partitions, no_rows_in};
-ghost use Rattle.morsel_rows.specs.TakenPartitions.{HasTaken, rows_taken_at};
+ghost use Rattle.morsel_rows.specs.TakenPartitions.{HasTaken, rows_of_taken, rows_taken_at};
 
 use crate::OutOfMemory;
 use crate::numbers::{inverse_of, number_of};
@@ -55,7 +54,7 @@ impl<A: Allocator> Model for MorselRows<A> {
 
 impl<A: Allocator + Copy> MorselRows<A> {
     /// No rows, in this many partitions, each with room for `orders` order rows, which is taken at
-    /// once. It is refused if there is no memory for them.
+    /// once if it is 16 or more. It is refused if there is no memory for them.
     pub fn new(alloc: A, parts: u32, orders: usize) -> Result<Self, OutOfMemory>
         requires { 0 < parts }
         ensures { IfOk result (λ rows. rows ≡ in_partitions parts no_rows) }
@@ -72,8 +71,11 @@ impl<A: Allocator + Copy> MorselRows<A> {
     }
 }
 
-/// The partitions that take memory at once: if there is to be room for `orders` order rows in each, all,
-/// and otherwise none.
+/// Room for fewer order rows isn't taken before there are some: a morsel has rows in few of many partitions.
+const LEAST_ROOM: usize = 16;
+
+/// The partitions that take memory at once: if there is to be room for many order rows in each, all, and otherwise
+/// none.
 #[tactic(auto, using(crate::proofs::TakenRows::room_more))]
 fn with_rooms<A: Allocator + Copy>(
     alloc: A,
@@ -82,7 +84,7 @@ fn with_rooms<A: Allocator + Copy>(
 ) -> Result<Taken<A>, OutOfMemory>
     ensures { IfOk result (λ taken. (number : ℕ) → rows_taken_at taken.items number ≡ no_rows_in) }
 {
-    if orders == 0 {
+    if orders < LEAST_ROOM {
         return Ok(Vec::new(alloc));
     }
     let mut partitions = Vec::with_capacity(alloc, parts as usize)?;
@@ -129,7 +131,8 @@ impl<A: Allocator> MorselRows<A> {
         self.directory.as_slice()
     }
 
-    /// Gives memory back that is taken for further rows.
+    /// Gives memory back that is taken for further rows, and all of partitions that have none.
+    #[tactic(auto, using(crate::proofs::TakenRows::seen_same))]
     pub fn shrink_to_fit(&mut self)
         ensures { self.new ≡ self.old }
     {
@@ -304,13 +307,23 @@ fn lengthen<A: Allocator>(partitions: &mut Taken<A>, parts: usize) -> Result<(),
     Ok(())
 }
 
-/// Gives memory back that the partitions take for further rows.
+/// Gives memory back that the partitions take for further rows, and all that those without rows take.
 fn shrink_all<A: Allocator>(partitions: &mut [Option<Box<Partition<A>, A>>])
-    ensures { partitions.new ≡ partitions.old }
+    ensures { (number : ℕ) → rows_taken_at partitions.new number ≡ rows_taken_at partitions.old number }
 {
     for taken in partitions.iter_mut() {
-        if let Some(partition) = taken {
+        shrink(taken);
+    }
+}
+
+/// Gives memory back that a partition takes for further rows, and all if it has no rows.
+fn shrink<A: Allocator>(taken: &mut Option<Box<Partition<A>, A>>)
+    ensures { rows_of_taken taken.new ≡ rows_of_taken taken.old }
+{
+    if let Some(mut partition) = taken.take() {
+        if !partition.is_empty() {
             partition.shrink_to_fit();
+            *taken = Some(partition);
         }
     }
 }

@@ -1,8 +1,8 @@
 -- The rows that a filter needs answer as all rows do.
-use Rattle.std.proofs.Common.{◌≡◌, ℕ, ◌<◌, ◌∷◌, [], ◌++◌, Bool, true, false, cond, nat_eq, List, map, filter, All, Contains, length, get_or, refl, sym, ap, ◌∙◌}
+use Rattle.std.proofs.Common.{◌≡◌, ℕ, ◌<◌, ◌∷◌, [], ◌++◌, Bool, true, false, nat_eq, List, map, filter, All, Contains, length, get_or, refl, sym, ap, ◌∙◌}
 use Rattle.std.proofs.Common.{inl, inr, arith}
 use Rattle.std.specs.List.{AllByRecursion, AllPairs, IsDistinct}
-use Rattle.std.proofs.lemmas.Bool.{cases_order}
+use Rattle.std.proofs.lemmas.Bool.{cases_order, cond_both}
 use Rattle.std.proofs.lemmas.List.{get_or_default, get_or-map, length-map}
 use Rattle.std.proofs.lemmas.List.Elements.{All-contains_itself, All-head, All-map, All-push, All-tail, All-weaker}
 use Rattle.std.proofs.lemmas.List.Quantifiers.{all_pairs_push}
@@ -27,24 +27,19 @@ all_pass test number (x ∷ xs) each =
 apart_kept : {X : Type 0} (n : ℕ) (number : X → ℕ) (p : X → Bool) (xs : List X) → AllByRecursion (λ m. nat_eq n m ≡ false) (map number xs)
     → AllByRecursion (λ m. nat_eq n m ≡ false) (map number (filter p xs))
 apart_kept n number p [] all = tt
-apart_kept {X} n number p (x ∷ xs) all = kept (p x) all.0 (apart_kept n number p xs all.1)
-  where
-    kept : (b : Bool) → nat_eq n (number x) ≡ false → AllByRecursion (λ m. nat_eq n m ≡ false) (map number (filter p xs))
-        → AllByRecursion (λ m. nat_eq n m ≡ false) (map number (cond b (x ∷ filter p xs) (filter p xs)))
-    kept true one rest = (one, rest)
-    kept false one rest = rest
+apart_kept n number p (x ∷ xs) all =
+    let more = apart_kept n number p xs all.1 in
+    cond_both (p x) (x ∷ filter p xs) (filter p xs) (λ l. AllByRecursion (λ m. nat_eq n m ≡ false) (map number l)) (λ _. (all.0, more)) (λ _. more)
 
 -- what is kept is told apart as all are
 pub distinct_filter : {X : Type 0} (number : X → ℕ) (p : X → Bool) (xs : List X) → IsDistinct nat_eq (map number xs)
     → IsDistinct nat_eq (map number (filter p xs))
 unfolding IsDistinct
 distinct_filter number p [] distinct = tt
-distinct_filter {X} number p (x ∷ xs) distinct = kept (p x) (apart_kept (number x) number p xs distinct.0) (distinct_filter number p xs distinct.1)
-  where
-    kept : (b : Bool) → AllByRecursion (λ m. nat_eq (number x) m ≡ false) (map number (filter p xs)) → IsDistinct nat_eq (map number (filter p xs))
-        → IsDistinct nat_eq (map number (cond b (x ∷ filter p xs) (filter p xs)))
-    kept true one rest = (one, rest)
-    kept false one rest = rest
+distinct_filter number p (x ∷ xs) distinct =
+    let more = distinct_filter number p xs distinct.1 in
+    cond_both (p x) (x ∷ filter p xs) (filter p xs) (λ l. IsDistinct nat_eq (map number l))
+    (λ _. (apart_kept (number x) number p xs distinct.0, more)) (λ _. more)
 
 -- if of each two orders of one reference both pass, no row that repeats one is lost
 module _ (test : ℕ → Bool) (rows : List OrderRow)

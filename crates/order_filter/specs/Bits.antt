@@ -1,5 +1,5 @@
 -- The bits of a reference.
--- Derived: it says how the code finds bits, and no answer is defined by it.
+-- To be believed of a crate used by itself: it says how bits are found, and no answer is defined by it.
 use Rattle.std.specs.Prelude.{ℕ, ◌*◌, ◌/◌, ◌%◌, ◌^◌, ◌==◌, Bool, List, length, slice_index, bit_and, bit_or}
 use Rattle.order_filter.specs.declared.bits.TheConstants.{SPREAD}
 

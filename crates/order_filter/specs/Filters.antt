@@ -1,5 +1,5 @@
 -- Which references are needed.
--- Derived: it says which rows the code leaves out, and no answer is defined by it.
+-- To be believed of a crate used by itself: it says which rows the code leaves out, and no answer is defined by it.
 use Rattle.std.specs.Prelude.{◌≡◌, ℕ, Bool, true, List, filter, map}
 use Rattle.std.specs.List.{All, AllPairs}
 use Rattle.row_types.specs.declared.order.OrderRow.{OrderRow}
@@ -17,7 +17,7 @@ pub record IsFilterOf (executed ordered : List ℕ) (found : OrderFilter) : Type
   pub needs_repeated : AllPairs (λ x y. x ≡ y → is_needed found x ≡ true) ordered
 
 -- they are those of the rows that some filter of these executions and of all rows needs, in the rows' order
-abbrev pub AreNeeded : List ℕ → List OrderRow → List OrderRow → Type 0
-AreNeeded executed rows needed =
-    (found : OrderFilter) × IsFilterOf executed (map (λ row. row.order_no) rows) found
-    × (needed ≡ filter (λ row. is_needed found row.order_no) rows)
+pub record AreNeeded (executed : List ℕ) (rows needed : List OrderRow) : Type 0 where
+  pub found : OrderFilter
+  pub of : IsFilterOf executed (map (λ row. row.order_no) rows) found
+  pub are : needed ≡ filter (λ row. is_needed found row.order_no) rows

@@ -1,6 +1,5 @@
 -- The buckets that a plan has are those that the total is linked to.
-use Rattle.std.proofs.Common.{◌≡◌, ℕ, ◌<◌, ◌≤◌, ◌*◌, arith, List, Option, flat_map, map, refl, sym, ap}
-use Rattle.std.proofs.Common.{MatchOption, None, Some, ◌∙◌, subst, ⊎_elim}
+use Rattle.std.proofs.Common.{◌≡◌, ℕ, ◌<◌, ◌≤◌, ◌*◌, arith, List, Option, flat_map, map, refl, sym, ap, MatchOption, None, Some, ◌∙◌, subst, ⊎_elim}
 use Rattle.std.specs.Arc.{arc_value}
 use Rattle.std.specs.List.{concat}
 use Rattle.std.proofs.lemmas.Bool.{cases_lt}

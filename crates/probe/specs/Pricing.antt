@@ -21,8 +21,7 @@ is_unknown rows execution = is_none (price_of rows execution)
 
 -- the execution of least place that has no price
 abbrev pub first_unknown : List OrderRow → List Execution → Option Execution
-first_unknown rows executions =
-    least_by (λ execution. execution.place) (filter (is_unknown rows) executions)
+first_unknown rows executions = least_by (λ execution. execution.place) (filter (is_unknown rows) executions)
 
 -- what is reported of an execution that has no price
 abbrev pub unknown_of : Execution → Unknown

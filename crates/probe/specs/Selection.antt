@@ -28,8 +28,7 @@ has_kind kinds Q = kinds.q
 -- its `until`
 abbrev pub has_time : Option Span → ℕ → Bool
 has_time None time = true
-has_time (Some span) time =
-    nat_le (span.since * NANOSECONDS) time && nat_lt time (span.until * NANOSECONDS)
+has_time (Some span) time = nat_le (span.since * NANOSECONDS) time && nat_lt time (span.until * NANOSECONDS)
 
 -- the sale's locate, time and kind are all asked for
 abbrev pub admits : {A : Type 0} → Selection A → Sale → Bool

@@ -8,8 +8,7 @@ use Rattle.std.proofs.lemmas.Slice.Eq.{bytes_eq-Decides}
 use Rattle.query.specs.Words.{Word, word, reads_as}
 use Rattle.query.specs.Values.{count_of, unit_of, time_of, symbols_of, kinds_of}
 use Rattle.meaning.specs.Meaning.{Meaning, is_width}
-use Rattle.query.specs.Grammar.{Said, meaning_of, Conditions, Linked, Moment, Means}
-use Rattle.query.specs.Grammar.{symbol, time, kind, done, further, any_moment, up_to, sales, bars}
+use Rattle.query.specs.Grammar.{Said, meaning_of, Conditions, Linked, Moment, Means, symbol, time, kind, done, further, any_moment, up_to, sales, bars}
 use Rattle.query.specs.Faults.{IsRefused, Next, QueryFault, OutOfMemory, first_query_fault, opened, read_from, step, text, valued}
 use Rattle.query.specs.Faults.{refused, needs, condition, linked, moment, query, width, symbol_list, time_span, kind_list}
 use Rattle.query.proofs.WordByWord.{reads, read_end, stays}
@@ -41,6 +40,9 @@ means_read (bars count seconds width rest) = rw (count, seconds, width) (moment_
 
 -- ---- what is read has that meaning
 
+pub same_word : (bytes : List ℕ) (w : Word) → reads_as bytes w ≡ true → w ≡ word w.at bytes
+same_word bytes w e = ap (λ b. word w.at b) ((bytes_eq-Decides w.bytes bytes).0 e)
+
 module _ (q : Meaning) where
   -- the words that come next lead to the query
   abbrev Reads : Next → List Word → Type 0
@@ -61,9 +63,6 @@ module _ (q : Meaning) where
   is_new : {A : Type 0} (o : Option A) (w : Word) (next : Next) (ws : List Word) → Reads (opened w (is_some o) next) ws → (o ≡ None) × Reads next ws
   is_new None w next ws e = (refl, e)
   is_new (Some x) w next ws e = absurd (no_fault_reads _ ws e)
-
-  same_word : (bytes : List ℕ) (w : Word) → reads_as bytes w ≡ true → w ≡ word w.at bytes
-  same_word bytes w e = ap (λ b. word w.at b) ((bytes_eq-Decides w.bytes bytes).0 e)
 
   -- a choice by the word
   either : (bytes : List ℕ) (w : Word) (one other : Next) (ws : List Word) → Reads (cond (reads_as bytes w) one other) ws

@@ -13,7 +13,7 @@ use Rattle.schedules.specs.Rehearsals.{IsRehearsed as IsRehearsedPair, Next}
 use Rattle.schedules.specs.declared.event.Event.{Event}
 use Rattle.schedules.specs.declared.rehearsed.Rehearsed.{Rehearsed}
 use Rattle.schedules.specs.declared.rehearsed.Rehearsed.TheVariants as pair
-use Rattle.scanning.specs.Scans.{ScanInputView, ScanTotalView, inputs_of, total_of}
+use Rattle.scanning.specs.Scans.{AreRuns, ScanInputView, ScanTotalView, inputs_of, total_of}
 use Rattle.scanning.specs.declared.wrong.WrongLength.{WrongLength}
 use Rattle.day_file.proofs.Kept.{length-numbered}
 use Rattle.buckets.specs.BucketRows.{BucketView}
@@ -24,8 +24,7 @@ use Rattle.planning.specs.Planned.{IsLinkedTo, LinkView, all_directory, planned_
 use Rattle.planning.proofs.LinkedBuckets.{halt_of, next_is, next_of}
 use Rattle.rehearsals.specs.Rehearsals.{IsRehearsed}
 use Rattle.rehearsals.specs.declared.rehearsing.Rehearsal.TheVariants as rehearsal
-use Rattle.runs.proofs.CutAnswers.{AreRuns, answered_by, buckets, frames, gathered_by, halted_by, messages, right_frames, scan, stands}
-use Rattle.runs.proofs.CutAnswers.{wrong_fault, wrong_frame}
+use Rattle.runs.proofs.CutAnswers.{answered_by, buckets, frames, gathered_by, halted_by, messages, right_frames, scan, stands, wrong_fault, wrong_frame}
 
 abbrev Pair : Type 0
 Pair = Rehearsed TotalView (List DirectoryRow) WrongLength
@@ -55,7 +54,7 @@ module _ (runs : List (List ℕ)) (query : Meaning) (parts gatherers : ℕ) (eve
       → IsRehearsed runs query parts gatherers events1 events2 (rehearsal.Finished answer)
   Told (pair.Missing pipeline task) = IsRehearsed runs query parts gatherers events1 events2 (rehearsal.Missing pipeline task)
 
-  module _ (are : AreRuns runs) (some : 0 < parts) where
+  module _ (are : AreRuns 0 runs) (some : 0 < parts) where
     as_many : length (buckets runs query parts) ≡ parts
     as_many = length-map-range_with_len (planned_bucket query scanned.morsels) 0 parts
 

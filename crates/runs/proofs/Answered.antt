@@ -22,7 +22,7 @@ use Rattle.planning.proofs.MorselsOfCuts.{wrong_is}
 use Rattle.day_file.specs.Kept.{numbered}
 use Rattle.std.proofs.lemmas.Nat.{mul-lt}
 use Rattle.runs.specs.Steps.{IsOutcomeOf, IsScanOf}
-use Rattle.runs.proofs.CutAnswers.{AreRuns, answered_by, gathered_by, halted_by, messages as messages_of, wrong_fault}
+use Rattle.runs.proofs.CutAnswers.{answered_by, gathered_by, halted_by, messages as messages_of, wrong_fault}
 
 abbrev pub Pair : Type 0
 Pair = Outcome TotalView (List DirectoryRow) WrongLength
@@ -54,9 +54,6 @@ given_of {parts = parts} (Stopped stop) (first, is, links) linked some scan = re
   is = (first, scan first is, subst (λ (l : LinkView). IsLinkedTo l first (Halt stop)) linked links);
 }
 
-are_runs : {as_of : Option ℕ} {parts : ℕ} {runs : List (List ℕ)} {total : ScanTotalView} → IsScanOf 0 0 as_of parts runs total → AreRuns runs
-are_runs of = record { each = of.each; bytes = of.bytes; within = omega (arith, of.within) }
-
 module _ {query : Meaning} {runs : List (List ℕ)} where
   -- no length is wrong: there are messages of which this was found, and what answers to them answers to the file
   pub finished : {total : TotalView} {kept : List DirectoryRow} → IsOutcomeOf query (Finished total kept) runs
@@ -68,8 +65,8 @@ module _ {query : Meaning} {runs : List (List ℕ)} where
       let (buckets, names) = next_is query.as_of of.parts (numbered 0 0 runs) of.some next in
       let n = of.parts * next.pieces in (
         messages_of runs query n,
-        gathered_by runs query n (are_runs scan) total kept (mul-lt 0 0 of.parts next.pieces of.some next.some) (found ∙ ap total_found buckets) names,
-        λ told. answered_by runs query n (are_runs scan) told (same_wrong query.as_of n of.parts runs ∙ right),
+        gathered_by runs query n scan.are total kept (mul-lt 0 0 of.parts next.pieces of.some next.some) (found ∙ ap total_found buckets) names,
+        λ told. answered_by runs query n scan.are told (same_wrong query.as_of n of.parts runs ∙ right),
       )
 
   -- this length is wrong
@@ -77,5 +74,5 @@ module _ {query : Meaning} {runs : List (List ℕ)} where
       → IsAnswer (concat runs) query told
   stopped {stop} of told said =
       let (first, scan, linked) = of.is in
-      halted_by runs query of.parts (are_runs scan) stop told
+      halted_by runs query of.parts scan.are stop told
       (halt_of _ _ _ (subst (λ (s : ScanTotalView). IsLinkedTo (link_of query of.parts) s (Halt stop)) scan.is linked)) said

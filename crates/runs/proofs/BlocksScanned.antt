@@ -26,7 +26,7 @@ pub of_cut : {as_of : Option ℕ} {parts : ℕ} {runs : List (List ℕ)} {total 
     → IsTotal (λ inputs t. t ≡ total_of inputs) AreOfOneCut total
 of_cut {as_of} {parts} {runs} some of = (
   inputs_of as_of parts runs,
-  record { first = 0; start = 0; runs = runs; each = of.each; within = of.within; as_of = as_of; parts = parts; some = some; are = refl },
+  record { first = 0; start = 0; runs = runs; each = of.are.each; within = of.are.within; as_of = as_of; parts = parts; some = some; are = refl },
   of.is,
 )
 
@@ -34,7 +34,10 @@ module _ {S : Type 0} (device : BlockSourceOf S) (asked : Asked S) (asks : IsAsk
   scanned : {at : ℕ} {total : ScanTotalView} (chained : IsChained device asked.source asked.request at total)
       → IsScanOf 0 0 asked.request.as_of asked.request.parts chained.runs total
   scanned chained =
-      record { each = chained.each; bytes = chained.bytes; within = omega (arith, chained.at_is, chained.within, asks.limit); is = chained.are }
+      record {
+        are = record { each = chained.each; bytes = chained.bytes; within = omega (arith, chained.at_is, chained.within, asks.limit) };
+        is = chained.are;
+      }
 
   -- a total of all that a source gave is that of the scans of some cut
   pub of_one_cut : {total : ScanTotalView} → IsScannedWhole device asked.source asked.request total

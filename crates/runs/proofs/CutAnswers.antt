@@ -1,13 +1,11 @@
 -- What both pipelines find over a cut makes the answer to the query over its file.
-use Rattle.std.proofs.Common.{◌≡◌, ℕ, ◌<◌, ◌≤◌, All, length, List, [], ◌∷◌, Option, Some, None, option_map, Result, Err, map, flat_map}
-use Rattle.std.proofs.Common.{refl, sym, ap, ◌∙◌, subst}
+use Rattle.std.proofs.Common.{◌≡◌, ℕ, ◌<◌, List, [], ◌∷◌, Option, Some, None, option_map, Result, Err, map, flat_map, refl, sym, ap, ◌∙◌, subst, arith}
 use Rattle.std.specs.List.{AllByRecursion, concat}
 use Rattle.std.proofs.lemmas.List.Elements.{All-append, All-nil, recursion_from_All}
 use Rattle.lists.specs.Least.{numbers_below}
-use Rattle.lists.specs.declared.limits.TheConstants.{LONGEST_FILE}
 use Rattle.row_types.specs.declared.directory.DirectoryRow.{DirectoryRow}
 use Rattle.lists.specs.Among.{AreBytes}
-use Rattle.day_file.specs.Cuts.{IsRun, MorselView}
+use Rattle.day_file.specs.Cuts.{MorselView}
 use Rattle.day_file.specs.Frames.{PlacedBody, StandsFor}
 use Rattle.day_file.specs.Kept.{numbered}
 use Rattle.day_file.specs.Walk.{frames_of}
@@ -26,7 +24,7 @@ use Rattle.day_rows.proofs.FewTrades.{few_trades}
 use Rattle.day_rows.proofs.RowsByPlace.{messages_by_place}
 use Rattle.day_rows.proofs.StampedMessages.{stamped_rows}
 use Rattle.morsel_rows.specs.Partitions.{PartitionView, joined_partitions, partition_at, partition_of}
-use Rattle.scanning.specs.Scans.{ScanTotalView, total_of}
+use Rattle.scanning.specs.Scans.{AreRuns, ScanTotalView, total_of}
 use Rattle.scanning.specs.declared.wrong.WrongLength.{WrongLength}
 use Rattle.buckets.specs.BucketRows.{BucketView}
 use Rattle.buckets.specs.Buckets.{found, total_found}
@@ -36,12 +34,6 @@ use Rattle.joining.specs.Gathered.{AreGatheredOf, found_in}
 use Rattle.joining.proofs.AnswerOfBuckets.{map_below}
 use Rattle.planning.specs.Planned.{all_directory, planned_bucket, planned_buckets}
 use Rattle.planning.proofs.MorselsOfCuts.{breaks_are, counted_in, directory_is, input_of, partition_is, told_of, wrong_is}
-
--- the runs of a cut: whole frames, bytes, no more than a file may have
-pub record AreRuns (runs : List (List ℕ)) : Type 0 where
-  pub each : All IsRun runs
-  pub bytes : All AreBytes runs
-  pub within : length (concat runs) ≤ LONGEST_FILE
 
 -- the fault of a wrong length
 abbrev pub wrong_fault : WrongLength → DayFault
@@ -108,7 +100,7 @@ module _ (runs : List (List ℕ)) (query : Meaning) (parts : ℕ) where
       go None f g = absurd (cc)
       go (Some frame) f g = let same : told_of frame ≡ stop = cc in (frame, f, same)
 
-  module _ (are : AreRuns runs) where
+  module _ (are : AreRuns 0 runs) where
     pub stands : StandsFor frames (concat runs)
     stands = frames_of_cut runs are.each
 
@@ -119,7 +111,7 @@ module _ (runs : List (List ℕ)) (query : Meaning) (parts : ℕ) where
       parts = parts;
       some = some;
       by_place = counted_by_place query.as_of (messages_of frames) (messages_by_place frames (places_rise 0 frames stands.places));
-      few = few_trades query.as_of (concat runs) frames stands are.within;
+      few = few_trades query.as_of (concat runs) frames stands (omega (arith, are.within));
       stamped = stamped_rows query.as_of (concat runs) frames (bytes_joined runs (recursion_from_All AreBytes runs are.bytes)) stands;
       total_is = found_is ∙ linked_total;
       names_are = names ∙ directory_is query.as_of parts morsels;

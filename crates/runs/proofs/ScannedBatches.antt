@@ -95,8 +95,8 @@ module _ {S : Type 0} {stream : SourceOf S} {limit target : ℕ} {before : S} wh
         → IsScannedTo stream limit target as_of parts before now new (with_scans total more) next
     went_on {batch = batch} to is_not_last scan same read = record {
       runs = to.runs ++ batch.cut;
-      each = All-append IsRun to.runs batch.cut to.each scan.each;
-      bytes = All-append AreBytes to.runs batch.cut to.bytes scan.bytes;
+      each = All-append IsRun to.runs batch.cut to.each scan.are.each;
+      bytes = All-append AreBytes to.runs batch.cut to.bytes scan.are.bytes;
       is = with_batch to.runs batch to.ahead.number to.ahead.start to.is scan;
       ahead = next_ahead to.ahead is_not_last same read;
     }
@@ -112,9 +112,11 @@ module _ {S : Type 0} {stream : SourceOf S} {limit target : ℕ} {before : S} wh
           all.0,
           inr (_, all.1, omega (arith, length-append to.runs batch.cut, to.ahead.number, batch.few)),
           record {
-            each = All-append IsRun to.runs batch.cut to.each scan.each;
-            bytes = All-append AreBytes to.runs batch.cut to.bytes scan.bytes;
-            within = omega (arith, all.0.within, most);
+            are = record {
+              each = All-append IsRun to.runs batch.cut to.each scan.are.each;
+              bytes = All-append AreBytes to.runs batch.cut to.bytes scan.are.bytes;
+              within = omega (arith, all.0.within, most);
+            };
             is = with_batch to.runs batch to.ahead.number to.ahead.start to.is scan;
           },
         )

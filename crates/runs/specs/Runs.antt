@@ -1,11 +1,12 @@
 -- What a run reads of its source, answers, and hands to its sink.
 -- To be believed.
 use Rattle.std.specs.Prelude.{◌≡◌, ℕ, ◌≤◌, ◌⊎◌, Bool, true, false, List, length, take, Some, Result, Ok, Err}
-use Rattle.answers.specs.Answers.{DayFault, IsAnswer}
+use Rattle.answers.specs.Answers.{DayFault, IsAnswer, told_by}
+use Rattle.answers.specs.declared.answer.Answer.{Answer}
 use Rattle.query.specs.Faults.{first_query_fault}
 use Rattle.query.specs.Grammar.{Means}
 use Rattle.meaning.specs.Meaning.{Meaning}
-use Rattle.query.specs.Words.{words_of}
+use Rattle.query.specs.Words.{lists_symbols, words_of}
 use Rattle.sinks.specs.declared.sink.Sink.{Ghosts as SinkOf}
 use Rattle.streaming.specs.Readings.{Reading}
 use Rattle.outcomes.specs.declared.run_fault.RunFault.{RunFault}
@@ -17,12 +18,20 @@ IsQuery words = (query : Meaning) × Means (words_of words) query
 
 -- all that the source had to give was read, it may be answered over, and this is the answer to the query over it
 abbrev pub IsAnswered : Reading → Meaning → Result (List ℕ) DayFault → Type 0
-IsAnswered reading query answer =
-    (day : List ℕ) × reading.all day × reading.answerable day × IsAnswer day query answer
+IsAnswered reading query answer = (day : List ℕ) × reading.all day × reading.answerable day × IsAnswer day query answer
 
 -- the words mean a query, and this is the answer to it over all that the source had to give
 abbrev pub Answers : Reading → List ℕ → Result (List ℕ) DayFault → Type 0
 Answers reading words answer = (query : Meaning) × Means (words_of words) query × IsAnswered reading query answer
+
+-- what is known of a source and a query if this is answered: the answer, or what a refusal says of the source
+abbrev pub IsAnsweredOrRefused : {A : Type 0} → Reading → Meaning → ℕ → Result (Answer A) RunFault → Type 0
+IsAnsweredOrRefused reading query limit (Ok answer) = IsAnswered reading query (told_by answer)
+IsAnsweredOrRefused reading query limit (Err fault.ReadFailed) = reading.failed
+IsAnsweredOrRefused reading query limit (Err (fault.TooLong most)) = reading.longer × (most ≡ limit)
+IsAnsweredOrRefused reading query limit (Err fault.TooManyMorsels) = reading.too_many
+IsAnsweredOrRefused reading query limit (Err fault.OutOfMemory) = reading.some
+IsAnsweredOrRefused reading query limit (Err _) = ⊥
 
 -- K is the states of a sink, `before` and `after` those that it had before and after the run, and `sink` the members
 -- of its `Sink`: `sink.Took` says which bytes it took from one state to a later one, and `sink.HasFlushed` that it has
@@ -56,10 +65,11 @@ module _ {K : Type 0} (reading : Reading) (sink : SinkOf K) where
       IsQuery words × reading.longer × (most ≡ limit) × (after ≡ before)
   -- all that a stream had to give was read, and has too many morsels; of a file that never holds
   Ran words limit before after (Err fault.TooManyMorsels) = IsQuery words × reading.too_many × (after ≡ before)
-  -- of memory nothing. Of a stream, that nothing was read of it or the words mean a query, and that it gave no more
-  -- than the limit and a byte; of a file and of the words beside it nothing.
+  -- of memory nothing. That the words list symbols, for which alone reading them takes memory, and nothing was read of
+  -- a stream; or that they mean a query. And that a stream gave no more than the limit and a byte.
   Ran words limit before after (Err fault.OutOfMemory) =
-      (reading.untouched ⊎ IsQuery words) × reading.some × (after ≡ before)
+      (((lists_symbols (words_of words) ≡ true) × reading.untouched) ⊎ IsQuery words)
+      × reading.some × (after ≡ before)
   -- the others come of an answer: its text was written, or a part of it; or it is a fault of the day
   Ran words limit before after handed = IsHandedOver sink (Answers reading words) before after handed
 

@@ -1,16 +1,13 @@
 -- The steps of a run: what its query, its source, its pipelines and its answer give each other.
 -- Derived: what is promised of a run is `Ran`.
-use Rattle.std.specs.Prelude.{◌≡◌, ℕ, ◌+◌, ◌<◌, ◌≤◌, ◌↔◌, All, List, Option, Some, Result, Ok, Err, true, length, IfErr, IfOk, IsErrOf}
+use Rattle.std.specs.Prelude.{◌≡◌, ℕ, ◌<◌, ◌↔◌, List, Option, Some, Result, Ok, Err, true, IfErr, IfOk, IsErrOf}
 use Rattle.std.specs.List.{concat}
-use Rattle.lists.specs.declared.limits.TheConstants.{LONGEST_FILE}
 use Rattle.outcomes.specs.declared.run_fault.RunFault.{RunFault}
 use Rattle.outcomes.specs.declared.run_fault.RunFault.TheVariants as fault
 use Rattle.links.specs.declared.linked.Linked.{Linked}
 use Rattle.links.specs.declared.linked.Linked.TheVariants.{Next, Halt}
 use Rattle.pipelines.specs.Outcomes.{IsOutcome}
 use Rattle.pipelines.specs.declared.outcome.Outcome.{Outcome}
-use Rattle.lists.specs.Among.{AreBytes}
-use Rattle.day_file.specs.Cuts.{IsRun}
 use Rattle.day_file.specs.declared.source.Source.{Ghosts as SourceOf}
 use Rattle.streaming.specs.Batches.{IsNextBatch, IsReadTo, ReaderView}
 use Rattle.streaming.specs.Readings.{IsSourceFault, Reading, of_stream}
@@ -20,10 +17,9 @@ use Rattle.streaming.specs.declared.fault.SourceFault.TheVariants as source
 use Rattle.row_types.specs.declared.directory.DirectoryRow.{DirectoryRow}
 use Rattle.meaning.specs.Meaning.{Meaning}
 use Rattle.query.specs.Faults.{first_query_fault}
-use Rattle.query.specs.Words.{words_of}
-use Rattle.answers.specs.Answers.{DayFault, Truncated, told_by}
-use Rattle.answers.specs.declared.answer.Answer.{Answer}
-use Rattle.scanning.specs.Scans.{ScanTotalView, inputs_from, total_of}
+use Rattle.query.specs.Words.{lists_symbols, words_of}
+use Rattle.answers.specs.Answers.{DayFault, Truncated}
+use Rattle.scanning.specs.Scans.{AreRuns, ScanTotalView, inputs_from, total_of}
 use Rattle.scanning.specs.declared.wrong.WrongLength.{WrongLength}
 use Rattle.block_scan.specs.Attempts.{AreAttemptsOf, AttemptView}
 use Rattle.block_scan.specs.Blocks.{IsBlocksFault}
@@ -33,22 +29,12 @@ use Rattle.buckets.specs.BucketRows.{BucketView}
 use Rattle.buckets.specs.Buckets.{total_found}
 use Rattle.buckets.specs.FoundRows.{TotalView}
 use Rattle.planning.specs.Planned.{IsLinkedTo, LinkView, ToBuckets}
-use Rattle.runs.specs.Runs.{IsAnswered}
 
 -- what a refusal says of the words that should be a query
 abbrev pub IsQueryRefusal : List ℕ → RunFault → Type 0
 IsQueryRefusal words (fault.Query f) = first_query_fault (words_of words) ≡ Some f
-IsQueryRefusal words fault.OutOfMemory = Unit {0}
+IsQueryRefusal words fault.OutOfMemory = lists_symbols (words_of words) ≡ true
 IsQueryRefusal words _ = ⊥
-
--- what is known of a source and a query if this is answered: the answer, or what a refusal says of the source
-abbrev pub IsAnsweredOrRefused : {A : Type 0} → Reading → Meaning → ℕ → Result (Answer A) RunFault → Type 0
-IsAnsweredOrRefused reading query limit (Ok answer) = IsAnswered reading query (told_by answer)
-IsAnsweredOrRefused reading query limit (Err fault.ReadFailed) = reading.failed
-IsAnsweredOrRefused reading query limit (Err (fault.TooLong most)) = reading.longer × (most ≡ limit)
-IsAnsweredOrRefused reading query limit (Err fault.TooManyMorsels) = reading.too_many
-IsAnsweredOrRefused reading query limit (Err fault.OutOfMemory) = reading.some
-IsAnsweredOrRefused reading query limit (Err _) = ⊥
 
 -- what a run with this limit reports of a source's fault: the place where it is truncated, or a refusal
 abbrev pub reported : ℕ → SourceFault → Result (Result (List ℕ) DayFault) RunFault
@@ -62,9 +48,7 @@ reported limit source.OutOfMemory = Err fault.OutOfMemory
 -- begins at this place
 pub record IsScanOf (first start : ℕ) (as_of : Option ℕ) (parts : ℕ) (runs : List (List ℕ)) (total : ScanTotalView)
     : Type 0 where
-  pub each : All IsRun runs
-  pub bytes : All AreBytes runs
-  pub within : start + length (concat runs) ≤ LONGEST_FILE
+  pub are : AreRuns start runs
   pub is : total ≡ total_of (inputs_from first start as_of parts runs)
 
 -- both pipelines gave this over a file that is cut into these runs, in some number of partitions, which may be divided

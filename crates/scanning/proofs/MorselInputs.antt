@@ -1,5 +1,6 @@
 -- The inputs of the scans of morsels that follow each other, morsel after morsel.
-use Rattle.std.proofs.Common.{◌≡◌, ℕ, zero, suc, ◌+◌, ◌<◌, ◌≤◌, List, [], ◌∷◌, ◌++◌, Option, Some, get_or, length, map, slice_get, take, refl, sym, ap, ◌∙◌, arith}
+use Rattle.std.proofs.Common.{◌≡◌, ℕ, zero, suc, ◌+◌, ◌<◌, ◌≤◌, List, [], ◌∷◌, ◌++◌, Option, Some, get_or, length, map}
+use Rattle.std.proofs.Common.{slice_get, take, refl, sym, ap, ◌∙◌, arith}
 use Rattle.std.specs.List.{concat}
 use Rattle.std.proofs.lemmas.List.{length-append, length-map, take_more, map_push}
 use Rattle.std.proofs.lemmas.Simd.{map-map}
@@ -29,8 +30,8 @@ pub as_many : {X : Type 0} (value : X → MorselView) (items : List X) {runs : L
 as_many value items {runs} m = omega (arith, ap length m.are, length-map items value, length-numbered 0 0 runs)
 
 -- each morsel of a cut fits behind what comes before it
-pub each_fits : {X : Type 0} (value : X → MorselView) (items : List X) {runs : List (List ℕ)} {i : ℕ} {x : X} (first start : ℕ) → AreMorsels runs (map value items)
-    → (0 < first → first + length runs ≤ MOST_MORSELS) → (0 < start → start + length (concat runs) ≤ LONGEST_FILE)
+pub each_fits : {X : Type 0} (value : X → MorselView) (items : List X) {runs : List (List ℕ)} {i : ℕ} {x : X} (first start : ℕ)
+    → AreMorsels runs (map value items) → (0 < first → first + length runs ≤ MOST_MORSELS) → (0 < start → start + length (concat runs) ≤ LONGEST_FILE)
     → i < length items → x ≡ get_or items i x → Fits first start (value x)
 each_fits value items {runs} {i} {x} first start m few within less is =
     let below : i < length runs = omega (arith, as_many value items m, less) in

@@ -1,11 +1,12 @@
 -- What is found in a morsel, and in the morsels of one cut.
 -- To be believed of a crate used by itself: the answer isn't defined by morsels.
-use Rattle.std.specs.Prelude.{◌≡◌, ℕ, ◌+◌, ◌<◌, ◌≤◌, ◌==◌, ◌&&◌, Bool, true, List, [], ◌∷◌, ◌++◌, All, length, map, nat_eq, Option, Some, None, filter_map, option_to_list, if◌then◌else◌}
+use Rattle.std.specs.Prelude.{◌≡◌, ℕ, ◌+◌, ◌<◌, ◌≤◌, ◌==◌, ◌&&◌, Bool, List, [], ◌∷◌, ◌++◌, All, length, map, nat_eq, Option, Some, None, filter_map, option_to_list, if◌then◌else◌}
 use Rattle.std.specs.Cmp.{IsEquivalence}
 use Rattle.std.specs.List.{concat}
 use Rattle.std.specs.Option.{option_eq}
 use Rattle.std.proofs.Common.{arith}
 use Rattle.std.proofs.lemmas.Bool.Decides.{nat_tests}
+use Rattle.lists.specs.Among.{AreBytes}
 use Rattle.lists.proofs.Exact.{IsExact, exact_equiv, exact_list, exact_nat, exact_option}
 use Rattle.lists.specs.Least.{least_by}
 use Rattle.lists.specs.declared.limits.TheConstants.{LONGEST_FILE, MOST_PARTITIONS}
@@ -109,6 +110,12 @@ inputs_from first start as_of parts runs =
 -- the inputs of the scans of a cut: its morsels, in order, with one moment and one number of partitions
 abbrev pub inputs_of : Option ℕ → ℕ → List (List ℕ) → List ScanInputView
 inputs_of as_of parts runs = inputs_from 0 0 as_of parts runs
+
+-- the runs of a cut, where so many bytes stand before them: whole frames, bytes, no more than a file may have
+pub record AreRuns (start : ℕ) (runs : List (List ℕ)) : Type 0 where
+  pub each : All IsRun runs
+  pub bytes : All AreBytes runs
+  pub within : start + length (concat runs) ≤ LONGEST_FILE
 
 -- these are the inputs of the scans of morsels of one cut that follow each other
 pub record AreOfOneCut (inputs : List ScanInputView) : Type 0 where

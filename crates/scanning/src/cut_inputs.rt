@@ -1,10 +1,8 @@
 //! The inputs of all scans of a cut.
-ghost use Rattle.std.specs.Prelude.{◌≡◌, ◌+◌, ◌<◌, ◌≤◌, All, IfOk, OnOk, length};
+ghost use Rattle.std.specs.Prelude.{◌≡◌, ◌+◌, ◌<◌, ◌≤◌, IfOk, OnOk, length};
 ghost use Rattle.std.specs.List.{concat};
 ghost use Rattle.lists.specs.declared.limits.TheConstants.{LONGEST_FILE, MOST_MORSELS, MOST_PARTITIONS};
-ghost use Rattle.lists.specs.Among.{AreBytes};
-ghost use Rattle.day_file.specs.Cuts.{IsRun};
-ghost use Rattle.scanning.specs.Scans.{inputs_from, inputs_of};
+ghost use Rattle.scanning.specs.Scans.{AreRuns, inputs_from, inputs_of};
 
 use crate::OutOfMemory;
 use crate::input::ScanInput;
@@ -27,9 +25,7 @@ pub fn scan_inputs(
 ) -> Result<Inputs<ScanWork>, OutOfMemory>
     requires { (0 < parts) × (parts ≤ MOST_PARTITIONS) }
     ensures inputs { IfOk result (λ inputs. inputs ≡ inputs_of as_of parts cut.now) }
-    ensures runs { OnOk result (All IsRun cut.now) }
-    ensures bytes { OnOk result (All AreBytes cut.now) }
-    ensures within { OnOk result (length (concat cut.now) ≤ LONGEST_FILE) }
+    ensures runs { OnOk result (AreRuns 0 cut.now) }
 {
     batch_inputs(alloc, cut, 0, 0, as_of, parts)
 }
@@ -51,9 +47,7 @@ pub fn batch_inputs(
     requires within { 0 < start → start + length (concat cut.now) ≤ LONGEST_FILE }
     requires few { 0 < first → first + length cut.now ≤ MOST_MORSELS }
     ensures inputs { IfOk result (λ inputs. inputs ≡ inputs_from first start as_of parts cut.now) }
-    ensures runs { OnOk result (All IsRun cut.now) }
-    ensures bytes { OnOk result (All AreBytes cut.now) }
-    ensures within { OnOk result (length (concat cut.now) ≤ LONGEST_FILE) }
+    ensures runs { OnOk result (AreRuns start cut.now) }
 {
     let morsels = cut.morsels();
     let mut inputs = Vec::with_capacity(alloc, morsels.len())?;

@@ -1,9 +1,9 @@
 -- A text's front, as it is written in pieces.
 use Rattle.std.proofs.Common.{◌≡◌, ◌+◌, ◌-◌, ◌<◌, ◌≤◌, ℕ, List, [], ◌∷◌, ◌++◌, get_or, length, take, drop, Vec, sym, ap, ◌∙◌, subst, arith}
-use Rattle.std.specs.List.{flat_map}
 use Rattle.std.proofs.Math.Seq.{take-add, take-append-add, take-length}
 use Rattle.std.proofs.lemmas.List.{append-nil, append_assoc, length-append, length-drop, take_more, take-append-drop, take-append-le}
 use Rattle.std.proofs.lemmas.List.Concat.{flat_map-append}
+use Rattle.sinks.specs.Written.{text_of}
 
 -- all that stands from a place on
 rest_is : (written : ℕ) (text : List ℕ) → take (length text - written) (drop written text) ≡ drop written text
@@ -28,43 +28,38 @@ whole_front Took text took = subst Took (append-nil text ∙ sym (take-length te
 -- ---- pieces
 
 module _ {Z : Type 0} (pieces : List (Vec ℕ Z)) where
-  abbrev front : ℕ → List ℕ
-  front i = flat_map (λ (p : Vec ℕ Z). p.items) (take i pieces)
-
-  abbrev whole : List ℕ
-  whole = flat_map (λ (p : Vec ℕ Z). p.items) pieces
-
   -- one piece more
-  front_more : (i : ℕ) (d : Vec ℕ Z) → i < length pieces → front (i + 1) ≡ front i ++ (get_or pieces i d).items
+  front_more : (i : ℕ) (d : Vec ℕ Z) → i < length pieces → text_of (take (i + 1) pieces) ≡ text_of (take i pieces) ++ (get_or pieces i d).items
   front_more i d h =
-      ap (flat_map (λ (p : Vec ℕ Z). p.items)) (take_more pieces i d h)
-      ∙ flat_map-append (λ (p : Vec ℕ Z). p.items) (take i pieces) (get_or pieces i d ∷ [])
-      ∙ ap (λ l. front i ++ l) (append-nil (get_or pieces i d).items)
+      ap text_of (take_more pieces i d h) ∙ flat_map-append (λ (p : Vec ℕ Z). p.items) (take i pieces) (get_or pieces i d ∷ [])
+      ∙ ap (λ l. text_of (take i pieces) ++ l) (append-nil (get_or pieces i d).items)
 
   front_and_rest : (i : ℕ) (d : Vec ℕ Z) → i < length pieces
-      → whole ≡ front i ++ ((get_or pieces i d).items ++ flat_map (λ (p : Vec ℕ Z). p.items) (drop (i + 1) pieces))
+      → text_of pieces ≡ text_of (take i pieces) ++ ((get_or pieces i d).items ++ text_of (drop (i + 1) pieces))
   front_and_rest i d h =
-      sym (ap (flat_map (λ (p : Vec ℕ Z). p.items)) (take-append-drop (i + 1) pieces))
+      sym (ap text_of (take-append-drop (i + 1) pieces))
       ∙ flat_map-append (λ (p : Vec ℕ Z). p.items) (take (i + 1) pieces) (drop (i + 1) pieces)
-      ∙ ap (λ l. l ++ flat_map (λ (p : Vec ℕ Z). p.items) (drop (i + 1) pieces)) (front_more i d h)
-      ∙ append_assoc (front i) (get_or pieces i d).items (flat_map (λ (p : Vec ℕ Z). p.items) (drop (i + 1) pieces))
+      ∙ ap (λ l. l ++ text_of (drop (i + 1) pieces)) (front_more i d h)
+      ∙ append_assoc (text_of (take i pieces)) (get_or pieces i d).items (text_of (drop (i + 1) pieces))
 
   -- what is written stays within the whole
-  pub count_within : (i written : ℕ) (piece : Vec ℕ Z) → i < length pieces → piece ≡ get_or pieces i piece → written ≡ length (front i)
-      → written + length piece.items ≤ length whole
+  pub count_within : (i written : ℕ) (piece : Vec ℕ Z) → i < length pieces → piece ≡ get_or pieces i piece
+      → written ≡ length (text_of (take i pieces)) → written + length piece.items ≤ length (text_of pieces)
   count_within i written piece h at is =
-      let rest = flat_map (λ (p : Vec ℕ Z). p.items) (drop (i + 1) pieces) in
-      let n = length-append (front i) ((get_or pieces i piece).items ++ rest) in
+      let rest = text_of (drop (i + 1) pieces) in
+      let n = length-append (text_of (take i pieces)) ((get_or pieces i piece).items ++ rest) in
       let m = length-append (get_or pieces i piece).items rest in
       omega (arith, is, n, m, ap (λ (p : Vec ℕ Z). length p.items) at, ap length (front_and_rest i piece h))
 
   -- some of a piece
   pub part_written : (Took : List ℕ → Type 0) (i written part : ℕ) (piece : Vec ℕ Z) → i < length pieces → piece ≡ get_or pieces i piece
-      → written ≡ length (front i) → part ≤ length piece.items → Took (front i ++ take part piece.items) → Took (take (written + part) whole)
+      → written ≡ length (text_of (take i pieces)) → part ≤ length piece.items → Took (text_of (take i pieces) ++ take part piece.items)
+      → Took (take (written + part) (text_of pieces))
   part_written Took i written part piece h at is within took =
-      let rest = flat_map (λ (p : Vec ℕ Z). p.items) (drop (i + 1) pieces) in
+      let front = text_of (take i pieces) in
+      let rest = text_of (drop (i + 1) pieces) in
       subst Took
-      (sym (ap (λ n. take (n + part) whole) is ∙ ap (take (length (front i) + part)) (front_and_rest i piece h)
-      ∙ take-append-add (front i) ((get_or pieces i piece).items ++ rest) part
-      ∙ ap (λ (p : Vec ℕ Z). front i ++ take part (p.items ++ rest)) (sym at)
-      ∙ ap (λ l. front i ++ l) (take-append-le part piece.items rest within))) took
+      (sym (ap (λ n. take (n + part) (text_of pieces)) is ∙ ap (take (length front + part)) (front_and_rest i piece h)
+      ∙ take-append-add front ((get_or pieces i piece).items ++ rest) part
+      ∙ ap (λ (p : Vec ℕ Z). front ++ take part (p.items ++ rest)) (sym at)
+      ∙ ap (λ l. front ++ l) (take-append-le part piece.items rest within))) took

@@ -1,6 +1,6 @@
 //! A whole text written to a sink.
-ghost use Rattle.std.specs.Prelude.{◌≡◌, ◌<◌, ◌≤◌, ◌^◌, false, length, take, is_err, IfErr, IfOk, OnOk};
-ghost use Rattle.std.specs.List.{flat_map};
+ghost use Rattle.std.specs.Prelude.{◌≡◌, ◌<◌, ◌^◌, false, length, IfOk, OnOk};
+ghost use Rattle.sinks.specs.Written.{IsWritten, text_of};
 
 use crate::sink::Sink;
 use day_file::DeviceFailed;
@@ -15,11 +15,8 @@ pub struct WriteFailed {
 /// Writes a whole text, and passes it on.
 pub fn deliver<K: Sink>(sink: &mut K, text: &[u8]) -> Result<(), WriteFailed>
     requires { K.has_failed sink.old ≡ false }
-    ensures ok { OnOk result (K.Took sink.old sink.new text.now) }
+    ensures written { IsWritten K.Sink sink.old sink.new text.now result }
     ensures flushed { OnOk result (K.HasFlushed sink.new) }
-    ensures written { IfErr result (λ refused. refused.written ≤ length text.now) }
-    ensures took { IfErr result (λ refused. K.Took sink.old sink.new (take refused.written text.now)) }
-    ensures failed { K.has_failed sink.new ≡ is_err result }
 {
     put_all(sink, text)?;
     match sink.flush() {
@@ -36,14 +33,9 @@ pub fn deliver_pieces<K: Sink, A: Allocator>(
     pieces: &[Vec<u8, A>],
 ) -> Result<(), WriteFailed>
     requires whole { K.has_failed sink.old ≡ false }
-    requires short { length (flat_map (λ piece. piece.items) pieces.now) < 2 ^ 64 }
-    ensures ok { OnOk result (K.Took sink.old sink.new (flat_map (λ piece. piece.items) pieces.now)) }
+    requires short { length (text_of pieces.now) < 2 ^ 64 }
+    ensures written { IsWritten K.Sink sink.old sink.new (text_of pieces.now) result }
     ensures flushed { OnOk result (K.HasFlushed sink.new) }
-    ensures written { IfErr result (λ refused.
-        refused.written ≤ length (flat_map (λ piece. piece.items) pieces.now)) }
-    ensures took { IfErr result (λ refused. K.Took sink.old sink.new
-        (take refused.written (flat_map (λ piece. piece.items) pieces.now))) }
-    ensures failed { K.has_failed sink.new ≡ is_err result }
 {
     let written = put_pieces(sink, pieces)?;
     if sink.flush().is_err() {
@@ -58,14 +50,9 @@ fn put_pieces<K: Sink, A: Allocator>(
     pieces: &[Vec<u8, A>],
 ) -> Result<u64, WriteFailed>
     requires whole { K.has_failed sink.old ≡ false }
-    requires short { length (flat_map (λ piece. piece.items) pieces.now) < 2 ^ 64 }
-    ensures ok { OnOk result (K.Took sink.old sink.new (flat_map (λ piece. piece.items) pieces.now)) }
-    ensures count { IfOk result (λ count. count ≡ length (flat_map (λ piece. piece.items) pieces.now)) }
-    ensures written { IfErr result (λ refused.
-        refused.written ≤ length (flat_map (λ piece. piece.items) pieces.now)) }
-    ensures took { IfErr result (λ refused. K.Took sink.old sink.new
-        (take refused.written (flat_map (λ piece. piece.items) pieces.now))) }
-    ensures failed { K.has_failed sink.new ≡ is_err result }
+    requires short { length (text_of pieces.now) < 2 ^ 64 }
+    ensures written { IsWritten K.Sink sink.old sink.new (text_of pieces.now) result }
+    ensures count { IfOk result (λ count. count ≡ length (text_of pieces.now)) }
 {
     let mut written = 0;
     for piece in pieces {
@@ -81,10 +68,7 @@ fn put_pieces<K: Sink, A: Allocator>(
 
 fn put_all<K: Sink>(sink: &mut K, text: &[u8]) -> Result<(), WriteFailed>
     requires { K.has_failed sink.old ≡ false }
-    ensures ok { OnOk result (K.Took sink.old sink.new text.now) }
-    ensures written { IfErr result (λ refused. refused.written ≤ length text.now) }
-    ensures took { IfErr result (λ refused. K.Took sink.old sink.new (take refused.written text.now)) }
-    ensures failed { K.has_failed sink.new ≡ is_err result }
+    ensures { IsWritten K.Sink sink.old sink.new text.now result }
 {
     let mut written = 0;
     while written < text.len() {

@@ -1,5 +1,5 @@
 -- A source that is read and cut batch by batch.
--- Derived: what is promised of a run speaks of what its source gave alone.
+-- To be believed of a crate used by itself: what is promised of a run speaks of what its source gave alone.
 use Rattle.std.specs.Prelude.{◌≡◌, ℕ, ◌+◌, ◌<◌, ◌≤◌, true, false, List, ◌++◌, length, All}
 use Rattle.std.specs.List.{concat}
 use Rattle.lists.specs.declared.limits.TheConstants.{LONGEST_FILE, MOST_MORSELS}

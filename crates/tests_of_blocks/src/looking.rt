@@ -58,12 +58,12 @@ fn told(orders: Orders, blocks: u32, parts: u32) -> Result<u32, SourceFault> {
         bytes: 1 << 20,
         blocks: blocks.clamp(1, 64),
     };
-    partitions_of(
+    Ok(partitions_of(
         &FileBlocks::of(orders),
         division,
         LONGEST_FILE,
         parts.clamp(1, 256),
-    )
+    )?)
 }
 
 /// A file of which each frame adds an order.

@@ -1,4 +1,5 @@
 //! Room for rows that is taken at once.
+use itch_messages::{Executed, Header, Message};
 use linked_list_allocator::LocalHeap;
 use morsel_rows::{MorselRows, OrderList};
 use order_table::OrderRow;
@@ -50,11 +51,11 @@ fn are_three_without_orders<A: Allocator>(rows: &MorselRows<A>) -> bool {
     has_none(0) && has_none(1) && has_none(2) && rows.partition(3).is_none()
 }
 
-/// How many bytes three partitions of nine rows take of so many, if there is room for them; if there isn't, how
+/// How many bytes three partitions of 24 rows take of so many, if there is room for them; if there isn't, how
 /// many are taken all the same.
 fn taken_by_three(alloc: Global, bytes: usize) -> Result<Result<usize, usize>, AllocError> {
     let heap = LocalHeap::new(alloc, bytes)?;
-    let Ok(rows) = MorselRows::new(&heap, 3, 9) else {
+    let Ok(rows) = MorselRows::new(&heap, 3, 24) else {
         return Ok(Err(heap.used()));
     };
     if are_three_without_orders(&rows) {
@@ -67,26 +68,26 @@ fn taken_by_three(alloc: Global, bytes: usize) -> Result<Result<usize, usize>, A
 #[test]
 fn each_partition_takes_its_room_or_all_are_refused(rt: HostRuntime) -> Result<(), Fail> {
     let mut enough = None;
-    for step in 1..200 {
+    for step in 1..400 {
         match taken_by_three(rt.alloc(), 16 * step)? {
             Ok(taken) => {
-                assert!(rt; taken >= 3 * 9 * 12);
+                assert!(rt; taken >= 3 * 24 * 12);
                 enough = Some(step);
                 break;
             }
             Err(left) => assert!(rt; left == 0),
         }
     }
-    assert!(rt; enough.is_some_and(|step| step >= 21));
+    assert!(rt; enough.is_some_and(|step| step >= 54));
     Ok(())
 }
 
 /// Each partition takes room for as many rows as are asked for, and gives back what no row took.
 #[test]
 fn room_is_taken_for_so_many_rows_and_given_back(rt: HostRuntime) -> Result<(), Fail> {
-    let (with_one, without) = taken_and_kept(rt.alloc(), 1)?;
-    let (with_nine, left) = taken_and_kept(rt.alloc(), 9)?;
-    let room = with_nine.saturating_sub(with_one);
+    let (with_few, without) = taken_and_kept(rt.alloc(), 16)?;
+    let (with_more, left) = taken_and_kept(rt.alloc(), 24)?;
+    let room = with_more.saturating_sub(with_few);
     assert!(rt; room >= 3 * 8 * 12 && room <= 3 * 9 * 12, "{room}");
     assert!(rt; left == without);
     Ok(())
@@ -101,11 +102,50 @@ fn taken_and_kept(alloc: Global, count: usize) -> Result<(usize, usize), AllocEr
     Ok((taken, heap.used()))
 }
 
-/// Where no room is asked for, partitions take no memory before they have rows.
+/// Where no room is asked for, or room for a few rows, partitions take no memory before they have rows.
 #[test]
 fn a_partition_without_rows_takes_no_memory(rt: HostRuntime) -> Result<(), Fail> {
     let heap = LocalHeap::new(rt.alloc(), 4_096)?;
     let rows = MorselRows::new(&heap, 3, 0)?;
     assert!(rt; heap.used() == 0 && are_three_without_orders(&rows));
+    let few = MorselRows::new(&heap, 3, 15)?;
+    assert!(rt; heap.used() == 0 && are_three_without_orders(&few));
+    Ok(())
+}
+
+/// An execution of an order of this reference.
+fn executed(order_no: u64) -> Message {
+    Message::Executed(Executed {
+        header: Header {
+            locate: 7,
+            tracking: 0,
+            time: 5,
+        },
+        order_no,
+        shares: 100,
+        trade_no: 1,
+    })
+}
+
+/// A partition that got no rows gives all its memory back, and one that has rows keeps them.
+#[test]
+fn partitions_without_rows_keep_no_memory(rt: HostRuntime) -> Result<(), Fail> {
+    let heap = LocalHeap::new(rt.alloc(), 4_096)?;
+    let mut rows = MorselRows::new(&heap, 3, 24)?;
+    let taken = heap.used();
+    rows.add_counted(None, 4, &executed(5))?;
+    rows.shrink_to_fit();
+    // Of three boxes and their rooms, one box is left, with room for the execution.
+    assert!(rt; heap.used() < taken / 2);
+    assert!(rt;
+        (0..3).all(|number| rows
+            .partition(number)
+            .is_some_and(|part| part.is_empty() == (number != 2)))
+    );
+    rows.add_counted(None, 8, &executed(6))?;
+    assert!(rt;
+        rows.partition(0)
+            .is_some_and(|part| part.executions().len() == 1)
+    );
     Ok(())
 }

@@ -68,14 +68,19 @@ fn tables(alloc: Global) -> Result<(BucketBars, BucketBars, BucketBars), OutOfMe
     ))
 }
 
-/// The names of two locates.
+/// The names of three locates.
 pub(crate) fn names(alloc: Global) -> Result<Names, OutOfMemory> {
     let row = |locate, stock| DirectoryRow {
         place: 0,
         locate,
         stock,
     };
-    Names::build(alloc, &[row(7, *b"MSFT    "), row(12, *b"A       ")])
+    let rows = [
+        row(2, *b"ZVZZT   "),
+        row(7, *b"MSFT    "),
+        row(12, *b"A       "),
+    ];
+    Names::build(alloc, &rows)
 }
 
 const LINES: &str = "MSFT,09:30:00,1.5000,2.6000,1.5000,2.6000,20,4,2.0750+0/20

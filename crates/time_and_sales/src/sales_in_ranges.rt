@@ -1,6 +1,8 @@
 //! The lines of many listings, of ranges of places by threads.
-ghost use Rattle.std.specs.Prelude.{◌≡◌, ◌<◌, ◌≤◌, ◌++◌, All, IfOk, OnOk, List, filter};
+ghost use Rattle.std.specs.Prelude.{◌≡◌, ℕ, ◌<◌, ◌≤◌, All, IfOk, List, filter, length, map, slice_index_or};
+ghost use Rattle.std.specs.Iterator.Adapters.{copied_source};
 ghost use Rattle.std.specs.List.Sorted.{IsNonDecreasingBy, IsPermutation};
+ghost use Rattle.std.specs.Slice.Iter.{iter_rest};
 ghost use Rattle.lists.specs.declared.limits.TheConstants.{TIME_LIMIT};
 ghost use Rattle.ranges.specs.Ranges.{all_items, is_in_first};
 ghost use Rattle.row_types.specs.declared.trade.Sale.{Sale};
@@ -11,11 +13,15 @@ ghost use Rattle.time_and_sales.specs.Texts.{lines_text};
 
 use crate::OutOfMemory;
 use crate::listings::{ByPlace, Listing};
+use crate::made_names::{made_names, write_named};
 use crate::names::Names;
-use crate::texts::write_sale;
+use crate::symbol::Name;
+use itertools::Itertools;
 use ranges::{numbers_of, texts_in_ranges, within};
 use row_types::Sale;
 use std::alloc::Global;
+use std::iter::Copied;
+use std::slice::Iter;
 use std::thread::Threads;
 
 /// How many bytes most lines have at most.
@@ -23,7 +29,7 @@ const USUAL_LINE: usize = 48;
 
 /// The lines of the sales of all listings, by place, in pieces that are one text when they are put
 /// together. There are `ranges` pieces, or one: each is of the sales in a range of places, which a
-/// thread of its own puts in order and writes. It is refused if a thread was refused memory.
+/// thread of its own merges and writes. It is refused if a thread was refused memory.
 pub fn lines_in_ranges<R: Threads + Sync>(
     rt: &R,
     alloc: Global,
@@ -37,12 +43,14 @@ pub fn lines_in_ranges<R: Threads + Sync>(
         IsPermutation (all_sales (lent listings.now)) all →
         all_items texts.items ≡ lines_text (names_by names.now) all) }
 {
-    let places = numbers_of::<ByPlace, _>(alloc, longest(listings), ranges)?;
+    let longest = longest(listings);
+    let places = numbers_of::<ByPlace, _>(alloc, longest, ranges)?;
+    let made = made_names(alloc, names, longest.len())?;
     texts_in_ranges::<Sale, _, _>(
         rt,
         alloc,
         places.as_slice(),
-        &|bounds: &[u64]| range_lines(alloc, listings, names, bounds),
+        &|bounds: &[u64]| range_lines(alloc, listings, made.as_slice(), names, bounds),
     )
 }
 
@@ -56,36 +64,39 @@ fn longest<'a>(listings: &[&'a Listing]) -> &'a [Sale] {
 fn range_lines(
     alloc: Global,
     listings: &[&Listing],
+    made: &[Name],
     names: &Names,
     bounds: &[u64],
 ) -> Result<Vec<u8>, OutOfMemory>
+    requires made { (locate : ℕ) (other : List ℕ) → locate < length made.now →
+        slice_index_or made.now locate other ≡ names_by names.now locate }
     requires times { All (λ sale. sale.time < TIME_LIMIT) (all_sales (lent listings.now)) }
     ensures { IfOk result (λ text. (all : List Sale) → IsByPlace all →
         IsPermutation (all_sales (lent listings.now)) all →
         text.items ≡ lines_text (names_by names.now)
         (filter (is_in_first (λ sale. sale.place) bounds.now) all)) }
 {
-    let sorted = range_of(alloc, listings, bounds)?;
-    lines(alloc, sorted.as_slice(), names)
+    let parts = parts_of(alloc, listings, bounds)?;
+    lines(alloc, parts, count_within(listings, bounds), made, names)
 }
 
-/// The sales of all listings that are in the first range, by place. They stay in their listings.
+/// The sales of each listing that are in the first range. They stay in their listings.
 #[tactic(auto, using(crate::proofs::SalesInRanges::loops))]
-fn range_of<'a>(
+fn parts_of<'a>(
     alloc: Global,
     listings: &[&'a Listing],
     bounds: &[u64],
-) -> Result<Vec<&'a Sale>, OutOfMemory>
-    ensures permutation { IfOk result (λ sorted. IsPermutation
-        (filter (is_in_first (λ sale. sale.place) bounds.now) (all_sales (lent listings.now))) (lent sorted.items)) }
-    ensures rise { IfOk result (λ sorted. IsNonDecreasingBy (λ sale. sale.place) (lent sorted.items)) }
+) -> Result<Vec<Copied<Iter<'a, Sale>>>, OutOfMemory>
+    ensures sales { IfOk result (λ parts. map (λ part. iter_rest (copied_source part)) parts.items ≡
+        map (filter (is_in_first (λ sale. sale.place) bounds.now)) (lent listings.now)) }
+    ensures by_place { IfOk result (λ parts. All (λ part. IsByPlace (iter_rest (copied_source part))) parts.items) }
 {
-    let mut sales = Vec::with_capacity(alloc, count_within(listings, bounds))?;
+    let mut parts = Vec::with_capacity(alloc, listings.len())?;
     for listing in listings {
-        append(&mut sales, within::<ByPlace, _>(listing.items(), bounds))?;
+        let sales = within::<ByPlace, _>(listing.items(), bounds);
+        parts.push(sales.iter().copied())?;
     }
-    sales.sort_by_key(|sale| sale.place)?;
-    Ok(sales)
+    Ok(parts)
 }
 
 /// How many sales of all listings are in the first range, for room for them to be made.
@@ -98,25 +109,28 @@ fn count_within(listings: &[&Listing], bounds: &[u64]) -> usize {
     count
 }
 
-/// Appends where each of the sales stands.
-fn append<'a>(sales: &mut Vec<&'a Sale>, more: &'a [Sale]) -> Result<(), OutOfMemory>
-    ensures { OnOk result (lent sales.new.items ≡ lent sales.old.items ++ more.now) }
+/// The lines of the sales of all parts, by place, each under the name of its locate: one merge of the
+/// parts, of which each sale is written as it comes. `count` is for room for the lines.
+fn lines(
+    alloc: Global,
+    parts: Vec<Copied<Iter<Sale>>>,
+    count: usize,
+    made: &[Name],
+    names: &Names,
+) -> Result<Vec<u8>, OutOfMemory>
+    requires made { (locate : ℕ) (other : List ℕ) → locate < length made.now →
+        slice_index_or made.now locate other ≡ names_by names.now locate }
+    requires by_place { All (λ part. IsByPlace (iter_rest (copied_source part))) parts.items }
+    requires times { All (λ sale. sale.time < TIME_LIMIT)
+        (all_sales (map (λ part. iter_rest (copied_source part)) parts.items)) }
+    ensures { IfOk result (λ text. (sales : List Sale) × IsNonDecreasingBy (λ sale. sale.place) sales
+        × IsPermutation (all_sales (map (λ part. iter_rest (copied_source part)) parts.entry.items)) sales
+        × (text.items ≡ lines_text (names_by names.now) sales)) }
 {
-    for sale in more {
-        sales.push(sale)?;
-    }
-    Ok(())
-}
-
-/// The lines of sales, each under the name of its locate.
-#[tactic(auto, using(crate::proofs::SalesInRanges::loops))]
-fn lines(alloc: Global, sales: &[&Sale], names: &Names) -> Result<Vec<u8>, OutOfMemory>
-    requires { All (λ sale. sale.now.time < TIME_LIMIT) sales.now }
-    ensures { IfOk result (λ text. text.items ≡ lines_text (names_by names.now) (lent sales.now)) }
-{
-    let mut text = Vec::with_capacity(alloc, sales.len().saturating_mul(USUAL_LINE))?;
-    for sale in sales {
-        write_sale(&mut text, sale, &names.name(sale.locate))?;
+    let mut text = Vec::with_capacity(alloc, count.saturating_mul(USUAL_LINE))?;
+    let merge = parts.into_iter().kmerge_by(alloc, ByPlace)?;
+    for sale in merge {
+        write_named(&mut text, &sale, made, names)?;
     }
     Ok(text)
 }

@@ -1,7 +1,6 @@
 ghost use Rattle.std.specs.Prelude.{◌≡◌, false};
 ghost use Rattle.streaming.specs.Readings.{of_stream};
-ghost use Rattle.runs.specs.Runs.{Ran, is_read_failed, is_write_failed};
-ghost use Rattle.runs.specs.Steps.{IsAnsweredOrRefused};
+ghost use Rattle.runs.specs.Runs.{IsAnsweredOrRefused, Ran, is_read_failed, is_write_failed};
 
 use crate::calls::answer::answer_of_outcome;
 use crate::calls::ends::{answer_of_fault, hand_over, query_of};

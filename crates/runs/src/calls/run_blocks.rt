@@ -2,8 +2,8 @@ ghost use Rattle.std.specs.Prelude.{◌≡◌, ℕ, List, false, IfErr, IfOk};
 ghost use Rattle.std.specs.Arc.{arc_value};
 ghost use Rattle.std.specs.List.{concat};
 ghost use Rattle.block_scan.specs.Blocks.{GaveWhole, IsBlocksFault, of_blocks};
-ghost use Rattle.runs.specs.Runs.{Ran, is_write_failed};
-ghost use Rattle.runs.specs.Steps.{IsAnsweredOrRefused, IsOutcomeOf};
+ghost use Rattle.runs.specs.Runs.{IsAnsweredOrRefused, Ran, is_write_failed};
+ghost use Rattle.runs.specs.Steps.{IsOutcomeOf};
 
 use crate::calls::answer::answer_of_outcome;
 use crate::calls::block_link::BlockLink;

@@ -1,4 +1,4 @@
-use Rattle.std.proofs.Common.{All, map, filter, ap, ◌∙◌}
+use Rattle.std.proofs.Common.{All, map, filter, ap}
 use Rattle.std.proofs.lemmas.List.Elements.{All-filter, All-map}
 use Rattle.std.proofs.lemmas.Result.{on_ok_weaker}
 use Rattle.ranges.specs.Ranges.{is_in_first}
@@ -12,15 +12,15 @@ use Rattle.bars.proofs.bars_in_ranges.append_within.Goals as goal
 pub returns-in-Sales-clause-alike : goal.returns-in-Sales-clause-alike
 returns-in-Sales-clause-alike c =
     let one = bar_of_one c.in-Sales.width in
-    let alike : AreJoinedAlike (map one c.within.result.now) (filter (is_in_first locate_of c.args.bounds.now) c.args.table.now) =
-    rw (c.within.ensures, c.as_slice.ensures.value, c.form.ensures.value ∙ ap bars_of_form c.in-Sales.is)
+    let alike : AreJoinedAlike (map one c.within.result.now) (filter (is_in_first locate_of c.args.bounds.now) (bars_of_form c.args.form.now)) =
+    rw (c.within.ensures, c.as_slice.ensures.value, ap bars_of_form c.in-Sales.is)
     (sales_in_range c.args.bounds.now c.in-Sales.width c.in-Sales.sales.items) in
     on_ok_weaker c.append_sales.result (λ made. alike_behind (map bar_at c.args.keyed.now.items) _ _ made alike) c.append_sales.ensures
 
 pub returns-in-Sales-clause-traded : goal.returns-in-Sales-clause-traded
 returns-in-Sales-clause-traded c =
     let one = bar_of_one c.in-Sales.width in
-    let unmade : AreUnmade c.in-Sales.width c.in-Sales.sales.items = rw c.in-Sales.is at c.form.ensures.form in
+    let unmade : AreUnmade c.in-Sales.width c.in-Sales.sales.items = rw c.in-Sales.is at c.requires in
     let traded : All (λ (s : Sale). IsTraded (one s)) c.within.result.now = rw (c.within.ensures, c.as_slice.ensures.value)
     (All-filter (is_in_first (λ (s : Sale). s.locate) c.args.bounds.now) (λ (s : Sale). IsTraded (one s)) c.in-Sales.sales.items unmade.traded) in
     on_ok_weaker c.append_sales.result

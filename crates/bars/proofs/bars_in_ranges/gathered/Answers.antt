@@ -1,6 +1,11 @@
-use Rattle.std.proofs.Common.{◌+◌, ◌++◌, ◌∷◌, ◌∙◌, [], ap, arith, sym, take, take_all}
+use Rattle.std.proofs.Common.{◌+◌, ◌++◌, ◌∷◌, ◌∙◌, [], ap, arith, sym, take, take_all, List, Bor, map}
 use Rattle.std.proofs.lemmas.List.{take_more}
-use Rattle.bars.proofs.BarsInRanges.{gathering}
+use Rattle.std.proofs.lemmas.List.Folds.{flat_map-map}
+use Rattle.time_and_sales.specs.Lent.{lent}
+use Rattle.bars.specs.Bars.{Bar, all_bars}
+use Rattle.bars.specs.Steps.{bar_at}
+use Rattle.ranges.specs.Ranges.{is_in_first}
+use Rattle.bars.proofs.BarsInRanges.{first_as_locate, gathering, locate_of, sums_within}
 use Rattle.bars.proofs.JoinedTables.{traded_more}
 use Rattle.bars.proofs.bars_in_ranges.gathered.Goals as goal
 
@@ -11,9 +16,14 @@ loop-table-preserved c =
     record {
       alike = grind (arith, gathering);
       traded = c.in_ok-append_within.ensures.traded c.loop-table.invariant.traded;
-      tables = traded_more (take i tables) (take (i + 1) tables) c.table-item.result c.loop-table.invariant.tables c.append_within.ensures.table
+      tables = traded_more (take i tables) (take (i + 1) tables) c.table-item.result c.loop-table.invariant.tables c.form.ensures.traded
           (take_more tables i c.table-item.result c.loop-table-test.true ∙ ap (λ t. take i tables ++ t ∷ []) (sym c.table-item.is));
     }
 
-pub returns-clause-tables : goal.returns-clause-tables
-returns-clause-tables c = rw (take_all c.loop-table.table-index c.args.tables.now c.loop-table-test.false) at c.loop-table.invariant.tables
+pub returns-clause-sums : goal.returns-clause-sums
+returns-clause-sums c =
+    let tables = c.args.tables.now in
+    let all = take_all c.loop-table.table-index tables c.loop-table-test.false in
+    let joined = flat_map-map (λ (l : List Bar). l) (λ (t : Bor (List Bar)). t.now) tables in
+    sums_within (is_in_first locate_of c.args.bounds.now) (first_as_locate c.args.bounds.now) (map bar_at c.loop-table.keyed.items)
+    (all_bars (lent tables)) (rw joined (rw all at c.loop-table.invariant.alike)) (c.requires (rw all at c.loop-table.invariant.tables))

@@ -5,7 +5,7 @@ use Rattle.lists.specs.declared.limits.TheConstants.{TIME_LIMIT}
 use Rattle.ranges.specs.Ranges.{is_in_first}
 use Rattle.time_and_sales.specs.Lent.{lent}
 use Rattle.bars.specs.Bars.{Bar, all_bars}
-use Rattle.bars.proofs.BarsInRanges.{first_as_locate, IsUnionOf-within, locate_of, starts_alike, sums_within}
+use Rattle.bars.proofs.BarsInRanges.{first_as_locate, IsUnionOf-within, locate_of, starts_alike}
 use Rattle.bars.proofs.JoinedTables.{union_alike}
 use Rattle.bars.proofs.bars_in_ranges.range_lines.Goals as goal
 
@@ -18,7 +18,7 @@ joined_lines-requires c =
     rw c.as_slice.ensures.value (record {
       rise = sorted.rise;
       told = λ k d h. (sorted.traded k d h, starts_alike TIME_LIMIT _ (filter some all) sorted.alike (All-filter some low all c.requires.starts) k d h);
-      sums = sums_within some (first_as_locate c.args.bounds.now) _ all sorted.alike (c.requires.sums sorted.tables);
+      sums = sorted.sums;
     })
 
 pub returns : goal.returns

@@ -5,6 +5,7 @@ use Rattle.bars.specs.Steps.{bar_at}
 use Rattle.bars.specs.declared.keyed.Keyed.TheVariants.{OfBar}
 use Rattle.bars.proofs.LastBar.{no_bar}
 use Rattle.bars.proofs.JoinedTables.{ordered}
+use Rattle.bars.proofs.SumsAreBounded.{fits_in_order}
 use Rattle.bars.proofs.bars_in_ranges.range_of.Goals as goal
 
 pub returns : goal.returns
@@ -16,5 +17,5 @@ returns c =
       rise = order.rise;
       alike = λ key. ap (joined_all _) (order.each key) ∙ c.in_ok-keyed.ensures.alike key;
       traded = All-permutation IsTraded _ _ order.permutation c.in_ok-keyed.ensures.traded;
-      tables = c.in_ok-keyed.ensures.tables;
+      sums = fits_in_order _ _ order c.in_ok-keyed.ensures.sums;
     }

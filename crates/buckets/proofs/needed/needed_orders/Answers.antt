@@ -5,8 +5,8 @@ use Rattle.buckets.proofs.needed.needed_orders.Goals as goal
 
 pub returns : goal.returns
 returns c =
-    let rows = rows_of_parts c.args.parts.now in (
-      c.add_orders.new.filter,
-      c.add_orders.ensures (executed_in rows) [] (c.add_executions.ensures [] [] (search rules)),
-      grind (arith, common_steps),
-    )
+    let rows = rows_of_parts c.args.parts.now in record {
+      found = c.add_orders.new.filter;
+      of = c.add_orders.ensures (executed_in rows) [] (c.add_executions.ensures [] [] (search rules));
+      are = grind (arith, common_steps);
+    }

@@ -7,17 +7,20 @@ use Rattle.scanning.proofs.cut_inputs.batch_inputs.Goals as goal
 
 pub overflow_add-number : goal.overflow_add-number
 overflow_add-number c =
-    let fits = each_fits arc_value _ c.args.first c.args.start c.morsels-morsels.ensures c.requires.few c.requires.within c.loop-morsel-test.true c.morsel-item.is in
+    let fits = each_fits arc_value _ c.args.first c.args.start c.morsels-morsels.ensures c.requires.few c.requires.within
+    c.loop-morsel-test.true c.morsel-item.is in
     omega (arith, c.number.ensures ∙ ap (λ (m : MorselView). m.number) c.deref.ensures, fits.0)
 
 pub overflow_add-place : goal.overflow_add-place
 overflow_add-place c =
-    let fits = each_fits arc_value _ c.args.first c.args.start c.morsels-morsels.ensures c.requires.few c.requires.within c.loop-morsel-test.true c.morsel-item.is in
+    let fits = each_fits arc_value _ c.args.first c.args.start c.morsels-morsels.ensures c.requires.few c.requires.within
+    c.loop-morsel-test.true c.morsel-item.is in
     omega (arith, c.start.ensures ∙ ap (λ (m : MorselView). m.start) c.deref-in-loop-morsel.ensures, fits.1)
 
 pub of-input-requires-clause-within : goal.of-input-requires-clause-within
 of-input-requires-clause-within c =
-    let fits = each_fits arc_value _ c.args.first c.args.start c.morsels-morsels.ensures c.requires.few c.requires.within c.loop-morsel-test.true c.morsel-item.is in
+    let fits = each_fits arc_value _ c.args.first c.args.start c.morsels-morsels.ensures c.requires.few c.requires.within
+    c.loop-morsel-test.true c.morsel-item.is in
     rw (c.start.ensures, c.deref-in-loop-morsel.ensures, c.in_ok-try_clone.ensures) fits.1
 
 pub of-requires-clause-few : goal.of-requires-clause-few
@@ -44,3 +47,8 @@ pub returns-clause-inputs : goal.returns-clause-inputs
 returns-clause-inputs c =
     c.of.ensures
     ∙ rw (take_all _ _ c.loop-morsel-test.false) at c.loop-morsel.invariant ∙ all_inputs arc_value _ _ _ _ _ c.morsels-morsels.ensures
+
+pub returns-clause-runs : goal.returns-clause-runs
+returns-clause-runs c =
+    let cut = c.morsels-morsels.ensures in
+    record { each = cut.each; bytes = cut.bytes; within = behind c.args.start _ _ cut.within c.requires.within }

@@ -65,8 +65,9 @@ returns-clause-text g c =
     let names : IsNamesOf (directory_rows of.messages) c.in_ok-names.names =
     subst (λ rows. IsNamesOf rows c.in_ok-names.names) (c.directory.ensures ∙ ap (λ (r : MorselRowsView). r.directory) of.of.are) c.in_ok-names.ensures in
     let listing = selected of.messages c.args.query.now c.in_ok-names.names c.in_ok-selection.selection _ _ c.list-listing.result of.of.by_place
-    breaks trades.are trades.stamped names c.in_ok-selection.ensures.locates c.in_ok-selection.ensures.span c.in_ok-selection.ensures.kinds c.list-listing.ensures.by_place
-    c.list-listing.ensures.permutation in
+    breaks trades.are trades.stamped names c.in_ok-selection.ensures.locates c.in_ok-selection.ensures.span c.in_ok-selection.ensures.kinds
+    c.list-listing.ensures.by_place c.list-listing.ensures.permutation in
     day_answers c.args.query.now (Ok c.in_ok-text_of.field-0) of c.bytes.ensures.same moment
     (text_answers of.messages c.args.query.now _ trades.repeated trades.unknown
-    (text_asked of.messages c.args.query.now c.list-listing.result (names_by c.in_ok-names.names) _ listing (λ locate. ap (name_text locate) (names locate)) c.in_ok-text_of.ensures))
+    (text_asked of.messages c.args.query.now c.list-listing.result (names_by c.in_ok-names.names) _ listing
+    (λ locate. ap (name_text locate) (names locate)) c.in_ok-text_of.ensures))

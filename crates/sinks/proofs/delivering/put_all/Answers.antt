@@ -12,7 +12,10 @@ loop-written-preserved g c =
       whole = c.in-Ok.ensures.failed;
     }
 
-pub returns-in-Err-clause-took : goal.returns-in-Err-clause-took
-returns-in-Err-clause-took g c =
-    front_stays (g.K.Sink.Took c.args.sink.now c.put.new.self) _
-    (g.met.K.Sink.took_more c.args.sink.now c.loop-written.sink c.put.new.self _ _ c.loop-written.invariant.took c.in-Err.ensures.took)
+pub returns-in-Err : goal.returns-in-Err
+returns-in-Err g c = (
+  c.loop-written.invariant.within,
+  front_stays (g.K.Sink.Took c.args.sink.now c.put.new.self) _
+      (g.met.K.Sink.took_more c.args.sink.now c.loop-written.sink c.put.new.self _ _ c.loop-written.invariant.took c.in-Err.ensures.took),
+  c.in-Err.ensures.failed,
+)

@@ -12,19 +12,19 @@ pub overflow_add-result : goal.overflow_add-result
 overflow_add-result g c =
     let within = count_within c.args.pieces.now c.loop-piece.piece-index c.loop-piece.written c.piece-item.result c.loop-piece-test.true c.piece-item.is
     c.loop-piece.invariant.count in
-    omega (arith, within, c.requires.short, c.in-Err.ensures.written, ap length c.as_slice.ensures.value)
+    omega (arith, within, c.requires.short, c.in-Err.ensures.0, ap length c.as_slice.ensures.value)
 
 pub returns-in-Err-clause-written : goal.returns-in-Err-clause-written
 returns-in-Err-clause-written g c =
-    let within = count_within c.args.pieces.now c.loop-piece.piece-index c.loop-piece.written c.piece-item.result c.loop-piece-test.true c.piece-item.is
-    c.loop-piece.invariant.count in
-    omega (arith, within, c.in-Err.ensures.written, ap length c.as_slice.ensures.value)
-
-pub returns-in-Err-clause-took : goal.returns-in-Err-clause-took
-returns-in-Err-clause-took g c =
     let part = c.in-Err.refused.written in
-    part_written c.args.pieces.now (g.K.Sink.Took c.args.sink.now c.put_all.new.sink) c.loop-piece.piece-index c.loop-piece.written part
-    c.piece-item.result c.loop-piece-test.true c.piece-item.is c.loop-piece.invariant.count
-    (omega (arith, c.in-Err.ensures.written, ap length c.as_slice.ensures.value))
-    (g.met.K.Sink.took_more c.args.sink.now c.loop-piece.sink c.put_all.new.sink _ _ c.loop-piece.invariant.took
-    (subst (λ l. g.K.Sink.Took c.loop-piece.sink c.put_all.new.sink (take part l)) c.as_slice.ensures.value c.in-Err.ensures.took))
+    let (few, took, failed) = c.in-Err.ensures in
+    let within = count_within c.args.pieces.now c.loop-piece.piece-index c.loop-piece.written c.piece-item.result c.loop-piece-test.true c.piece-item.is
+    c.loop-piece.invariant.count in (
+      omega (arith, within, few, ap length c.as_slice.ensures.value),
+      part_written c.args.pieces.now (g.K.Sink.Took c.args.sink.now c.put_all.new.sink) c.loop-piece.piece-index c.loop-piece.written part
+          c.piece-item.result c.loop-piece-test.true c.piece-item.is c.loop-piece.invariant.count
+          (omega (arith, few, ap length c.as_slice.ensures.value))
+          (g.met.K.Sink.took_more c.args.sink.now c.loop-piece.sink c.put_all.new.sink _ _ c.loop-piece.invariant.took
+          (subst (λ l. g.K.Sink.Took c.loop-piece.sink c.put_all.new.sink (take part l)) c.as_slice.ensures.value took)),
+      failed,
+    )

@@ -23,7 +23,8 @@ returns g c =
     let ordered = c.in_ok-merge.ensures.in_order in
     let those = sym (map-id ordered.0.items) ∙ items_from_whole_run road ordered.0 ordered.1 ordered.2 in
     let up = ordered.3 before refl (IsStrictWeakOrder-by_number place_of) (items_of ordered.0.items)
-    (parts_give _ (λ p j h. (h.0, h.1 ∙ p.ok.0)) ordered.0.items) (rw those (parts_in_order c.args.parts.items c.requires.by_place)) ran.0 true
+    (parts_give _ (λ p j h. (h.0, h.1 ∙ p.ok.0)) ordered.0.items)
+    (rw those (parts_in_order (λ (p : Vec Sale g.row.A.Denot). p.items) c.args.parts.items c.requires.by_place)) ran.0 true
     (ran.1.0, ran.1.1, λ _. ran.1.2 tt) in
     rw ran.2.0 (
       perm,

@@ -1,21 +1,30 @@
-use Rattle.std.proofs.Common.{arith, ◌<◌}
+use Rattle.std.proofs.Common.{◌<◌, IsPermutation, ap, ◌∙◌, subst}
+use Rattle.std.proofs.lemmas.List.Elements.{All-filter}
 use Rattle.std.proofs.lemmas.Result.{IfOk-weaker}
 use Rattle.lists.specs.declared.limits.TheConstants.{TIME_LIMIT}
 use Rattle.ranges.specs.Ranges.{is_in_first}
 use Rattle.time_and_sales.specs.Lent.{all_sales, lent}
-use Rattle.time_and_sales.specs.Texts.{Sale}
-use Rattle.time_and_sales.proofs.SalesInRanges.{range_has, range_is}
+use Rattle.time_and_sales.specs.Names.{names_by}
+use Rattle.time_and_sales.specs.Texts.{Sale, lines_text}
+use Rattle.time_and_sales.proofs.SalesInRanges.{all_within, range_is}
 use Rattle.time_and_sales.proofs.SortedByPlace.{place_of}
 use Rattle.time_and_sales.proofs.sales_in_ranges.range_lines.Goals as goal
 
 pub lines-requires : goal.lines-requires
 lines-requires c =
-    rw c.as_slice.ensures.value
-    (range_has (λ (s : Sale). s.time < TIME_LIMIT) (is_in_first place_of c.args.bounds.now) (all_sales (lent c.args.listings.now)) c.in_ok-sorted.sorted.items
-    c.requires.times c.in_ok-sorted.ensures.permutation)
+    let p = is_in_first place_of c.args.bounds.now in
+    let listings = lent c.args.listings.now in
+    record {
+      made = c.requires.made;
+      by_place = c.in_ok-parts.ensures.by_place;
+      times = rw (ap all_sales c.in_ok-parts.ensures.sales ∙ all_within p listings)
+          (All-filter p (λ (s : Sale). s.time < TIME_LIMIT) (all_sales listings) c.requires.times);
+    }
 
 pub returns : goal.returns
 returns c =
     let p = is_in_first place_of c.args.bounds.now in
-    IfOk-weaker c.lines.result _ _ (λ text e all up perm.
-    let is = range_is p (all_sales (lent c.args.listings.now)) all (lent c.in_ok-sorted.sorted.items) up perm c.in_ok-sorted.ensures.rise in grind arith) c.lines.ensures
+    let listings = lent c.args.listings.now in
+    IfOk-weaker c.lines.result _ _ (λ text made all up perm.
+    let part = subst (λ l. IsPermutation l made.0) (ap all_sales c.in_ok-parts.ensures.sales ∙ all_within p listings) made.2 in
+    made.3 ∙ ap (lines_text (names_by c.args.names.now)) (range_is p (all_sales listings) all made.0 up perm made.1 part)) c.lines.ensures

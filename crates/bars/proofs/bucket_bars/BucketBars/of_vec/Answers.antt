@@ -9,7 +9,7 @@ use Rattle.bars.proofs.bucket_bars.BucketBars.of_vec.Goals as goal
 pub returns-in-Ok-clause-bars : goal.returns-in-Ok-clause-bars
 returns-in-Ok-clause-bars c =
     AreBarsOf-sorted c.args.width c.args.sales.items _ c.in-Ok.bars c.put_in_order-count.ensures.permutation c.requires.places
-    (rw c.as_slice.ensures.value at c.in-Ok.ensures.bars)
+    (rw (c.as_slice.ensures.value, c.shrink_to_fit.ensures.items) at c.in-Ok.ensures.bars)
 
 pub invariant_of-result-2 : goal.invariant_of-result-2
 invariant_of-result-2 c =

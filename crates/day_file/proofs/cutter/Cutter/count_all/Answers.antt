@@ -6,12 +6,12 @@ use Rattle.day_file.proofs.cutter.Cutter.count_all.Goals.{then-self-gt0-via-then
 pub returns-in-Err-clause-fault : goal.returns-in-Err-clause-fault
 returns-in-Err-clause-fault c =
     rw (← c.self.view_is) (λ fed has. rw c.length.ensures.same
-    (fed_truncated _ fed has c.in-Err.fault.place (rw (c.left.ensures.same, ← c.self.view_is) at c.in-Err.ensures.truncated)))
+    (fed_truncated _ fed has c.in-Err.fault.place (rw c.as_slice.ensures at c.in-Err.ensures.truncated)))
 
 pub returns-then-self-gt0-clause-fault : goal.returns-then-self-gt0-clause-fault
 returns-then-self-gt0-clause-fault c =
     let runs = c.in-Ok.ensures.count in
-    rw (← c.self.view_is) (λ fed has. too_many_runs _ fed has runs.0 (rw (c.left.ensures.same, ← c.self.view_is) at runs.1) (elim c.then-self-gt0.branch [
+    rw (← c.self.view_is) (λ fed has. too_many_runs _ fed has runs.0 (rw c.as_slice.ensures at runs.1) (elim c.then-self-gt0.branch [
       | then-self-gt0-via-then-self-gt0 w ↦ inl w.if-self-gt0.true
       | then-self-gt0-via-else-self-gt0+then-from-more w ↦
           inr (omega (arith, runs.2, w.from.ensures, w.into.ensures, w.count.ensures.count, w.if-from-more.true))
@@ -20,5 +20,5 @@ returns-then-self-gt0-clause-fault c =
 pub returns-clause-few : goal.returns-clause-few
 returns-clause-few c =
     let runs = c.in-Ok.ensures.count in
-    rw (← c.self.view_is) (λ fed has. few_runs _ fed has runs.0 (rw (c.left.ensures.same, ← c.self.view_is) at runs.1) (omega (arith, c.if-self-gt0.false))
+    rw (← c.self.view_is) (λ fed has. few_runs _ fed has runs.0 (rw c.as_slice.ensures at runs.1) (omega (arith, c.if-self-gt0.false))
     (omega (arith, runs.2, c.from.ensures, c.into.ensures, c.count.ensures.count, c.if-from-more.false)))

@@ -1,4 +1,4 @@
-use Rattle.std.proofs.Common.{ap, ◌∙◌, arith}
+use Rattle.std.proofs.Common.{ap, ◌∙◌}
 use Rattle.meaning.specs.Meaning.{Meaning}
 use Rattle.scanning.specs.Scans.{inputs_of, total_of}
 use Rattle.runs.proofs.Answered.{given_of}
@@ -10,7 +10,7 @@ answer_of_outcome-requires-clause-outcome g c lifetimes within =
     let are = c.in_ok-inputs.ensures.ok ∙ scans.inputs ∙ ap (λ (m : Meaning). inputs_of m.as_of c.args.parts c.args.cut.now) c.query.view_is in (
       c.args.cut.now,
       given_of _ c.in_ok-outcome.ensures c.dividing-link.ensures c.requires.parts.0
-          (λ first is. record { each = scans.runs; bytes = scans.bytes; within = omega (arith, scans.within); is = is ∙ ap total_of are }),
+          (λ first is. record { are = scans.runs; is = is ∙ ap total_of are }),
     )
 
 pub returns : goal.returns
@@ -19,4 +19,4 @@ returns g c =
     let are = c.in_ok-inputs.ensures.ok ∙ scans.inputs ∙ ap (λ (m : Meaning). inputs_of m.as_of c.args.parts c.args.cut.now) c.query.view_is in
     c.answer_of_outcome.ensures c.args.cut.now
     (given_of _ c.in_ok-outcome.ensures c.dividing-link.ensures c.requires.parts.0
-    (λ first is. record { each = scans.runs; bytes = scans.bytes; within = omega (arith, scans.within); is = is ∙ ap total_of are }))
+    (λ first is. record { are = scans.runs; is = is ∙ ap total_of are }))

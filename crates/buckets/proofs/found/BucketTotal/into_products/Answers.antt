@@ -1,5 +1,0 @@
-use Rattle.std.proofs.Common.{rules}
-use Rattle.buckets.proofs.found.BucketTotal.into_products.Goals as goal
-
-pub returns : goal.returns
-returns c = search rules

@@ -1,0 +1,2 @@
+pub mod ShortRows
+pub mod SameOrders

@@ -1,0 +1,105 @@
+//! Order rows whose references rise, searched where they lie.
+ghost use Rattle.std.specs.Prelude.{◌≡◌, ◌==◌, ◌<◌, ◌≤◌, All, IsTrue, length, map};
+ghost use Rattle.std.specs.List.{AllPairs, find};
+ghost use Rattle.std.specs.Option.{IfSome};
+ghost use Rattle.order_list.specs.ShortRows.{IsOrigin, row_of_lean};
+
+use crate::lean::Lean;
+use crate::offsets::Origin;
+use crate::short::ShortRow;
+use order_table::{Referenced, Spread, first_of};
+use row_types::OrderRow;
+use std::marker::Model;
+
+impl Referenced for Lean {
+    ghost reference_of = { λ row. row.reference };
+
+    #[inline(always)]
+    fn reference(&self) -> u64 {
+        u64::from(self.reference)
+    }
+}
+
+/// The rows of a list, one or more, each of a greater reference than the row before it. They are
+/// not copied.
+#[derive(Drop)]
+pub struct RisingRows<'a> {
+    origin: Origin,
+    spread: Spread,
+    rows: &'a [Lean],
+}
+
+impl<'a> Model for RisingRows<'a> {
+    ghost use Rattle.std.specs.Prelude.{List, ◌+◌, ◌^◌, ◌<◌, ◌≤◌, length, map};
+    ghost use Rattle.std.specs.List.{AllPairs};
+    ghost use Rattle.row_types.specs.declared.order.OrderRow.{OrderRow};
+    ghost use Rattle.order_list.specs.ShortRows.{IsOrigin, row_of_lean};
+
+    ghost Value = { List OrderRow };
+
+    ghost view = { λ rising. map (row_of_lean rising.origin) rising.rows.now };
+
+    ghost invariant = { λ rising. IsOrigin rising.origin
+        × (0 < length rising.rows.now)
+        × AllPairs (λ x y. x.reference < y.reference) rising.rows.now };
+}
+
+impl<'a> RisingRows<'a> {
+    /// The rows, if there are some and their references rise.
+    pub(crate) fn of(origin: Origin, rows: &'a [Lean]) -> Option<Self>
+        requires { IsOrigin origin }
+        ensures rows { IfSome result (λ rising. rising ≡ map (row_of_lean origin) rows.now) }
+        ensures rise { IfSome result (λ rising. AllPairs (λ x y. x.order_no < y.order_no) rising) }
+    {
+        if rows.is_empty() || !rises(rows) {
+            return None;
+        }
+        let spread = Spread::of(
+            rows.len(),
+            rows[0].reference(),
+            rows[rows.len() - 1].reference(),
+        );
+        Some(RisingRows {
+            origin,
+            spread,
+            rows,
+        })
+    }
+
+    /// The reference of the first row.
+    pub fn least(&self) -> u64
+        ensures { All (λ row. result ≤ row.order_no) self.now }
+    {
+        self.origin.order_no + u64::from(self.rows[0].reference)
+    }
+
+    /// The reference of the last row.
+    pub fn greatest(&self) -> u64
+        ensures some { 0 < length self.now }
+        ensures greatest { All (λ row. row.order_no ≤ result) self.now }
+    {
+        self.origin.order_no + u64::from(self.rows[self.rows.len() - 1].reference)
+    }
+
+    /// The row that gives the reference.
+    #[inline(always)]
+    pub fn first(&self, order_no: u64) -> Option<OrderRow>
+        ensures { result ≡ find (λ row. row.order_no == order_no) self.now }
+    {
+        if order_no < self.origin.order_no {
+            return None;
+        }
+        let reference = order_no - self.origin.order_no;
+        match first_of(self.rows, self.spread, reference) {
+            Some(row) => Some(row.row(self.origin)),
+            None => None,
+        }
+    }
+}
+
+/// Whether each reference is above those before it.
+fn rises(rows: &[Lean]) -> bool
+    ensures { IsTrue result → AllPairs (λ x y. x.reference < y.reference) rows.now }
+{
+    rows.is_sorted_by(|row, next| row.reference < next.reference)
+}
