@@ -1,4 +1,4 @@
-//! The match numbers of broken trades.
+//! The match numbers of broken trades, by which `keep` of `probe` removes those trades.
 //!
 //! A break removes every trade with its match number, wherever it stands in the file, so all that
 //! is kept of the breaks is the set of their numbers.

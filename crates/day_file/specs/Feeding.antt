@@ -34,8 +34,8 @@ pub record HasFed (cutter : CutterView) (fed : List ℕ) : Type 0 where
   pub most : 0 < cutter.past → MOST_MORSELS ≤ length cutter.cut
   pub joined : fed ≡ concat (cutter.cut ++ beyond) ++ cutter.rest
 
--- what a cutter keeps between its calls: something was fed, and of the bytes after the full runs the first `whole` are
--- known to be whole frames
+-- what a cutter keeps between its calls: some bytes, perhaps none, were fed to it, no more than the longest file has,
+-- and of those after the full runs the first `whole`, which are fewer than the target, are known to be whole frames
 pub record IsCutting (cutter : CutterView) (whole : ℕ) : Type 0 where
   pub fed : List ℕ
   pub has : HasFed cutter fed

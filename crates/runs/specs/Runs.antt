@@ -58,15 +58,16 @@ module _ {K : Type 0} (reading : Reading) (sink : SinkOf K) where
   -- the words mean no query, and this is their first fault; and nothing was read of a stream
   Ran words limit before after (Err (fault.Query f)) =
       (first_query_fault (words_of words) ≡ Some f) × reading.untouched × (after ≡ before)
-  -- a call of a stream failed, which had given no more than the limit and a byte; a reading of a file failed
+  -- a stream gave no more than the limit and a byte; that a call of it failed, the clause `read_failed` of `run` says.
+  -- Of a file, a reading failed.
   Ran words limit before after (Err fault.ReadFailed) = IsQuery words × reading.failed × (after ≡ before)
   -- a stream gave the limit and a byte, a reading of a file gave a byte at the limit; and this is the limit
   Ran words limit before after (Err (fault.TooLong most)) =
       IsQuery words × reading.longer × (most ≡ limit) × (after ≡ before)
   -- all that a stream had to give was read, and has too many morsels; of a file that never holds
   Ran words limit before after (Err fault.TooManyMorsels) = IsQuery words × reading.too_many × (after ≡ before)
-  -- of memory nothing. That the words list symbols, for which alone reading them takes memory, and nothing was read of
-  -- a stream; or that they mean a query. And that a stream gave no more than the limit and a byte.
+  -- `OutOfMemory` proves nothing about memory. Either the words list symbols, since reading others takes no memory, and
+  -- nothing was read of a stream; or the words mean a query. In both cases a stream gave at most the limit and a byte.
   Ran words limit before after (Err fault.OutOfMemory) =
       (((lists_symbols (words_of words) ≡ true) × reading.untouched) ⊎ IsQuery words)
       × reading.some × (after ≡ before)
