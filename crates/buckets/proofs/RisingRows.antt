@@ -6,8 +6,7 @@ use Rattle.std.specs.List.{All, AllPairs, find}
 use Rattle.std.specs.List.Sorted.{IsNonDecreasingBy, IsPartitionPoint}
 use Rattle.std.specs.Option.{option_or}
 use Rattle.std.proofs.lemmas.Bool.{cond_both, eqb-true, ltb-false, ltb-true}
-use Rattle.std.proofs.lemmas.List.{append-nil, get_or_default}
-use Rattle.std.proofs.lemmas.List.Concat.{flat_map-append}
+use Rattle.std.proofs.lemmas.List.{get_or_default}
 use Rattle.std.proofs.lemmas.List.Elements.{All-append, All-push, All-tail}
 use Rattle.std.proofs.lemmas.List.Folds.{find-append}
 use Rattle.std.proofs.lemmas.List.Kept.{AllPairs-cons}
@@ -73,10 +72,6 @@ rising_more parts part are rise within over = record {
   within = All-push (λ p. All (λ row. row.order_no ≤ p.last) p.rows) parts part are.within within;
   apart = all_pairs_push IsAbove parts part are.apart over;
 }
-
-pub rows_more : (parts : List Part) (part : Part) → rows_of_lists (parts ++ part ∷ []) ≡ rows_of_lists parts ++ part.rows
-rows_more parts part =
-    flat_map-append (λ (p : Part). p.rows) parts (part ∷ []) ∙ ap (λ l. rows_of_lists parts ++ l) (append-nil part.rows)
 
 -- a list whose references begin above the last of each list so far
 pub above_all : (parts : List Part) (part : Part) (least : ℕ) → All (λ p. p.last < least) parts → 0 < length part.rows

@@ -1,6 +1,6 @@
 -- What is found in buckets, which may be worked on together, and which are equal.
 -- To be believed of a crate used by itself: the answer isn't defined by buckets.
-use Rattle.std.specs.Prelude.{◌≡◌, Bool, true, ◌==◌, ◌&&◌, List, All, length, map, nat_eq}
+use Rattle.std.specs.Prelude.{◌≡◌, Bool, ◌==◌, ◌&&◌, List, All, length, map, nat_eq}
 use Rattle.std.specs.Cmp.{IsEquivalence}
 use Rattle.std.specs.Cmp.Lexicographic.{pointwise}
 use Rattle.std.proofs.Common.{arith}

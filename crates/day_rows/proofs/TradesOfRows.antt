@@ -33,9 +33,6 @@ trades_are_both rows messages =
     let second : flat_map g messages ≡ own_priced_sales messages = sym (filter_map_as_flat_map (λ m. own_priced_at m.place m.message) messages) in
     rw whole (subst (IsPermutation (flat_map (λ m. f m ++ g m) messages)) (ap₂ ◌++◌ first second) (IsPermutation-both f g messages))
 
-pub own_keeps_place : (place : ℕ) (message : Message) (sale : Sale) → own_priced_at place message ≡ Some sale → sale.place ≡ place
-own_keeps_place place message sale e = grind arith
-
 trade_keeps_place : (rows : List OrderRow) (place : ℕ) (message : Message) (sale : Sale) → trade_at rows place message ≡ Some sale → sale.place ≡ place
 trade_keeps_place rows place message sale e = grind arith
 

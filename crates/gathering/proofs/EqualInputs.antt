@@ -1,5 +1,6 @@
--- Lists of equal inputs have equal inputs at each index and the same values, and a list is equal to itself. For who implements a work or stands on a gathering.
-use Rattle.std.specs.Prelude.{◌≡◌, ℕ, zero, suc, Bool, true, List, Option, [], ◌∷◌, Some, None, map, slice_get, take, refl}
+-- Lists of equal inputs have equal inputs at each index, their first ones are equal lists, and a list is equal to itself. For who implements a work or
+-- stands on a gathering.
+use Rattle.std.specs.Prelude.{◌≡◌, ℕ, zero, suc, Bool, true, List, Option, [], ◌∷◌, Some, None, slice_get, take, refl}
 use Rattle.std.proofs.Common.{◌∙◌}
 use Rattle.std.proofs.lemmas.Bool.{and_parts}
 use Rattle.std.specs.Option.{option_eq}
@@ -25,15 +26,6 @@ module _ {A : Type 0} (eq : A → A → Bool) where
   same-take (suc n) [] (y ∷ ys) h = cc
   same-take (suc n) (x ∷ xs) [] h = cc
   same-take (suc n) (x ∷ xs) (y ∷ ys) h = let parts = and_parts (eq x y) _ h in rw parts.0 (same-take n xs ys parts.1)
-
-  -- what is made of each input alone is the same for equal inputs
-  pub map_alike : {B : Type 0} (f : A → B) → ((a b : A) → eq a b ≡ true → f a ≡ f b)
-      → (xs ys : List A) → same_inputs eq xs ys ≡ true → map f xs ≡ map f ys
-  map_alike f alike [] [] h = refl
-  map_alike f alike [] (y ∷ ys) h = cc
-  map_alike f alike (x ∷ xs) [] h = cc
-  map_alike f alike (x ∷ xs) (y ∷ ys) h =
-      let parts = and_parts (eq x y) _ h in let first = alike x y parts.0 in let rest = map_alike f alike xs ys parts.1 in cc
 
   module _ (laws : IsEquivalence eq) where
     -- a list of inputs is the same as itself
