@@ -5,12 +5,11 @@ use Rattle.std.specs.List.{range_with_len}
 use Rattle.std.proofs.lemmas.Bool.{cases_lt}
 use Rattle.std.proofs.lemmas.Bool.Decides.{nat_tests}
 use Rattle.std.proofs.lemmas.List.{take_more}
-use Rattle.std.proofs.lemmas.List.Concat.{flat_map-append}
 use Rattle.std.proofs.lemmas.List.Folds.{flat_map-map}
 use Rattle.std.proofs.lemmas.Nat.{mod_below}
 use Rattle.std.proofs.lemmas.Option.{get_or_from_slice_get, slice_get_within}
 use Rattle.lists.specs.Least.{numbers_below, part}
-use Rattle.lists.proofs.Lists.{filter-flat_map, filter_of_filter}
+use Rattle.lists.proofs.Lists.{filter-flat_map, filter_of_filter, flat_map_push}
 use Rattle.row_types.specs.declared.order.OrderRow.{OrderRow}
 use Rattle.row_types.specs.declared.trade.Execution.{Execution}
 use Rattle.row_types.specs.declared.trade.Sale.{Sale}
@@ -45,12 +44,12 @@ partition_more i partitions rows there = sym (ap (λ l. only_partition (joined_p
         take_more partitions i rows (slice_get_within partitions i rows there)
         ∙ ap (λ one. take i partitions ++ one ∷ []) (get_or_from_slice_get partitions i rows rows there)
 
-    one_more : {Y : Type 0} (f : PartitionView → List Y) → flat_map f (take i partitions ++ rows ∷ []) ≡ flat_map f (take i partitions) ++ f rows
-    one_more f = flat_map-append f (take i partitions) (rows ∷ []) ∙ ap (λ l. flat_map f (take i partitions) ++ l) (append-nil (f rows))
-
     more : only_partition (joined_partitions (take i partitions ++ rows ∷ []))
         ≡ joined (only_partition (joined_partitions (take i partitions))) (only_partition rows)
-    more = same_rows (one_more (λ one. one.orders)) (one_more (λ one. one.executions)) (one_more (λ one. one.own_priced)) refl refl
+    more =
+        let before = take i partitions in
+        same_rows (flat_map_push (λ one. one.orders) before rows) (flat_map_push (λ one. one.executions) before rows)
+        (flat_map_push (λ one. one.own_priced) before rows) refl refl
 
 -- ---- the parts by a number, one after another, have in each part by a multiple of it what all have
 

@@ -1,6 +1,6 @@
 -- Partitions compared row by row, and rows as `==` compares them.
 -- To be believed of a crate used by itself: equality of inputs, by which no answer is defined.
-use Rattle.std.specs.Prelude.{◌≡◌, Bool, true, ◌&&◌, List}
+use Rattle.std.specs.Prelude.{Bool, ◌&&◌}
 use Rattle.std.specs.Cmp.{IsEquivalence}
 use Rattle.std.specs.Cmp.Lexicographic.{pointwise}
 use Rattle.std.proofs.Common.{arith}

@@ -1,8 +1,8 @@
 -- The inputs of the scans of morsels that follow each other, morsel after morsel.
-use Rattle.std.proofs.Common.{◌≡◌, ℕ, zero, suc, ◌+◌, ◌<◌, ◌≤◌, List, [], ◌∷◌, ◌++◌, Option, Some, get_or, length, map}
-use Rattle.std.proofs.Common.{slice_get, take, refl, sym, ap, ◌∙◌, arith}
+use Rattle.std.proofs.Common.{◌≡◌, ℕ, zero, suc, ◌+◌, ◌<◌, ◌≤◌, List, [], ◌∷◌, Option, Some, get_or, length, map}
+use Rattle.std.proofs.Common.{slice_get, refl, sym, ap, ◌∙◌, arith}
 use Rattle.std.specs.List.{concat}
-use Rattle.std.proofs.lemmas.List.{length-append, length-map, take_more, map_push}
+use Rattle.std.proofs.lemmas.List.{length-append, length-map}
 use Rattle.std.proofs.lemmas.Simd.{map-map}
 use Rattle.lists.specs.declared.limits.TheConstants.{LONGEST_FILE, MOST_MORSELS}
 use Rattle.day_file.specs.Cuts.{MorselView, start_of}
@@ -57,11 +57,3 @@ pub all_inputs : {X : Type 0} (value : X → MorselView) (items : List X) {runs 
 all_inputs value items {runs} first start as_of parts m =
     sym (map-map (input_behind first start as_of parts) value items) ∙ ap (map (input_behind first start as_of parts)) m.are
     ∙ behind_each first start 0 0 first start as_of parts runs (omega arith) (omega arith)
-
--- one more item
-pub one_more : {X Y : Type 0} (f : X → Y) (items : List X) (i : ℕ) (x : X) → i < length items → x ≡ get_or items i x
-    → map f (take i items) ++ f x ∷ [] ≡ map f (take (i + 1) items)
-one_more f items i x less is =
-    sym (ap (map f) (take_more items i x less ∙ ap (λ t. take i items ++ t ∷ []) (sym is)) ∙ map_push f (take i items) x)
-
-pub ruleset making = (map_push, one_more)

@@ -34,7 +34,7 @@ pub fn scan_inputs(
 /// the first is the morsel `first` of the whole file, and `start` bytes come before it. If none do, nothing
 /// is required of the cut, which has few morsels by itself and is no longer than a file may be. Otherwise they
 /// are as those of `scan_inputs`, and as that it is refused.
-#[tactic(auto, using(crate::proofs::MorselInputs::making))]
+#[tactic(auto, using(std::proofs::lemmas::List::map_more))]
 pub fn batch_inputs(
     alloc: Global,
     cut: &Cut,

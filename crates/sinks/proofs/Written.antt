@@ -1,8 +1,9 @@
 -- A text's front, as it is written in pieces.
-use Rattle.std.proofs.Common.{◌≡◌, ◌+◌, ◌-◌, ◌<◌, ◌≤◌, ℕ, List, [], ◌∷◌, ◌++◌, get_or, length, take, drop, Vec, sym, ap, ◌∙◌, subst, arith}
+use Rattle.std.proofs.Common.{◌≡◌, ◌+◌, ◌-◌, ◌<◌, ◌≤◌, ℕ, List, [], ◌++◌, get_or, length, take, drop, Vec, sym, ap, ◌∙◌, subst, arith}
 use Rattle.std.proofs.Math.Seq.{take-add, take-append-add, take-length}
-use Rattle.std.proofs.lemmas.List.{append-nil, append_assoc, length-append, length-drop, take_more, take-append-drop, take-append-le}
+use Rattle.std.proofs.lemmas.List.{append-nil, append_assoc, length-append, length-drop, take-append-drop, take-append-le}
 use Rattle.std.proofs.lemmas.List.Concat.{flat_map-append}
+use Rattle.lists.proofs.Lists.{flat_map_next}
 use Rattle.sinks.specs.Written.{text_of}
 
 -- all that stands from a place on
@@ -28,18 +29,12 @@ whole_front Took text took = subst Took (append-nil text ∙ sym (take-length te
 -- ---- pieces
 
 module _ {Z : Type 0} (pieces : List (Vec ℕ Z)) where
-  -- one piece more
-  front_more : (i : ℕ) (d : Vec ℕ Z) → i < length pieces → text_of (take (i + 1) pieces) ≡ text_of (take i pieces) ++ (get_or pieces i d).items
-  front_more i d h =
-      ap text_of (take_more pieces i d h) ∙ flat_map-append (λ (p : Vec ℕ Z). p.items) (take i pieces) (get_or pieces i d ∷ [])
-      ∙ ap (λ l. text_of (take i pieces) ++ l) (append-nil (get_or pieces i d).items)
-
   front_and_rest : (i : ℕ) (d : Vec ℕ Z) → i < length pieces
       → text_of pieces ≡ text_of (take i pieces) ++ ((get_or pieces i d).items ++ text_of (drop (i + 1) pieces))
   front_and_rest i d h =
       sym (ap text_of (take-append-drop (i + 1) pieces))
       ∙ flat_map-append (λ (p : Vec ℕ Z). p.items) (take (i + 1) pieces) (drop (i + 1) pieces)
-      ∙ ap (λ l. l ++ text_of (drop (i + 1) pieces)) (front_more i d h)
+      ∙ ap (λ l. l ++ text_of (drop (i + 1) pieces)) (flat_map_next (λ p. p.items) pieces i d h)
       ∙ append_assoc (text_of (take i pieces)) (get_or pieces i d).items (text_of (drop (i + 1) pieces))
 
   -- what is written stays within the whole
