@@ -8,6 +8,7 @@ use Rattle.std.proofs.lemmas.List.Sorted.{IsPermutation-refl, IsPermutation-sym,
 use Rattle.std.proofs.lemmas.List.Sorted.{IsPermutation-append_right, IsPermutation-append_comm}
 use Rattle.row_types.specs.declared.trade.Sale.{Sale}
 use Rattle.row_types.specs.SalesByPlace.{IsByPlace, place_cmp}
+use Rattle.time_and_sales.specs.Lent.{AreApart}
 use Rattle.time_and_sales.proofs.SortedByPlace.{one_listing}
 use Rattle.buckets.specs.Products.{by_place, put_by_place}
 
@@ -63,15 +64,14 @@ of_places : (sale : Sale) (xs : List Sale) → AllByRecursion (λ n. nat_eq sale
 of_places sale [] all = tt
 of_places sale (x ∷ xs) all = (all.0, of_places sale xs all.1)
 
-pub by_place_rises : (xs : List Sale) → IsDistinct nat_eq (map (λ s. s.place) xs) → IsByPlace (by_place xs)
+pub by_place_rises : (xs : List Sale) → AreApart xs → IsByPlace (by_place xs)
 unfolding IsStrictlySortedBy IsDistinct
 by_place_rises [] apart = tt
 by_place_rises (x ∷ xs) apart =
     put_rises x (by_place xs) (by_place_rises xs apart.1) (kept_by_place (λ y. nat_eq x.place y.place ≡ false) xs (of_places x xs apart.0))
 
 -- so a listing of the sales is them by place
-pub listing_is_by_place : (sales listing : List Sale) → IsDistinct nat_eq (map (λ s. s.place) sales) → IsPermutation sales listing
-    → IsByPlace listing → listing ≡ by_place sales
+pub listing_is_by_place : (sales listing : List Sale) → AreApart sales → IsPermutation sales listing → IsByPlace listing → listing ≡ by_place sales
 listing_is_by_place sales listing apart h up =
     one_listing listing (by_place sales) up (by_place_rises sales apart)
     (IsPermutation-trans listing sales (by_place sales) (IsPermutation-sym sales listing h) (by_place_is sales))

@@ -1,7 +1,7 @@
 //! What a query lists of some sales.
-ghost use Rattle.std.specs.Prelude.{◌≡◌, ◌<◌, All, length, map, nat_eq};
-ghost use Rattle.std.specs.List.{IsDistinct};
+ghost use Rattle.std.specs.Prelude.{◌≡◌, ◌<◌, All, length};
 ghost use Rattle.lists.specs.declared.limits.TheConstants.{TRADE_LIMIT};
+ghost use Rattle.time_and_sales.specs.Lent.{AreApart};
 ghost use Rattle.meaning.specs.Meaning.{HasWidth};
 ghost use Rattle.buckets.specs.Products.{product_of};
 
@@ -13,7 +13,7 @@ use time_and_sales::Listing;
 
 /// The listing of the sales, or their bars.
 pub(crate) fn product(mut sales: Vec<Sale>, what: What) -> Product
-    requires places { IsDistinct nat_eq (map (λ sale. sale.place) sales.items) }
+    requires places { AreApart sales.items }
     requires count { length sales.items < TRADE_LIMIT }
     requires shares { All (λ sale. 0 < sale.shares) sales.items }
     requires width { HasWidth what }

@@ -1,9 +1,9 @@
-use Rattle.std.proofs.Common.{◌≡◌, ◌<◌, All, Bool, List, ap, length, map, nat_eq, subst, sym, ℕ, ◌∙◌}
-use Rattle.std.specs.List.{IsDistinct}
+use Rattle.std.proofs.Common.{◌≡◌, ◌<◌, All, Bool, List, ap, length, subst, sym, ℕ, ◌∙◌}
 use Rattle.lists.specs.declared.limits.TheConstants.{TRADE_LIMIT}
 use Rattle.probe.specs.Selection.{kept}
 use Rattle.row_types.specs.declared.trade.Sale.{Sale}
 use Rattle.probe.proofs.KeptSales.{kept_have_shares}
+use Rattle.time_and_sales.specs.Lent.{AreApart}
 use Rattle.morsel_rows.specs.Partitions.{AreRowsByPlace, PartitionView}
 use Rattle.buckets.specs.BucketRows.{rows_of_parts}
 use Rattle.buckets.specs.FoundRows.{sales_in, trades_in}
@@ -26,8 +26,7 @@ pub product-product-requires-clause-places : goal.product-product-requires-claus
 unfolding KeptOfTrades
 product-product-requires-clause-places c =
     let (breaks, selection, are) = kept_are c in
-    subst (λ (l : List Sale). IsDistinct nat_eq (map (λ (s : Sale). s.place) l)) (sym are)
-    (sales_apart (rows_of_parts c.as_slice.result.now) (by_place c) breaks selection)
+    subst AreApart (sym are) (sales_apart (rows_of_parts c.as_slice.result.now) (by_place c) breaks selection)
 
 pub product-product-requires-clause-count : goal.product-product-requires-clause-count
 unfolding KeptOfTrades
