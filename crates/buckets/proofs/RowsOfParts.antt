@@ -1,5 +1,5 @@
 -- The rows of the partitions of morsels, with those of one morsel more.
-use Rattle.std.proofs.Common.{◌≡◌, true, ℕ, ◌+◌, ◌<◌, ◌≤◌, List, [], ◌∷◌, ◌++◌, Some, Bor, get_or, length, map, take, sym, ap, ap₂, ◌∙◌}
+use Rattle.std.proofs.Common.{◌≡◌, ℕ, ◌+◌, ◌<◌, ◌≤◌, List, [], ◌∷◌, ◌++◌, Some, Bor, get_or, length, map, take, sym, ap, ap₂, ◌∙◌}
 use Rattle.std.specs.Arc.{arc_value}
 use Rattle.std.specs.List.{slice_get}
 use Rattle.std.specs.declared.alloc.Global.{Global}
@@ -7,7 +7,7 @@ use Rattle.std.specs.declared.sync.Arc.{Arc}
 use Rattle.std.proofs.lemmas.List.{append-nil, get_or_past, take_more, map_push}
 use Rattle.std.proofs.lemmas.Option.{get_or_from_slice_get}
 use Rattle.lists.proofs.Lists.{flat_map_push}
-use Rattle.morsel_rows.specs.SameRows.{exact_partition, is_same_partition, partition_equiv}
+use Rattle.morsel_rows.specs.SameRows.{is_same_partition, partition_equiv}
 use Rattle.morsel_rows.specs.Partitions.{MorselRowsView, PartitionView, joined_partitions, no_rows_in, partition_at}
 use Rattle.buckets.specs.BucketRows.{rows_at, rows_of_parts}
 
@@ -71,11 +71,11 @@ module _ (number i : ℕ) (morsels : List (Arc MorselRowsView Global)) (d : Arc 
 
   -- it has one without rows
   pub part_empty : (parts : List (Bor PartitionView)) (part : PartitionView) → rows_of_parts parts ≡ joined_partitions (rows_at number (take i morsels))
-      → slice_get (arc_value (get_or morsels i d)).partitions number ≡ Some part → true ≡ is_same_partition part no_rows_in
+      → slice_get (arc_value (get_or morsels i d)).partitions number ≡ Some part → part ≡ no_rows_in
       → rows_of_parts parts ≡ joined_partitions (rows_at number (take (i + 1) morsels))
   part_empty parts part before there empty =
       before
       ∙ sym (morsel_more
       ∙ ap (with_rows (joined_partitions (rows_at number (take i morsels))))
-      (get_or_from_slice_get (arc_value (get_or morsels i d)).partitions number part no_rows_in there ∙ exact_partition.one part no_rows_in (sym empty))
+      (get_or_from_slice_get (arc_value (get_or morsels i d)).partitions number part no_rows_in there ∙ empty)
       ∙ joined_none (joined_partitions (rows_at number (take i morsels))))

@@ -1,5 +1,5 @@
 //! The rows of one partition.
-ghost use Rattle.std.specs.Prelude.{◌≡◌, IfOk, OnErr, OnOk};
+ghost use Rattle.std.specs.Prelude.{◌≡◌, ◌↔◌, IfOk, IsTrue, OnErr, OnOk};
 ghost use Rattle.std.specs.Cmp.{partial_equiv_from_equiv};
 ghost use Rattle.morsel_rows.specs.MoreRows.{with_execution, with_order, with_sale};
 ghost use Rattle.morsel_rows.specs.Partitions.{no_rows_in};
@@ -94,7 +94,7 @@ impl<A: Allocator> Partition<A> {
     /// Whether there are no rows.
     #[inline(always)]
     pub fn is_empty(&self) -> bool
-        ensures { result ≡ is_same_partition self.now no_rows_in }
+        ensures { IsTrue result ↔ (self.now ≡ no_rows_in) }
     {
         self.orders.len() == 0 && self.executions.is_empty() && self.own_priced.is_empty()
     }

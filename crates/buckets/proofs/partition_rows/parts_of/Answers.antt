@@ -1,4 +1,4 @@
-use Rattle.std.proofs.Common.{◌≡◌, ◌∙◌, ◌≤◌, Some, ap, arith, length, subst, sym}
+use Rattle.std.proofs.Common.{◌≡◌, ◌∙◌, ◌≤◌, Some, ap, arith, length, subst}
 use Rattle.std.specs.Arc.{arc_value}
 use Rattle.std.specs.List.{slice_get}
 use Rattle.morsel_rows.specs.Partitions.{MorselRowsView}
@@ -23,7 +23,7 @@ loop-morsel-preserved c =
           ap (λ parts. rows_of_parts parts.items) w.parts-is
           ∙ part_empty number i morsels d (omega (arith, c.loop-morsel-test.true)) c.loop-morsel.parts.items w.in-Some.part.now c.loop-morsel.invariant
           (subst (λ (m : MorselRowsView). slice_get m.partitions number ≡ Some w.in-Some.part.now) this w.in-Some.ensures)
-          (sym w.if-not-is_empty.false ∙ w.is_empty.ensures)
+          (w.is_empty.ensures.0 w.if-not-is_empty.false)
       | in_default w ↦
           ap (λ parts. rows_of_parts parts.items) w.parts-is
           ∙ part_missing number i morsels d (omega (arith, c.loop-morsel-test.true)) c.loop-morsel.parts.items c.loop-morsel.invariant
