@@ -1,5 +1,5 @@
 -- What the two pipelines give on threads comes of the scans of a cut.
-use Rattle.std.proofs.Common.{◌≡◌, ℕ, ◌<◌, ◌*◌, true, List, Option, Result, Err, sym, subst, ap, ◌∙◌, arith}
+use Rattle.std.proofs.Common.{◌≡◌, ℕ, ◌<◌, ◌*◌, true, List, Option, Result, Err, sym, subst, ap, ◌∙◌}
 use Rattle.std.specs.List.{concat}
 use Rattle.row_types.specs.declared.directory.DirectoryRow.{DirectoryRow}
 use Rattle.meaning.specs.Meaning.{Meaning}
