@@ -6,5 +6,5 @@ pub fetch_add-number-requires : goal.fetch_add-number-requires
 fetch_add-number-requires g c = (
   c.requires.own,
   omega (arith, c.args.self.now.shape),
-  claims _ _ _ c.args.seat.now.one_number _ (λ k d lt. omega (arith, c.requires.more k d lt, c.args.self.now.size)),
+  claims _ c.args.seat.now.one_number (λ k d lt. omega (arith, c.requires.more k d lt, c.args.self.now.size)),
 )
