@@ -68,8 +68,7 @@ pub record AreBarsOf (width : ℕ) (sales : List Sale) (table : List Bar) : Type
 -- what any bar of sales has: some volume, an average price of 32 bits, and no more volume than as many trades of 64
 -- bits can have
 abbrev pub IsTraded : Bar → Type 0
-IsTraded bar =
-    (0 < bar.volume) × (bar.notional ≤ bar.volume * (2 ^ 32 - 1)) × (bar.volume ≤ bar.trades * 2 ^ 64)
+IsTraded bar = (0 < bar.volume) × (bar.notional ≤ bar.volume * (2 ^ 32 - 1)) × (bar.volume ≤ bar.trades * 2 ^ 64)
 
 -- ---- tables made one
 
@@ -97,8 +96,7 @@ joined (Some a) (Some b) = Some (joined_bar a b)
 
 -- the sums of two bars fit into 128 bits, and their numbers of trades into 64
 abbrev pub CanJoin : Bar → Bar → Type 0
-CanJoin a b =
-    (a.volume + b.volume < 2 ^ 128) × (a.notional + b.notional < 2 ^ 128) × (a.trades + b.trades < 2 ^ 64)
+CanJoin a b = (a.volume + b.volume < 2 ^ 128) × (a.notional + b.notional < 2 ^ 128) × (a.trades + b.trades < 2 ^ 64)
 
 -- the bars of a list, all of one key, joined in its order to what there was before
 abbrev pub joined_all : Option Bar → List Bar → Option Bar

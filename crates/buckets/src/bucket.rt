@@ -4,7 +4,7 @@ ghost use Rattle.std.specs.Arc.{arc_value};
 ghost use Rattle.std.specs.Cmp.{partial_equiv_from_equiv};
 ghost use Rattle.meaning.specs.Meaning.{HasWidth};
 ghost use Rattle.morsel_rows.specs.Partitions.{AreRowsByPlace, joined_partitions};
-ghost use Rattle.buckets.specs.BucketRows.{bucket_of, planned_rows, rows_of_parts};
+ghost use Rattle.buckets.specs.BucketRows.{BucketView, bucket_of, planned_rows, rows_of_parts};
 ghost use Rattle.buckets.specs.Buckets.{bucket_equiv, is_same_bucket};
 
 use crate::OutOfMemory;
@@ -26,11 +26,6 @@ pub struct Bucket {
 }
 
 impl Model for Bucket {
-    ghost use Rattle.std.specs.Arc.{arc_value};
-    ghost use Rattle.meaning.specs.Meaning.{HasWidth};
-    ghost use Rattle.morsel_rows.specs.Partitions.{AreRowsByPlace, joined_partitions};
-    ghost use Rattle.buckets.specs.BucketRows.{BucketView, bucket_of, planned_rows};
-
     ghost Value = { BucketView };
 
     ghost view = { λ bucket. bucket_of (arc_value bucket.plan) bucket.number };

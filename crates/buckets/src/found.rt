@@ -1,6 +1,7 @@
 //! What is found in one bucket, and in all.
 ghost use Rattle.std.specs.Prelude.{◌≡◌, map};
 ghost use Rattle.std.specs.Arc.{arc_value};
+ghost use Rattle.buckets.specs.FoundRows.{FoundView, TotalView};
 
 use crate::product::Product;
 use order_table::Repeated;
@@ -18,9 +19,6 @@ pub struct Found {
 }
 
 impl Model for Found {
-    ghost use Rattle.std.specs.Arc.{arc_value};
-    ghost use Rattle.buckets.specs.FoundRows.{FoundView};
-
     ghost Value = { FoundView };
 
     ghost view = { λ found. record {
@@ -39,10 +37,6 @@ pub struct BucketTotal {
 }
 
 impl Model for BucketTotal {
-    ghost use Rattle.std.specs.Prelude.{map};
-    ghost use Rattle.std.specs.Arc.{arc_value};
-    ghost use Rattle.buckets.specs.FoundRows.{TotalView};
-
     ghost Value = { TotalView };
 
     ghost view = { λ total. record {

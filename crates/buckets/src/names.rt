@@ -1,5 +1,6 @@
 //! The names of a day's locates.
-ghost use Rattle.std.specs.Prelude.{◌≡◌, IfOk};
+ghost use Rattle.std.specs.Prelude.{◌≡◌, IfOk, List};
+ghost use Rattle.row_types.specs.declared.directory.DirectoryRow.{DirectoryRow as TheRow};
 ghost use Rattle.time_and_sales.specs.Names.{IsNamesOf};
 
 use crate::OutOfMemory;
@@ -15,10 +16,6 @@ pub struct DayNames {
 }
 
 impl Model for DayNames {
-    ghost use Rattle.std.specs.Prelude.{List};
-    ghost use Rattle.row_types.specs.declared.directory.DirectoryRow.{DirectoryRow as TheRow};
-    ghost use Rattle.time_and_sales.specs.Names.{IsNamesOf};
-
     ghost Value = { List TheRow };
 
     ghost view = { λ made. made.rows.items };

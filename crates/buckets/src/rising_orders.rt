@@ -1,7 +1,8 @@
 //! Order rows that are searched where they lie.
-ghost use Rattle.std.specs.Prelude.{◌≡◌, ◌++◌, ◌<◌, All, IfOk, IsTrue, None, OnOk};
+ghost use Rattle.std.specs.Prelude.{◌≡◌, ◌++◌, ◌<◌, All, IfOk, IsTrue, List, None, OnOk};
 ghost use Rattle.std.specs.List.{AllPairs};
 ghost use Rattle.std.specs.Option.{IfSome};
+ghost use Rattle.row_types.specs.declared.order.OrderRow.{OrderRow};
 ghost use Rattle.order_table.specs.Orders.{first_repeated, first_row};
 ghost use Rattle.buckets.specs.BucketRows.{rows_of_parts};
 ghost use Rattle.buckets.specs.RisingLists.{AreRising, IsAbove, rows_of_lists};
@@ -26,10 +27,6 @@ pub(crate) struct RisingOrders<'a> {
 }
 
 impl<'a> Model for RisingOrders<'a> {
-    ghost use Rattle.std.specs.Prelude.{List};
-    ghost use Rattle.row_types.specs.declared.order.OrderRow.{OrderRow};
-    ghost use Rattle.buckets.specs.RisingLists.{AreRising, rows_of_lists};
-
     ghost Value = { List OrderRow };
 
     ghost view = { λ orders. rows_of_lists orders.parts.items };

@@ -16,8 +16,7 @@ pair_text n = (48 + n / 10) ∷ (48 + n % 10) ∷ []
 
 -- seconds since midnight as `HH:MM:SS`
 unfoldable pub clock_text : ℕ → List ℕ
-clock_text time =
-    pair_text (time / 3600) ++ (COLON ∷ pair_text (time / 60 % 60) ++ (COLON ∷ pair_text (time % 60)))
+clock_text time = pair_text (time / 3600) ++ (COLON ∷ pair_text (time / 60 % 60) ++ (COLON ∷ pair_text (time % 60)))
 
 -- what is listed; a width in seconds
 abbrev pub what_words : What → List (List ℕ)
@@ -55,8 +54,7 @@ kind_condition kinds =
 
 -- the words of a query's conditions: symbol, time, kind, those that it has
 abbrev pub conditions_of : Meaning → List (List (List ℕ))
-conditions_of query =
-    symbol_condition query.symbols ++ (time_condition query.span ++ kind_condition query.kinds)
+conditions_of query = symbol_condition query.symbols ++ (time_condition query.span ++ kind_condition query.kinds)
 
 -- the words of conditions, with a word before the first, and `and` before each other one
 abbrev pub linked : List ℕ → List (List (List ℕ)) → List (List ℕ)

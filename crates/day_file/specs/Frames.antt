@@ -20,8 +20,7 @@ spelling frames = flat_map (λ frame. frame_of frame.body) frames
 -- the first frame begins at this place, and each other one where the one before it ends
 abbrev pub StandAt : ℕ → List PlacedBody → Type 0
 StandAt place [] = Unit {0}
-StandAt place (frame ∷ frames) =
-    (frame.place ≡ place) × StandAt (place + length (frame_of frame.body)) frames
+StandAt place (frame ∷ frames) = (frame.place ≡ place) × StandAt (place + length (frame_of frame.body)) frames
 
 -- the length of a body fits into two bytes
 abbrev pub IsShort : List ℕ → Type 0

@@ -120,8 +120,7 @@ directory_rows messages = filter_map (λ m. directory_row_at m.place m.message) 
 -- the sale of a message, if it has one: an execution at the price of its order, if a message before it gives that;
 -- another message at a price of its own, if it has one
 abbrev pub trade_at : List OrderRow → ℕ → Message → Option Sale
-trade_at rows place (Executed executed) =
-    option_and_then (sale_of rows) (execution_at place (Executed executed))
+trade_at rows place (Executed executed) = option_and_then (sale_of rows) (execution_at place (Executed executed))
 trade_at rows place message = own_priced_at place message
 
 -- the trades of the message list, in its order: the executions that have a price, and the sales with a price of their

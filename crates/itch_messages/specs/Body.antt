@@ -18,8 +18,7 @@ is_whole body = option_map_or (λ wanted. length body == wanted) (length_of (kin
 
 -- a body of one of the nine types with another length
 abbrev pub has_wrong_length : List ℕ → Bool
-has_wrong_length body =
-    option_map_or (λ wanted. not (length body == wanted)) (length_of (kind_of body)) false
+has_wrong_length body = option_map_or (λ wanted. not (length body == wanted)) (length_of (kind_of body)) false
 
 -- what is reported of a wrong length
 abbrev pub length_fault_of : List ℕ → LengthFault

@@ -13,8 +13,7 @@ HasNumbersOf rows numbers = (number : ℕ) → is_among numbers number ≡ is_am
 
 -- the numbers of the third list are those of the first and of the second
 abbrev pub IsUnion : List ℕ → List ℕ → List ℕ → Type 0
-IsUnion one other both =
-    (number : ℕ) → is_among both number ≡ (is_among one number || is_among other number)
+IsUnion one other both = (number : ℕ) → is_among both number ≡ (is_among one number || is_among other number)
 
 -- each number of a list is a byte
 abbrev pub AreBytes : List ℕ → Type 0

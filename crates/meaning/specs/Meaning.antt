@@ -15,8 +15,7 @@ is_symbol_byte byte = (nat_le 33 byte && nat_le byte 126) && not (byte == COMMA)
 
 -- one to eight such bytes: a symbol
 unfoldable pub is_symbol : List ℕ → Bool
-is_symbol bytes =
-    (nat_lt 0 (length bytes) && nat_le (length bytes) 8) && list_all is_symbol_byte bytes
+is_symbol bytes = (nat_lt 0 (length bytes) && nat_le (length bytes) 8) && list_all is_symbol_byte bytes
 
 -- a query: what is listed, up to which second messages count, and which sales by symbols, span and kinds
 pub record Meaning : Type 0 where

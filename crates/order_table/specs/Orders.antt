@@ -9,8 +9,7 @@ use Rattle.lists.specs.Least.{least_by}
 
 -- the row of least place that gives the reference
 abbrev pub first_row : List OrderRow → ℕ → Option OrderRow
-first_row rows order_no =
-    least_by (λ row. row.place) (filter (λ row. row.order_no == order_no) rows)
+first_row rows order_no = least_by (λ row. row.place) (filter (λ row. row.order_no == order_no) rows)
 
 -- the price of a row, if it comes before the place
 abbrev pub price_if_before : ℕ → Option OrderRow → Option ℕ
@@ -23,8 +22,7 @@ price_before rows order_no place = price_if_before place (first_row rows order_n
 
 -- whether a row of smaller place gives the same reference
 abbrev pub is_repeated : List OrderRow → OrderRow → Bool
-is_repeated rows row =
-    list_any (λ other. (other.order_no == row.order_no) && nat_lt other.place row.place) rows
+is_repeated rows row = list_any (λ other. (other.order_no == row.order_no) && nat_lt other.place row.place) rows
 
 -- of the rows whose reference a row of smaller place gives, the one of least place
 abbrev pub first_repeated : List OrderRow → Option OrderRow

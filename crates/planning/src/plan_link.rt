@@ -5,7 +5,7 @@ ghost use Rattle.std.specs.Arc.{arc_value};
 ghost use Rattle.lists.specs.declared.limits.TheConstants.{MOST_PARTITIONS};
 ghost use Rattle.morsel_rows.specs.Partitions.{AreRowsByPlace, MorselRowsView, joined_partitions, partition_at};
 ghost use Rattle.planning.specs.declared.pieces.TheConstants.{MOST_PIECES};
-ghost use Rattle.planning.specs.Planned.{AreDivided, IsLinkedTo, IsNext};
+ghost use Rattle.planning.specs.Planned.{AreDivided, IsLinkedTo, IsNext, LinkView};
 
 use crate::OutOfMemory;
 use crate::kept::DayPlan;
@@ -32,10 +32,6 @@ pub struct PlanLink<'a> {
 }
 
 impl<'a> Model for PlanLink<'a> {
-    ghost use Rattle.std.specs.Prelude.{◌≤◌};
-    ghost use Rattle.lists.specs.declared.limits.TheConstants.{MOST_PARTITIONS};
-    ghost use Rattle.planning.specs.Planned.{LinkView};
-
     ghost Value = { LinkView };
 
     ghost view = { λ link. record { query = link.query.now; parts = link.parts; divides = link.divides } };

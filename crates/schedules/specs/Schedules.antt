@@ -20,8 +20,7 @@ has_arrived gatherers events task = list_any (brings gatherers task) events
 
 -- the least of the tasks that has not arrived
 abbrev pub first_left : ℕ → ℕ → List Event → Option ℕ
-first_left gatherers tasks events =
-    find (λ task. not (has_arrived gatherers events task)) (range_with_len 0 tasks)
+first_left gatherers tasks events = find (λ task. not (has_arrived gatherers events task)) (range_with_len 0 tasks)
 
 -- the sets of covered tasks of gatherings, in order
 abbrev pub covered_sets : {A : Type 0} → List (GatheringView A) → List (FinSet nat_cmp)
