@@ -56,13 +56,13 @@ pub fn text_of_bars<A: Allocator + Copy>(
 }
 
 /// The text of time and sales of all listings: a header line, then a line for each sale, by place.
-/// Threads make it, each a part for a range of places; there are `ranges` such parts, or one.
+/// So many threads make it, or fewer, each a part for a range of places.
 pub fn text_of_listings<R: Threads + Sync>(
     rt: &R,
     alloc: Global,
     listings: &[&Listing],
     names: &Names,
-    ranges: u32,
+    threads: u32,
 ) -> Result<Text, OutOfMemory>
     requires apart { AreApart (all_sales (lent listings.now)) }
     requires times { All (λ sale. sale.time < TIME_LIMIT) (all_sales (lent listings.now)) }
@@ -72,19 +72,19 @@ pub fn text_of_listings<R: Threads + Sync>(
 {
     let mut header = Vec::new(alloc);
     time_and_sales::write_header(&mut header)?;
-    let lines = time_and_sales::lines_in_ranges(rt, alloc, listings, names, ranges)?;
+    let lines = time_and_sales::lines_in_ranges(rt, alloc, listings, names, threads)?;
     of_all(header, lines)
 }
 
 /// The text of the bars of all tables, those of one locate and start joined: a header line, then a
-/// line for each bar, by locate and then by start. Threads make it, each a part for a range of
-/// locates; there are `ranges` such parts, or one.
+/// line for each bar, by locate and then by start. So many threads make it, or fewer, each some
+/// parts for ranges of locates.
 pub fn text_of_tables<R: Threads + Sync>(
     rt: &R,
     alloc: Global,
     tables: &[&BucketBars],
     names: &Names,
-    ranges: u32,
+    threads: u32,
 ) -> Result<Text, OutOfMemory>
     requires sums { FitIfTraded (all_bars (lent tables.now)) }
     requires starts { All (λ bar. bar.start < TIME_LIMIT) (all_bars (lent tables.now)) }
@@ -94,7 +94,7 @@ pub fn text_of_tables<R: Threads + Sync>(
 {
     let mut header = Vec::new(alloc);
     bars::write_header(&mut header)?;
-    let lines = bars::lines_in_ranges(rt, alloc, tables, names, ranges)?;
+    let lines = bars::lines_in_ranges(rt, alloc, tables, names, threads)?;
     of_all(header, lines)
 }
 

@@ -22,16 +22,20 @@ use std::alloc::Global;
 use std::thread::Threads;
 use time_and_sales::Names;
 
+/// About how many sales and bars a range has at most. Their keys then stay in a processor's nearer caches while they
+/// are sorted, and take little memory.
+const LONG_RANGE: usize = 32_768;
+
 /// The lines of the bars of all tables, those of one locate and start joined, in pieces that are
-/// one text when they are put together. There are `ranges` pieces, or one: each is of the bars in a
-/// range of locates, which a thread of its own joins and writes. It is refused if a thread was
-/// refused memory.
+/// one text when they are put together. Each piece is of the bars in a range of locates. So many
+/// threads, or fewer, join and write them, each an even share of the ranges, one after the other. It
+/// is refused if a thread was refused memory.
 pub fn lines_in_ranges<R: Threads + Sync>(
     rt: &R,
     alloc: Global,
     tables: &[&BucketBars],
     names: &Names,
-    ranges: u32,
+    threads: u32,
 ) -> Result<Vec<Vec<u8>>, OutOfMemory>
     requires sums { FitIfTraded (all_bars (lent tables.now)) }
     requires starts { All (λ bar. bar.start < TIME_LIMIT) (all_bars (lent tables.now)) }
@@ -39,6 +43,7 @@ pub fn lines_in_ranges<R: Threads + Sync>(
         IsUnionOf (all_bars (lent tables.now)) all →
         all_items texts.items ≡ lines_text (names_by names.now) all) }
 {
+    let ranges = count_ranges(tables, threads);
     let locates = match longest(tables) {
         Some(Form::Sales { sales, .. }) => {
             numbers_of::<ByLocate, _>(alloc, sales.as_slice(), ranges)?
@@ -50,8 +55,20 @@ pub fn lines_in_ranges<R: Threads + Sync>(
         rt,
         alloc,
         locates.as_slice(),
+        threads,
         &|bounds: &[u64]| range_lines(alloc, tables, names, bounds),
     )
+}
+
+/// How many ranges there are best: one for each thread, or more, as many for each, if they would be long.
+fn count_ranges(tables: &[&BucketBars], threads: u32) -> u32 {
+    let mut count = 0usize;
+    for table in tables {
+        count = count.saturating_add(table.form().len());
+    }
+    let share = count / threads.max(1) as usize;
+    let further = u32::try_from(share / LONG_RANGE).unwrap_or(0);
+    threads.saturating_mul(further.saturating_add(1))
 }
 
 /// Of what most is kept among the tables.

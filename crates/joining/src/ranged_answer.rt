@@ -19,15 +19,15 @@ use std::thread::Threads;
 use time_and_sales::{Listing, Names};
 
 /// The answer that the total of all buckets gives: the first fault in the references, or the text
-/// that is asked for. Threads make the text in `ranges` parts, or in one, and the rows of all
-/// buckets are let go when it is made.
+/// that is asked for. So many threads, or fewer, make the text in ranges, and the rows of all buckets
+/// are let go when it is made.
 pub fn answer_in_ranges<R: Threads + Sync>(
     rt: &R,
     alloc: Global,
     query: &Query,
     total: BucketTotal,
     names: &DayNames,
-    ranges: u32,
+    threads: u32,
 ) -> Result<Answer, OutOfMemory>
     requires gathered { (messages : List Placed) × AreGatheredOf query.now total names.now messages }
     ensures { IfOk result (λ answer. (messages : List Placed) → AreGatheredOf query.now total names.now messages →
@@ -37,7 +37,7 @@ pub fn answer_in_ranges<R: Threads + Sync>(
         Some(fault) => Ok(Answer::Faulty(fault)),
         None => {
             let products = total.into_products();
-            let text = text_of(rt, alloc, query.what, &products, names.names(), ranges)?;
+            let text = text_of(rt, alloc, query.what, &products, names.names(), threads)?;
             Ok(Answer::Printed(text))
         }
     }
@@ -50,7 +50,7 @@ fn text_of<R: Threads + Sync>(
     what: What,
     products: &[Arc<Product, Global>],
     names: &Names,
-    ranges: u32,
+    threads: u32,
 ) -> Result<Text, OutOfMemory>
     requires products { (lists : List (List Sale)) × AreProductsOf what lists (map arc_value products.now) }
     ensures { IfOk result (λ text. (lists : List (List Sale)) →
@@ -60,11 +60,11 @@ fn text_of<R: Threads + Sync>(
     match what {
         What::Sales => {
             let listings = listings(alloc, products)?;
-            text_of_listings(rt, alloc, &listings, names, ranges)
+            text_of_listings(rt, alloc, &listings, names, threads)
         }
         What::Bars { width: _ } => {
             let tables = tables(alloc, products)?;
-            text_of_tables(rt, alloc, &tables, names, ranges)
+            text_of_tables(rt, alloc, &tables, names, threads)
         }
     }
 }

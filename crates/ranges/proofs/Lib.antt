@@ -1,2 +1,2 @@
-pub mod MadeTexts
+mod MadeTexts
 pub mod RangesJoined

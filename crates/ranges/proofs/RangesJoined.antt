@@ -1,16 +1,17 @@
 -- Items in ranges of numbers: what a search finds, and that the texts of all ranges are the text of the whole.
 use Rattle.std.proofs.Common.{◌≡◌, ℕ, suc, ◌+◌, ◌<◌, ◌≤◌, Bool, true, false, not, ◌&&◌, ltb, All, List, [], ◌∷◌, ◌++◌, length, map, max, take, drop, get_or}
-use Rattle.std.proofs.Common.{filter, Bor, Vec, Result, Ok, refl, sym, ap, ap₂, ◌∙◌, arith, rules, inl, inr, length-drop, flat_map}
+use Rattle.std.proofs.Common.{filter, Bor, Vec, Result, Ok, refl, sym, ap, ap₂, subst, ◌∙◌, arith, rules, inl, inr, length-drop, flat_map}
 use Rattle.std.specs.Fn.{FnReturnsAt, Shared}
 use Rattle.std.specs.List.Sorted.{IsNonDecreasingBy, IsPartitionPoint}
 use Rattle.std.proofs.lemmas.Bool.{cases_Bool, le-ltb, ltb-false}
 use Rattle.std.proofs.lemmas.Bool.Decides.{nat_tests}
-use Rattle.std.proofs.lemmas.List.{append-nil, length-map, length-take-le, get_or-take, get_or-drop, take-append-drop}
+use Rattle.std.proofs.lemmas.List.{append-nil, length-take-le, get_or-take, get_or-drop, take-append-drop}
 use Rattle.std.proofs.lemmas.List.Concat.{flat_map-append}
 use Rattle.std.proofs.lemmas.List.Elements.{filter-append, All-head, All-tail}
 use Rattle.std.proofs.lemmas.List.Kept.{IsNonDecreasingBy-filter}
 use Rattle.lists.proofs.Lists.{filter_of_filter}
 use Rattle.ranges.specs.Ranges.{GivesRanges, all_items, greatest_so_far, is_in_first}
+use Rattle.ranges.specs.Turns.{AreTextsOf}
 
 -- ---- what a search finds
 
@@ -116,11 +117,8 @@ module _ {F X Z E : Type 0} (calls : Shared F (Bor (List ℕ) × Unit {0}) (Resu
       let more = from_bound high numbers texts (omega (arith, count)) (λ k d h. each (suc k) d (omega arith)) in
       ap₂ ◌++◌ first more ∙ sym (flat_map-append line _ _) ∙ ap (flat_map line) (split number low high xs (omega arith) up)
 
-  pub ranges_join : (numbers : List ℕ) (texts : List (Vec ℕ Z)) (made : List (Result (Vec ℕ Z) E)) → map told texts ≡ made
-      → length made ≡ length (0 ∷ greatest_so_far 0 numbers)
-      → ((n : ℕ) (d : Result (Vec ℕ Z) E) → n < length (0 ∷ greatest_so_far 0 numbers)
-      → FnReturnsAt calls f (drop n (0 ∷ greatest_so_far 0 numbers)) (get_or made n d))
-      → all_items texts ≡ flat_map line xs
-  ranges_join numbers texts made same count each =
-      from_bound 0 numbers texts (sym (length-map texts told) ∙ ap length same ∙ count) (rw same each)
-      ∙ ap (flat_map line) (all_pass (from number 0) xs (λ k d h. ap not (le-ltb _ _ (omega arith))))
+  pub ranges_join : (numbers bounds : List ℕ) (texts : List (Vec ℕ Z)) → bounds ≡ 0 ∷ greatest_so_far 0 numbers
+      → AreTextsOf calls f bounds (length bounds) texts → all_items texts ≡ flat_map line xs
+  ranges_join numbers bounds texts is made =
+      let all = subst (λ b. AreTextsOf calls f b (length b) texts) is made in
+      from_bound 0 numbers texts all.few all.each ∙ ap (flat_map line) (all_pass (from number 0) xs (λ k d h. ap not (le-ltb _ _ (omega arith))))

@@ -1,8 +1,8 @@
 //! The text of items in ranges of numbers, which threads make side by side.
-ghost use Rattle.std.specs.Prelude.{◌≡◌, ℕ, ◌∷◌, ◌<◌, IfOk, List, Ok, drop, flat_map, length, map};
-ghost use Rattle.std.specs.Fn.{FnReturnsAt};
+ghost use Rattle.std.specs.Prelude.{◌≡◌, ℕ, ◌∷◌, ◌≤◌, IfOk, List, flat_map, length};
 ghost use Rattle.std.specs.List.Sorted.{IsNonDecreasingBy};
 ghost use Rattle.ranges.specs.Ranges.{GivesRanges, all_items, greatest_so_far};
+ghost use Rattle.ranges.specs.Turns.{AreTextsOf};
 
 use crate::OutOfMemory;
 use std::alloc::Global;
@@ -11,12 +11,14 @@ use std::thread::Threads;
 
 /// The text of items in order of a number, in pieces that are one text when they are put together.
 /// A range of numbers begins at 0, and one at each of `numbers`, or at a greater one before it. `text`
-/// makes the lines of each range, in a thread of its own if one can be made: it is given the bounds
-/// of that range and of those behind it. It is refused if a call is, or if there is no memory.
+/// makes the lines of each range: it is given the bounds of that range and of those behind it. So many
+/// threads, or fewer if they can't be made, make the ranges, each an even share of them, one after the
+/// other. It is refused if a call is, or if there is no memory.
 pub fn texts_in_ranges<T, R: Threads + Sync, F: Fn(&[u64]) -> Result<Vec<u8>, OutOfMemory> + Sync>(
     rt: &R,
     alloc: Global,
     numbers: &[u64],
+    threads: u32,
     text: &F,
 ) -> Result<Vec<Vec<u8>>, OutOfMemory>
     requires { (bounds : _) → F.pre text.now bounds }
@@ -24,31 +26,63 @@ pub fn texts_in_ranges<T, R: Threads + Sync, F: Fn(&[u64]) -> Result<Vec<u8>, Ou
         IsNonDecreasingBy number items → GivesRanges F.Fn text.now number line items →
         all_items texts.items ≡ flat_map line items) }
 {
-    let made = bounds_of(alloc, numbers)?;
-    let bounds = made.as_slice();
-    let texts = thread::map_indices(
-        rt,
-        alloc,
-        bounds.len(),
-        &|i: usize| -> Result<Vec<u8>, OutOfMemory>
-            requires { (i < length bounds.now) × ((range : _) → F.pre text.now range) }
-            ensures { FnReturnsAt F.Fn text.entry.now (drop i bounds.entry.now) result }
-        { text(&bounds[i..]) },
-    )?;
-    all_of(alloc, texts)
+    let bounds = bounds_of(alloc, numbers)?;
+    let count = bounds.len();
+    let threads = count.min(threads as usize);
+    texts_on_threads(rt, alloc, bounds.as_slice(), count, threads, text)
 }
 
-/// All texts, if none was refused.
-#[tactic(auto, using(crate::proofs::MadeTexts::taking))]
-fn all_of(
+/// The texts of the first ranges, which so many threads make, or fewer.
+#[cycle(halves)]
+fn texts_on_threads<R: Threads + Sync, F: Fn(&[u64]) -> Result<Vec<u8>, OutOfMemory> + Sync>(
+    rt: &R,
     alloc: Global,
-    made: Vec<Result<Vec<u8>, OutOfMemory>>,
+    bounds: &[u64],
+    count: usize,
+    threads: usize,
+    text: &F,
 ) -> Result<Vec<Vec<u8>>, OutOfMemory>
-    ensures { IfOk result (λ texts. map Ok texts.items ≡ made.items) }
+    requires within { count ≤ length bounds.now }
+    requires accepts { (range : _) → F.pre text.now range }
+    ensures { IfOk result (λ texts. AreTextsOf F.Fn text.now bounds.now count texts.items) }
 {
-    let mut texts = Vec::with_capacity(alloc, made.len())?;
-    for text in made {
-        texts.push(text?)?;
+    if threads <= 1 {
+        return texts_in_turn(alloc, bounds, count, text);
+    }
+    let fewer = threads / 2;
+    let more = threads - fewer;
+    let low = (count / threads).saturating_mul(fewer).min(count);
+    let high = count - low;
+    let behind = &bounds[low..];
+    let front = move || -> Result<Vec<Vec<u8>>, OutOfMemory>
+        requires { (low ≤ length bounds.now) × ((range : _) → F.pre text.now range) }
+        ensures { IfOk result (λ texts. AreTextsOf F.Fn text.entry.now bounds.entry.now low texts.items) }
+    { texts_on_threads(rt, alloc, bounds, low, fewer, text) };
+    let back = move || -> Result<Vec<Vec<u8>>, OutOfMemory>
+        requires { (high ≤ length behind.now) × ((range : _) → F.pre text.now range) }
+        ensures { IfOk result (λ texts. AreTextsOf F.Fn text.entry.now behind.entry.now high texts.items) }
+    { texts_on_threads(rt, alloc, behind, high, more, text) };
+    let (first, rest) = thread::join(rt, front, back);
+    let mut texts = first?;
+    let mut others = rest?;
+    texts.append(&mut others)?;
+    Ok(texts)
+}
+
+/// The texts of the first ranges, one after the other.
+fn texts_in_turn<F: Fn(&[u64]) -> Result<Vec<u8>, OutOfMemory>>(
+    alloc: Global,
+    bounds: &[u64],
+    count: usize,
+    text: &F,
+) -> Result<Vec<Vec<u8>>, OutOfMemory>
+    requires within { count ≤ length bounds.now }
+    requires accepts { (range : _) → F.pre text.now range }
+    ensures { IfOk result (λ texts. AreTextsOf F.Fn text.now bounds.now count texts.items) }
+{
+    let mut texts = Vec::with_capacity(alloc, count)?;
+    for number in 0..count {
+        texts.push(text(&bounds[number..])?)?;
     }
     Ok(texts)
 }

@@ -1,9 +1,11 @@
-//! Tests of the crates `time_and_sales` and `bars`: names, listings, tables of bars and the texts of
+//! Tests of the crates `ranges`, `time_and_sales` and `bars`: names, listings, tables of bars and the texts of
 //! all of them.
 #![tactic(auto)]
 
 #[cfg(test)]
 mod bar_ranges;
+#[cfg(test)]
+mod by_threads;
 #[cfg(test)]
 mod lines;
 #[cfg(test)]

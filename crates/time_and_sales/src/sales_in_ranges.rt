@@ -28,14 +28,14 @@ use std::thread::Threads;
 const USUAL_LINE: usize = 48;
 
 /// The lines of the sales of all listings, by place, in pieces that are one text when they are put
-/// together. There are `ranges` pieces, or one: each is of the sales in a range of places, which a
-/// thread of its own merges and writes. It is refused if a thread was refused memory.
+/// together. There are as many pieces as `threads`, or fewer: each is of the sales in a range of
+/// places, which a thread of its own merges and writes. It is refused if a thread was refused memory.
 pub fn lines_in_ranges<R: Threads + Sync>(
     rt: &R,
     alloc: Global,
     listings: &[&Listing],
     names: &Names,
-    ranges: u32,
+    threads: u32,
 ) -> Result<Vec<Vec<u8>>, OutOfMemory>
     requires apart { AreApart (all_sales (lent listings.now)) }
     requires times { All (λ sale. sale.time < TIME_LIMIT) (all_sales (lent listings.now)) }
@@ -44,12 +44,13 @@ pub fn lines_in_ranges<R: Threads + Sync>(
         all_items texts.items ≡ lines_text (names_by names.now) all) }
 {
     let longest = longest(listings);
-    let places = numbers_of::<ByPlace, _>(alloc, longest, ranges)?;
+    let places = numbers_of::<ByPlace, _>(alloc, longest, threads)?;
     let made = made_names(alloc, names, longest.len())?;
     texts_in_ranges::<Sale, _, _>(
         rt,
         alloc,
         places.as_slice(),
+        threads,
         &|bounds: &[u64]| range_lines(alloc, listings, made.as_slice(), names, bounds),
     )
 }

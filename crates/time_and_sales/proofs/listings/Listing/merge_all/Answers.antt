@@ -1,8 +1,8 @@
 use Rattle.std.proofs.Common.{◌∷◌, sym, ap, ◌∙◌}
 use Rattle.std.specs.Vec.Iter.{into_iter_items}
 use Rattle.std.proofs.lemmas.List.Elements.{All-push}
-use Rattle.ranges.proofs.MadeTexts.{moved}
 use Rattle.row_types.specs.SalesByPlace.{IsByPlace}
+use Rattle.time_and_sales.proofs.MergedListings.{moved}
 use Rattle.time_and_sales.proofs.listings.Listing.merge_all.Goals as goal
 
 pub loop-listing-preserved : goal.loop-listing-preserved

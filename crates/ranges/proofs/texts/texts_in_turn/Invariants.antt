@@ -1,0 +1,6 @@
+use Rattle.ranges.specs.Turns.{AreTextsOf}
+use Rattle.ranges.proofs.texts.texts_in_turn.Given as goal
+
+-- the texts of the ranges so far
+abbrev pub invariant-loop-number : goal.invariant-loop-number
+invariant-loop-number g l = AreTextsOf g.F.Fn l.text l.bounds l.number l.texts.items
