@@ -13,7 +13,7 @@ use scanning::{LOOKS, ReferenceSample};
 /// that has a byte at the limit, which is asked for first: it will be refused.
 const SHORT: u64 = 8 << 20;
 
-/// In how many partitions the rows of a source of about the division's length are best put: `parts`, or the next
+/// In how many partitions the rows of a source of about the division's length are best put: `parts`, or another
 /// number by which no partition has far more orders than the others, as some references tell. Nothing more is promised
 /// of it, and no answer hangs on it. It is refused if a reading fails.
 pub fn partitions_of<S: BlockSource>(

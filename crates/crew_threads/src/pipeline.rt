@@ -13,10 +13,11 @@ use std::marker::Brand;
 use std::sync::{Arc, Wait};
 use std::thread::{Scope, Threads};
 
-/// The total of all inputs of one pipeline. It starts the crew's workers on threads of their own, if there
-/// is a task. The crew's gatherers gather: the caller's thread, and if there are more each on a thread of its
-/// own. A worker sends its pieces to the gatherer of its number modulo theirs. The caller's thread runs itself
-/// the tasks whose pieces no worker brought: one that couldn't be made or sent is among them.
+/// The total of all inputs of one pipeline. If there is a crew and a task, it starts the crew's workers on
+/// threads of their own; without a crew the caller's thread runs all tasks. The crew's gatherers gather: the
+/// caller's thread, and if there are more each on a thread of its own. A worker sends its pieces to the gatherer
+/// of its number modulo theirs. The caller's thread runs itself the tasks whose pieces no worker brought: one
+/// that couldn't be made or sent is among them.
 ///
 /// It waits for the pieces: with one gatherer until all tasks are covered, whatever a slow worker still holds,
 /// with several until all workers have ended, and then merges what was gathered. A thread, a seat or a channel
@@ -26,7 +27,7 @@ pub fn run_pipeline<'s, E, W: Work + 's, G: Gate, R: Threads + Wait + Sync>(
     rt: &'s R,
     alloc: Global,
     inputs: Arc<Inputs<W>, Global>,
-    crew: Crew,
+    crew: Option<Crew>,
     gate: &'s G,
     number: u8,
 ) -> Result<W::Total, OutOfMemory>
@@ -43,7 +44,7 @@ fn run_known<'s, E, W: Work + 's, K: Known<W::Input> + 's, G: Gate, R: Threads +
     rt: &'s R,
     alloc: Global,
     inputs: Arc<Inputs<W>, Global>,
-    crew: Crew,
+    crew: Option<Crew>,
     gate: &'s G,
     number: u8,
 ) -> Result<W::Total, OutOfMemory>
@@ -60,7 +61,7 @@ fn run_known<'s, E, W: Work + 's, K: Known<W::Input> + 's, G: Gate, R: Threads +
         gate,
         number,
     };
-    if pipeline.inputs.count() > 0 {
+    if let Some(crew) = crew {
         pipeline.gather(scope, crew, &mut gathering);
     }
     pipeline.complete(gathering)
@@ -95,9 +96,11 @@ impl<'s, W: Work + 's, G: Gate, R: Threads + Wait + Sync> Pipeline<'s, W, G, R> 
 
     /// Gathers what the crew's workers bring.
     fn gather<E>(&self, scope: &Scope<'s, E>, crew: Crew, gathering: &mut Gathering<W>)
-        requires { 0 < length (arc_value self.now.inputs) }
         ensures { gathering.new.inputs ≡ gathering.old.inputs }
     {
+        if self.inputs.count() == 0 {
+            return;
+        }
         let Ok((to, from)) = crossbeam_channel::unbounded::<Piece<W>, Global>(self.alloc) else {
             return;
         };

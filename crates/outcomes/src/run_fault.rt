@@ -1,6 +1,10 @@
+ghost use Rattle.std.specs.Prelude.{◌≡◌};
+ghost use Rattle.outcomes.specs.declared.run_fault.RunFault.{RunFault};
+
 use crate::day_fault::DayFault;
 use crate::query_fault::QueryFault;
 use lists::limits::MOST_MORSELS;
+use std::alloc::AllocError;
 use thiserror::Error;
 
 /// Why a query was not answered. Of several faults the first in this order is reported, with two
@@ -31,4 +35,12 @@ pub enum RunFault {
     /// A growth was refused.
     #[error("out of memory")]
     OutOfMemory,
+}
+
+impl From<AllocError> for RunFault {
+    ghost from_gives = { λ _ fault. fault ≡ RunFault.OutOfMemory };
+
+    fn from(_refused: AllocError) -> RunFault {
+        RunFault::OutOfMemory
+    }
 }

@@ -16,7 +16,7 @@ pub struct Settings {
     /// that is read at places is not cut into morsels, and the size has no part in it.
     pub morsel: u64,
     /// How many partitions the order references are divided into: 1 to 256. Another number is taken if nearly all
-    /// references of a long day would be in one of them.
+    /// references of a long day would be in one of them, or if they are in no order.
     pub parts: u32,
     /// The most bytes that a day file may have: at most 68,719,476,736.
     pub limit: u64,

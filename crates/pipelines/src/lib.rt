@@ -2,7 +2,7 @@
 //!
 //! `run_pair` runs them on threads: workers claim tasks of a dispatcher, run them and send the
 //! pieces to gatherers, of which the caller's thread is the first. Neither the crew nor the schedule of
-//! its threads changes the answer.
+//! its threads changes the answer. `run_both` may also run them on the caller's thread alone.
 #![tactic(auto)]
 
 mod outcome;
@@ -14,4 +14,4 @@ pub use dispatcher::{Dispatcher, Seat};
 pub use gathering::{Gathering, Inputs, OutOfMemory, Piece, Work};
 pub use links::{Link, Linked};
 pub use outcome::Outcome;
-pub use pair::{run_first, run_pair, run_second};
+pub use pair::{run_both, run_first, run_pair, run_second};

@@ -25,6 +25,20 @@ pub fn run_pair<A: Work, B: Work, L: Link<A, B>, G: Gate, R: Threads + Wait + Sy
 ) -> Result<Outcome<B::Total, L::Kept, L::Stop>, OutOfMemory>
     ensures { IfOk result (IsOutcome (A.IsTotalOf (arc_value inputs)) (L.Links link.now) B.IsTotalOf) }
 {
+    run_both(rt, alloc, inputs, link, Some(crew), gate)
+}
+
+/// Runs both pipelines as `run_pair` does, or without a crew on the caller's thread alone.
+pub fn run_both<A: Work, B: Work, L: Link<A, B>, G: Gate, R: Threads + Wait + Sync>(
+    rt: &R,
+    alloc: Global,
+    inputs: Arc<Inputs<A>, Global>,
+    link: &L,
+    crew: Option<Crew>,
+    gate: &G,
+) -> Result<Outcome<B::Total, L::Kept, L::Stop>, OutOfMemory>
+    ensures { IfOk result (IsOutcome (A.IsTotalOf (arc_value inputs)) (L.Links link.now) B.IsTotalOf) }
+{
     thread::scope(
         thread::scope_env(),
         rt,
@@ -38,12 +52,12 @@ pub fn run_pair<A: Work, B: Work, L: Link<A, B>, G: Gate, R: Threads + Wait + Sy
     )
 }
 
-/// Runs the first pipeline alone, as `run_pair` does, and gives the total of all inputs.
+/// Runs the first pipeline alone, as `run_both` does, and gives the total of all inputs.
 pub fn run_first<W: Work, G: Gate, R: Threads + Wait + Sync>(
     rt: &R,
     alloc: Global,
     inputs: &Arc<Inputs<W>, Global>,
-    crew: Crew,
+    crew: Option<Crew>,
     gate: &G,
 ) -> Result<W::Total, OutOfMemory>
     ensures total { IfOk result (λ total. W.IsTotalOf (arc_value inputs.now) total) }
@@ -63,13 +77,13 @@ pub fn run_first<W: Work, G: Gate, R: Threads + Wait + Sync>(
 }
 
 /// Links a total, which some inputs of the first pipeline have, and runs the second pipeline alone, as
-/// `run_pair` does once the first is done.
+/// `run_both` does once the first is done.
 pub fn run_second<A: Work, B: Work, L: Link<A, B>, G: Gate, R: Threads + Wait + Sync>(
     rt: &R,
     alloc: Global,
     total: A::Total,
     link: &L,
-    crew: Crew,
+    crew: Option<Crew>,
     gate: &G,
 ) -> Result<Outcome<B::Total, L::Kept, L::Stop>, OutOfMemory>
     requires total { IsTotal A.IsTotalOf A.IsAdmissible total }
@@ -92,7 +106,7 @@ fn go_on<'s, E, A: Work, B: Work + 's, L: Link<A, B>, G: Gate, R: Threads + Wait
     alloc: Global,
     total: A::Total,
     link: &L,
-    crew: Crew,
+    crew: Option<Crew>,
     gate: &'s G,
 ) -> Result<Outcome<B::Total, L::Kept, L::Stop>, OutOfMemory>
     requires { IsTotal A.IsTotalOf A.IsAdmissible total }

@@ -1,6 +1,6 @@
 //! `plain` in heaps that have room for more and more, and `plain` and `run` with each allocation of the process
 //! refused in turn: what comes is the right answer, or want of memory.
-use crate::asking::{asked, settings, told_by_plain};
+use crate::asking::{asked, settings_of, told_by_plain};
 use crate::devices::Kept;
 use executor::{
     Answer, Counted, CountedSink, DayFault, DayFile, LONGEST_FILE, OutOfMemory, RunFault, Text,
@@ -107,10 +107,12 @@ fn plain_or_want_of_memory(rt: HostRuntime) -> Result<(), Fail> {
     Ok(())
 }
 
-/// Run also with each allocation of the process refused in turn, and without some threads.
+/// Run also with each allocation of the process refused in turn, and without some threads, which are started for a
+/// day of two MiB.
 #[test]
 fn run_or_want_of_memory(rt: HostRuntime) -> Result<(), Fail> {
-    let bytes = Day::of(rt.alloc(), &UNNAMED)?.bytes;
+    let mut bytes = Day::of(rt.alloc(), &UNNAMED)?.bytes;
+    bytes.resize((2 << 20) + 71, 0)?;
     for (step, room, want) in [
         (100, 10, Err(RunFault::WriteFailed { written: 10 })),
         (2, 100, Ok(())),
@@ -123,7 +125,7 @@ fn run_or_want_of_memory(rt: HostRuntime) -> Result<(), Fail> {
             rt.alloc(),
             &mut source,
             "sales",
-            settings(71),
+            settings_of(2, u16::MAX, 4 << 20),
             &mut sink,
         );
         if told == Err(RunFault::OutOfMemory) {

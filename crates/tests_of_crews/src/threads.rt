@@ -1,13 +1,16 @@
 //! A day that is answered by few workers, while a gate holds or counts their runs.
-use crate::answering::{HEADER, TWO, WAYS, Way, answer_of_day, text, told_of_day};
-use executor::{Answer, Crew, FreeGate, Gate};
+use crate::answering::{HEADER, TWO, WAYS, Way, answer_of_day, shared, text, told_of, told_of_day};
+use executor::{
+    Answer, Crew, Division, FreeGate, Gate, LONGEST_FILE, Settings, answer_blocks, parse,
+};
 use std::alloc::Global;
 use std::process::Abort;
 use std::sync::Wait;
+use std::sync::atomic::{AtomicU64, Ordering};
 use std::test::Fail;
 use std::thread::Threads;
 use tests_gates::{Counter, Heard, Hold, Warden};
-use tests_support::{BROKEN_EARLIER, Form};
+use tests_support::{BROKEN_EARLIER, Day, Form};
 
 /// `sales` of a day whose one sale is broken is answered, with four tasks and 64 partitions.
 pub fn is_answered<G: Gate, R: Threads + Wait + Abort + Sync>(
@@ -74,6 +77,50 @@ fn slow_task_given_again(rt: HostRuntime) -> Result<(), Fail> {
 #[test]
 fn slow_worker_left_behind(rt: HostRuntime) -> Result<(), Fail> {
     is_answered_under(&rt, rt.alloc(), &[Hold::first(1, 0, Heard::Pipeline(2))])
+}
+
+/// Counts the runs of the caller's thread, and those of workers.
+#[derive(Drop)]
+struct Runs {
+    by_caller: AtomicU64,
+    by_workers: AtomicU64,
+}
+
+impl Gate for Runs {
+    fn before(&self, _pipeline: u8, _task: u32, round: u8) {
+        if round == 2 {
+            self.by_caller.fetch_add(1, Ordering::SeqCst);
+        } else {
+            self.by_workers.fetch_add(1, Ordering::SeqCst);
+        }
+    }
+
+    fn done(&self, _pipeline: u8) {}
+}
+
+/// One block, and each of 64 partitions.
+#[test]
+fn the_caller_answers_a_day_of_one_block(rt: HostRuntime) -> Result<(), Fail> {
+    let alloc = rt.alloc();
+    let bytes = Day::of(alloc, &BROKEN_EARLIER)?.bytes;
+    let source = shared(alloc, bytes.as_slice())?;
+    let settings = Settings {
+        crew: TWO,
+        morsel: 1,
+        parts: 64,
+        limit: LONGEST_FILE,
+    };
+    let gate = Runs {
+        by_caller: AtomicU64::new(0),
+        by_workers: AtomicU64::new(0),
+    };
+    let query = parse(alloc, "sales")?;
+    let division = Division::of(bytes.len() as u64, 2);
+    let answer = answer_blocks(&rt, alloc, &source, division, &query, settings, &gate)?;
+    assert!(rt; told_of(alloc, answer)? == text(alloc, HEADER)?);
+    assert!(rt; gate.by_caller.load(Ordering::SeqCst) == 65);
+    assert!(rt; gate.by_workers.load(Ordering::SeqCst) == 0);
+    Ok(())
 }
 
 /// The text has its header, and a piece for each worker. No piece of sales has more than twice its share of the lines.

@@ -184,7 +184,7 @@ fn sums_or_want_of_memory(rt: HostRuntime) -> Result<(), Fail> {
 /// The sum of 1, 2 and 4, by the first pipeline alone.
 fn sum_of_one<R: Threads + Wait + Sync>(rt: &R, alloc: Global) -> Result<u128, OutOfMemory> {
     let inputs = shared_inputs_of(alloc, &Watch::shared(alloc)?, &[1, 2, 4])?;
-    run_first(rt, alloc, &inputs, TWO, &FreeGate)
+    run_first(rt, alloc, &inputs, Some(TWO), &FreeGate)
 }
 
 /// Run also with each allocation and each thread of the process refused in turn.

@@ -11,7 +11,7 @@ use pipelines::{FreeGate, run_second};
 use planning::PlanLink;
 use query::Query;
 use sinks::Sink;
-use std::alloc::{AllocError, Global};
+use std::alloc::Global;
 use std::sync::Wait;
 use std::thread::Threads;
 use streaming::Source;
@@ -54,16 +54,12 @@ fn answer_source<R: Threads + Wait + Sync, S: Source>(
         query.now settings.limit result }
     ensures read_failed { S.has_failed source.new ≡ is_read_failed result }
 {
-    let (total, parts) = match scan_source(rt, alloc, source, query.as_of, settings) {
+    let (total, parts, crew) = match scan_source(rt, alloc, source, query.as_of, settings) {
         Ok(scanned) => scanned,
         Err(fault) => return answer_of_fault(fault, settings.limit),
     };
     let link = PlanLink::dividing(query, parts);
-    let Ok(outcome) = run_second(rt, alloc, total, &link, settings.crew, &FreeGate) else {
-        return Err(RunFault::OutOfMemory);
-    };
-    match answer_of_outcome(rt, alloc, query, outcome, settings.crew) {
-        Ok(answer) => Ok(answer),
-        Err(AllocError) => Err(RunFault::OutOfMemory),
-    }
+    let outcome = run_second(rt, alloc, total, &link, crew, &FreeGate)?;
+    let answer = answer_of_outcome(rt, alloc, query, outcome, crew)?;
+    Ok(answer)
 }

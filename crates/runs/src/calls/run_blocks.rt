@@ -12,12 +12,12 @@ use answers::Answer;
 use block_scan::{BlockSource, Division, SourceFault, block_inputs, partitions_of};
 use buckets::BucketTotal;
 use outcomes::{RunFault, Settings};
-use pipelines::{FreeGate, Gate, Outcome, run_pair};
+use pipelines::{Crew, FreeGate, Gate, Outcome, run_both};
 use planning::{DayPlan, PlanLink};
 use query::Query;
 use scanning::WrongLength;
 use sinks::Sink;
-use std::alloc::{AllocError, Global};
+use std::alloc::Global;
 use std::sync::{Arc, Wait};
 use std::thread::Threads;
 
@@ -73,9 +73,16 @@ pub fn answer_blocks<G: Gate, R: Threads + Wait + Sync, S: BlockSource + Send + 
         Ok(outcome) => outcome,
         Err(fault) => return answer_of_fault(fault, settings.limit),
     };
-    match answer_of_outcome(rt, alloc, query, outcome, settings.crew) {
-        Ok(answer) => Ok(answer),
-        Err(AllocError) => Err(RunFault::OutOfMemory),
+    let answer = answer_of_outcome(rt, alloc, query, outcome, crew_of(division, settings.crew))?;
+    Ok(answer)
+}
+
+/// The crew for a source of more than one block. One block takes less time than threads would, and there is no crew.
+fn crew_of(division: Division, crew: Crew) -> Option<Crew> {
+    if division.blocks == 1 {
+        None
+    } else {
+        Some(crew)
     }
 }
 
@@ -102,7 +109,14 @@ fn outcome_of_blocks<G: Gate, R: Threads + Wait + Sync, S: BlockSource + Send + 
     };
     let plan = PlanLink::dividing(query, parts);
     let link = BlockLink { plan };
-    match run_pair(rt, alloc, inputs, &link, settings.crew, gate)? {
+    match run_both(
+        rt,
+        alloc,
+        inputs,
+        &link,
+        crew_of(division, settings.crew),
+        gate,
+    )? {
         Outcome::Finished { total, kept } => Ok(Outcome::Finished { total, kept }),
         Outcome::Stopped { stop } => Ok(Outcome::Stopped { stop: stop? }),
     }

@@ -13,25 +13,29 @@ use std::sync::{Arc, Wait};
 use std::thread::{Threads, join_mut};
 use streaming::{Batch, BatchReader, Source, SourceFault};
 
+/// The crew isn't asked for fewer bytes: one thread takes less time over them than several take to be started.
+const SHORT: u64 = 2 << 20;
+
 /// How many bytes the morsels of a batch have, or a little more: enough that each worker has several of
 /// them, and little beside what a day's rows take.
 const BATCH: u64 = 32 << 20;
 
 /// What the scans of all that a source gives add up to, and in how many partitions the rows are: as many as the
-/// settings say, or a few more if the first batch's references would crowd in one of those. The source is read and cut
+/// settings say, or another number that suits the references of the first batch. The source is read and cut
 /// batch by batch: the morsels of one are the tasks of a pipeline, while the caller reads the next one. So no more than
-/// two batches are in memory, and no bytes of those before. It waits for the threads.
+/// two batches are in memory, and no bytes of those before. The crew comes back if the source is long enough for one:
+/// the caller's thread scans a short one alone. It waits for the threads.
 pub(crate) fn scan_source<R: Threads + Wait + Sync, S: Source>(
     rt: &R,
     alloc: Global,
     source: &mut S,
     as_of: Option<u32>,
     settings: Settings,
-) -> Result<(ScanTotal, u32), SourceFault>
+) -> Result<(ScanTotal, u32, Option<Crew>), SourceFault>
     requires source { S.has_failed source.old ≡ false }
-    ensures scanned { IfOk result (λ (total, parts). IsScanOfAll
+    ensures scanned { IfOk result (λ (total, parts, crew). IsScanOfAll
         (of_stream S.Source settings.limit settings.morsel source.old source.new) as_of parts total) }
-    ensures parts { IfOk result (λ (total, parts). (0 < parts) × (parts ≤ MOST_PARTITIONS)) }
+    ensures parts { IfOk result (λ (total, parts, crew). (0 < parts) × (parts ≤ MOST_PARTITIONS)) }
     ensures fault { IfErr result
         (IsSourceFault (of_stream S.Source settings.limit settings.morsel source.old source.new)) }
     ensures failed { IsErrOf result SourceFault.ReadFailed ↔ (S.has_failed source.new ≡ true) }
@@ -40,7 +44,8 @@ pub(crate) fn scan_source<R: Threads + Wait + Sync, S: Source>(
     let mut total = ScanTotal::empty(alloc);
     let mut batch = reader.next_batch(source)?;
     let parts = partitions_of(&batch, settings.parts);
-    let crew = settings.crew;
+    let is_short = batch.is_last && batch.cut.length() < SHORT;
+    let crew = if is_short { None } else { Some(settings.crew) };
     while !batch.is_last {
         let (scans, next) = scan_and_read(
             rt,
@@ -56,7 +61,7 @@ pub(crate) fn scan_source<R: Threads + Wait + Sync, S: Source>(
         total.append(scans?)?;
     }
     total.append(scan(rt, alloc, &batch, as_of, parts, crew)?)?;
-    Ok((total, parts))
+    Ok((total, parts, crew))
 }
 
 /// The number of partitions that some references of the first batch ask for. A source of one batch has `parts`: the
@@ -78,7 +83,7 @@ fn scan_and_read<R: Threads + Wait + Sync, S: Source>(
     batch: &Batch,
     as_of: Option<u32>,
     parts: u32,
-    crew: Crew,
+    crew: Option<Crew>,
     reader: &mut BatchReader,
     source: &mut S,
 ) -> (Result<ScanTotal, OutOfMemory>, Result<Batch, SourceFault>)
@@ -107,7 +112,7 @@ fn scan<R: Threads + Wait + Sync>(
     batch: &Batch,
     as_of: Option<u32>,
     parts: u32,
-    crew: Crew,
+    crew: Option<Crew>,
 ) -> Result<ScanTotal, OutOfMemory>
     requires { (0 < parts) × (parts ≤ MOST_PARTITIONS) }
     ensures { IfOk result (IsScanOf batch.now.first batch.now.start as_of parts batch.now.cut) }

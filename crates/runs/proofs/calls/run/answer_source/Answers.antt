@@ -1,6 +1,8 @@
 use Rattle.std.proofs.Common.{subst}
 use Rattle.std.specs.List.{concat}
+use Rattle.std.proofs.lemmas.Result.{IfOk-at_ok}
 use Rattle.meaning.specs.Meaning.{Meaning}
+use Rattle.answers.specs.Answers.{IsAnswer, told_by}
 use Rattle.runs.specs.Steps.{IsScanOf}
 use Rattle.runs.proofs.Answered.{given_of}
 use Rattle.runs.proofs.BlocksScanned.{of_cut}
@@ -15,17 +17,17 @@ pub answer_of_outcome-requires-clause-outcome : goal.answer_of_outcome-requires-
 answer_of_outcome-requires-clause-outcome g c lifetimes within =
     let (runs, whole, may, of) = c.in-Ok.ensures.scanned in (
       runs,
-      given_of _ c.in-Ok-run_second.ensures.outcome c.dividing-link.ensures c.in-Ok.ensures.parts.0
+      given_of _ c.in_ok-outcome.ensures.outcome c.dividing-link.ensures c.in-Ok.ensures.parts.0
           (λ first is. rw is (subst (λ (m : Meaning). IsScanOf 0 0 m.as_of c.in-Ok.scanned.1 runs c.in-Ok.scanned.0) c.query.view_is of)),
     )
 
-pub returns-in-Ok-answer_of_outcome-clause-answered : goal.returns-in-Ok-answer_of_outcome-clause-answered
-returns-in-Ok-answer_of_outcome-clause-answered g c =
+pub returns-clause-answered : goal.returns-clause-answered
+returns-clause-answered g c =
     let (runs, whole, may, of) = c.in-Ok.ensures.scanned in (
       concat runs,
       whole,
       may,
-      c.in-Ok-answer_of_outcome.ensures runs
-          (given_of _ c.in-Ok-run_second.ensures.outcome c.dividing-link.ensures c.in-Ok.ensures.parts.0
-          (λ first is. rw is (subst (λ (m : Meaning). IsScanOf 0 0 m.as_of c.in-Ok.scanned.1 runs c.in-Ok.scanned.0) c.query.view_is of))),
+      IfOk-at_ok (λ answer. IsAnswer (concat runs) c.args.query.now (told_by answer)) c.in_ok-answer.was (c.answer_of_outcome.ensures runs
+          (given_of _ c.in_ok-outcome.ensures.outcome c.dividing-link.ensures c.in-Ok.ensures.parts.0
+          (λ first is. rw is (subst (λ (m : Meaning). IsScanOf 0 0 m.as_of c.in-Ok.scanned.1 runs c.in-Ok.scanned.0) c.query.view_is of)))),
     )
