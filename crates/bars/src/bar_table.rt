@@ -175,7 +175,9 @@ impl<A: Allocator + Clone> BarTable<A> {
 }
 
 /// Puts sales in order of the keys of their bars, and says how many bars there are, for room for
-/// them.
+/// them. That the bar of each is traded is known where a sale is read, whose price is of 32 bits by
+/// its type.
+#[tactic(auto, using(std::proofs::lemmas::List::take_all))]
 pub(crate) fn put_in_order<A: Allocator>(sales: &mut Vec<Sale, A>, width: u32) -> usize
     requires width { 0 < width }
     requires shares { All (λ sale. 0 < sale.shares) sales.old.items }
@@ -184,20 +186,10 @@ pub(crate) fn put_in_order<A: Allocator>(sales: &mut Vec<Sale, A>, width: u32) -
     ensures traded { All (λ sale. IsTraded (bar_of_one width sale)) sales.new.items }
 {
     sales.sort_unstable_by_key(|sale| (sale.locate, sale.time));
-    count_bars_of(sales.as_slice(), width)
-}
-
-/// How many bars there are of sales that are in order of the keys of their bars. That each bar of one
-/// sale is traded is known where the sale is read, since its price is of 32 bits by its type.
-#[tactic(auto, using(std::proofs::lemmas::List::take_all))]
-fn count_bars_of(sales: &[Sale], width: u32) -> usize
-    requires width { 0 < width }
-    requires shares { All (λ sale. 0 < sale.shares) sales.now }
-    ensures { All (λ sale. IsTraded (bar_of_one width sale)) sales.now }
-{
     let mut count = 0usize;
     let mut last: Option<(u16, u64)> = None;
-    for sale in sales {
+    let in_order = sales.as_slice();
+    for sale in in_order {
         let bar = Bar::of_sale(sale, width);
         let key = (bar.locate, bar.start);
         if last != Some(key) {

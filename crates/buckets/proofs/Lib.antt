@@ -1,6 +1,6 @@
 pub mod ProductsOfSales
 pub mod OneBucketMore
-pub mod RowsOfParts
+pub mod RowsOfPartitions
 pub mod RowsApart
 pub mod RisingRows
 pub mod RisingNumbers

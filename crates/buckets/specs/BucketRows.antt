@@ -38,8 +38,8 @@ bucket_of plan number = record {
 }
 
 -- the rows of borrowed partitions, one partition after another
-abbrev pub rows_of_parts : List (Bor PartitionView) → PartitionView
-rows_of_parts parts = joined_partitions (map (λ part. part.now) parts)
+abbrev pub rows_of_partitions : List (Bor PartitionView) → PartitionView
+rows_of_partitions partitions = joined_partitions (map (λ partition. partition.now) partitions)
 
 -- the references of executions
 abbrev pub executed_in : PartitionView → List ℕ

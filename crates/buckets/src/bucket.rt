@@ -4,11 +4,11 @@ ghost use Rattle.std.specs.Arc.{arc_value};
 ghost use Rattle.std.specs.Cmp.{partial_equiv_from_equiv};
 ghost use Rattle.meaning.specs.Meaning.{HasWidth};
 ghost use Rattle.morsel_rows.specs.Partitions.{AreRowsByPlace, joined_partitions};
-ghost use Rattle.buckets.specs.BucketRows.{BucketView, bucket_of, planned_rows, rows_of_parts};
+ghost use Rattle.buckets.specs.BucketRows.{BucketView, bucket_of, planned_rows, rows_of_partitions};
 ghost use Rattle.buckets.specs.Buckets.{bucket_equiv, is_same_bucket};
 
 use crate::OutOfMemory;
-use crate::partition_rows::{parts_of, same_rows};
+use crate::partition_rows::{filled_partitions, same_rows};
 use crate::plan::Plan;
 use broken_trades::Breaks;
 use meaning::What;
@@ -46,11 +46,12 @@ impl Bucket {
     }
 
     /// Its partition in each morsel that has rows there, in the order of the file.
-    pub(crate) fn parts(&self, alloc: Global) -> Result<Vec<&Partition>, OutOfMemory>
-        ensures rows { IfOk result (λ parts. rows_of_parts parts.items ≡ joined_partitions self.now.rows) }
-        ensures by_place { IfOk result (λ parts. AreRowsByPlace (rows_of_parts parts.items)) }
+    pub(crate) fn partitions(&self, alloc: Global) -> Result<Vec<&Partition>, OutOfMemory>
+        ensures rows { IfOk result (λ partitions.
+            rows_of_partitions partitions.items ≡ joined_partitions self.now.rows) }
+        ensures by_place { IfOk result (λ partitions. AreRowsByPlace (rows_of_partitions partitions.items)) }
     {
-        parts_of(alloc, self.number, self.plan.rows.as_slice())
+        filled_partitions(alloc, self.number, self.plan.rows.as_slice())
     }
 
     /// The breaks of the whole day.

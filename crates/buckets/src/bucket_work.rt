@@ -37,12 +37,12 @@ impl Work for BucketWork {
     ghost equal_totals = { λ xs ys same all is. is ∙ sym (ap total_found ((exact_list exact_bucket).one xs ys same)) };
 
     fn run(alloc: Global, input: &Bucket) -> Result<Found, OutOfMemory> {
-        let parts = input.parts(alloc)?;
+        let partitions = input.partitions(alloc)?;
         let Traded {
             repeated,
             unknown,
             mut sales,
-        } = trade(alloc, parts.as_slice())?;
+        } = trade(alloc, partitions.as_slice())?;
         keep(&mut sales, input.breaks(), input.selection());
         let product = product(sales, input.what());
         Ok(Found {

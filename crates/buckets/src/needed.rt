@@ -1,7 +1,7 @@
 //! The order rows of partitions that executions need.
 ghost use Rattle.std.specs.Prelude.{◌≡◌, ℕ, ◌++◌, IfOk, List, OnErr, OnOk, filter, map};
 ghost use Rattle.order_filter.specs.Filters.{AreNeeded, IsFilterOf, is_needed};
-ghost use Rattle.buckets.specs.BucketRows.{executed_in, ordered_in, rows_of_parts};
+ghost use Rattle.buckets.specs.BucketRows.{executed_in, ordered_in, rows_of_partitions};
 
 use crate::OutOfMemory;
 use morsel_rows::{OrderList, Partition};
@@ -13,42 +13,42 @@ use std::alloc::Global;
 /// Of the partitions' order rows those that executions need, and those that may repeat a reference.
 pub(crate) fn needed_orders(
     alloc: Global,
-    parts: &[&Partition],
+    partitions: &[&Partition],
 ) -> Result<Vec<OrderRow>, OutOfMemory>
-    ensures { IfOk result (λ rows.
-        AreNeeded (executed_in (rows_of_parts parts.now)) (rows_of_parts parts.now).orders rows.items) }
+    ensures { IfOk result (λ rows. AreNeeded (executed_in (rows_of_partitions partitions.now))
+        (rows_of_partitions partitions.now).orders rows.items) }
 {
-    let (orders, executions) = count_rows(parts);
+    let (orders, executions) = count_rows(partitions);
     let mut filter = OrderFilter::new(alloc, orders, executions)?;
-    add_executions(&mut filter, parts);
-    add_orders(&mut filter, parts);
+    add_executions(&mut filter, partitions);
+    add_orders(&mut filter, partitions);
     // Those that are executed, and the thirtieth part, or less, that the filter keeps for nothing.
     let room = executions.saturating_add(orders / 30).min(orders);
     let mut rows = Vec::with_capacity(alloc, room)?;
-    for part in parts {
-        append_needed(&filter, part.orders(), &mut rows)?;
+    for partition in partitions {
+        append_needed(&filter, partition.orders(), &mut rows)?;
     }
     Ok(rows)
 }
 
 /// How many order rows and executions the partitions have, for room for them to be made.
-fn count_rows(parts: &[&Partition]) -> (usize, usize) {
+fn count_rows(partitions: &[&Partition]) -> (usize, usize) {
     let mut orders = 0usize;
     let mut executions = 0usize;
-    for part in parts {
-        orders = orders.saturating_add(part.orders().len());
-        executions = executions.saturating_add(part.executions().len());
+    for partition in partitions {
+        orders = orders.saturating_add(partition.orders().len());
+        executions = executions.saturating_add(partition.executions().len());
     }
     (orders, executions)
 }
 
 /// Adds the partitions' executions.
-fn add_executions(filter: &mut OrderFilter, parts: &[&Partition])
+fn add_executions(filter: &mut OrderFilter, partitions: &[&Partition])
     ensures { (executed ordered : List ℕ) → IsFilterOf executed ordered filter.old →
-        IsFilterOf (executed ++ executed_in (rows_of_parts parts.now)) ordered filter.new }
+        IsFilterOf (executed ++ executed_in (rows_of_partitions partitions.now)) ordered filter.new }
 {
-    for part in parts {
-        add_executions_of(filter, part.executions());
+    for partition in partitions {
+        add_executions_of(filter, partition.executions());
     }
 }
 
@@ -63,12 +63,12 @@ fn add_executions_of(filter: &mut OrderFilter, executions: &[Execution])
 }
 
 /// Adds the partitions' orders.
-fn add_orders(filter: &mut OrderFilter, parts: &[&Partition])
+fn add_orders(filter: &mut OrderFilter, partitions: &[&Partition])
     ensures { (executed ordered : List ℕ) → IsFilterOf executed ordered filter.old →
-        IsFilterOf executed (ordered ++ ordered_in (rows_of_parts parts.now)) filter.new }
+        IsFilterOf executed (ordered ++ ordered_in (rows_of_partitions partitions.now)) filter.new }
 {
-    for part in parts {
-        add_orders_of(filter, part.orders());
+    for partition in partitions {
+        add_orders_of(filter, partition.orders());
     }
 }
 

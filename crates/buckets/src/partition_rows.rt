@@ -3,7 +3,7 @@ ghost use Rattle.std.specs.Prelude.{◌≡◌, IfOk};
 ghost use Rattle.std.specs.Cmp.Lexicographic.{pointwise};
 ghost use Rattle.morsel_rows.specs.Partitions.{joined_partitions, partition_at};
 ghost use Rattle.morsel_rows.specs.SameRows.{is_same_partition};
-ghost use Rattle.buckets.specs.BucketRows.{rows_at, rows_of_parts};
+ghost use Rattle.buckets.specs.BucketRows.{rows_at, rows_of_partitions};
 
 use crate::OutOfMemory;
 use morsel_rows::{MorselRows, Partition};
@@ -11,23 +11,23 @@ use std::alloc::Global;
 use std::sync::Arc;
 
 /// The partition of this number of each morsel that has rows there.
-pub(crate) fn parts_of<'a>(
+pub(crate) fn filled_partitions<'a>(
     alloc: Global,
     number: u32,
     morsels: &'a [Arc<MorselRows, Global>],
 ) -> Result<Vec<&'a Partition>, OutOfMemory>
-    ensures { IfOk result (λ parts.
-        rows_of_parts parts.items ≡ joined_partitions (rows_at number morsels.now)) }
+    ensures { IfOk result (λ partitions.
+        rows_of_partitions partitions.items ≡ joined_partitions (rows_at number morsels.now)) }
 {
-    let mut parts = Vec::with_capacity(alloc, morsels.len())?;
+    let mut partitions = Vec::with_capacity(alloc, morsels.len())?;
     for morsel in morsels {
-        if let Some(part) = morsel.partition(number) {
-            if !part.is_empty() {
-                parts.push(part)?;
+        if let Some(partition) = morsel.partition(number) {
+            if !partition.is_empty() {
+                partitions.push(partition)?;
             }
         }
     }
-    Ok(parts)
+    Ok(partitions)
 }
 
 /// Whether the rows of the partition of this number are the same, morsel by morsel.
@@ -42,7 +42,7 @@ pub(crate) fn same_rows(
         return false;
     }
     for i in 0..one.len() {
-        if !same_part(number, &one[i], &other[i]) {
+        if !same_partition(number, &one[i], &other[i]) {
             return false;
         }
     }
@@ -51,8 +51,8 @@ pub(crate) fn same_rows(
 
 /// Whether a partition of two morsels has the same rows. A morsel that has none of its number has
 /// no rows there.
-#[tactic(auto, using(crate::proofs::RowsOfParts::rows_of_one))]
-fn same_part(number: u32, one: &MorselRows, other: &MorselRows) -> bool
+#[tactic(auto, using(crate::proofs::RowsOfPartitions::rows_of_one))]
+fn same_partition(number: u32, one: &MorselRows, other: &MorselRows) -> bool
     ensures { result ≡ is_same_partition (partition_at number one.now) (partition_at number other.now) }
 {
     match (one.partition(number), other.partition(number)) {

@@ -4,7 +4,7 @@ ghost use Rattle.std.specs.List.{AllPairs};
 ghost use Rattle.std.specs.Option.{IfSome};
 ghost use Rattle.row_types.specs.declared.order.OrderRow.{OrderRow};
 ghost use Rattle.order_table.specs.Orders.{first_repeated, first_row};
-ghost use Rattle.buckets.specs.BucketRows.{rows_of_parts};
+ghost use Rattle.buckets.specs.BucketRows.{rows_of_partitions};
 ghost use Rattle.buckets.specs.RisingLists.{AreRising, IsAbove, rows_of_lists};
 
 use crate::OutOfMemory;
@@ -15,7 +15,7 @@ use std::marker::Model;
 
 /// The rows of one list, one or more, and the reference of the last, which is the greatest.
 #[derive(Drop)]
-struct Part<'a> {
+struct RisingList<'a> {
     last: u64,
     rows: RisingRows<'a>,
 }
@@ -23,33 +23,36 @@ struct Part<'a> {
 /// The order rows of partitions, in lists whose references rise, each list above those before it.
 #[derive(Drop)]
 pub(crate) struct RisingOrders<'a> {
-    parts: Vec<Part<'a>>,
+    lists: Vec<RisingList<'a>>,
 }
 
 impl<'a> Model for RisingOrders<'a> {
     ghost Value = { List OrderRow };
 
-    ghost view = { λ orders. rows_of_lists orders.parts.items };
+    ghost view = { λ orders. rows_of_lists orders.lists.items };
 
-    ghost invariant = { λ orders. AreRising orders.parts.items };
+    ghost invariant = { λ orders. AreRising orders.lists.items };
 }
 
 impl<'a> RisingOrders<'a> {
     /// The orders of the partitions, if the references of each list rise and each list is above
     /// those before it.
-    pub(crate) fn of(alloc: Global, parts: &[&'a Partition]) -> Result<Option<Self>, OutOfMemory>
+    pub(crate) fn of(
+        alloc: Global,
+        partitions: &[&'a Partition],
+    ) -> Result<Option<Self>, OutOfMemory>
         ensures rows { IfOk result (λ found. IfSome found (λ orders.
-            orders ≡ (rows_of_parts parts.now).orders)) }
+            orders ≡ (rows_of_partitions partitions.now).orders)) }
         ensures repeated { IfOk result (λ found. IfSome found (λ orders.
-            first_repeated (rows_of_parts parts.now).orders ≡ None)) }
+            first_repeated (rows_of_partitions partitions.now).orders ≡ None)) }
     {
-        let mut lists = Vec::with_capacity(alloc, parts.len())?;
-        for part in parts {
-            if !add(&mut lists, part.orders())? {
+        let mut lists = Vec::with_capacity(alloc, partitions.len())?;
+        for partition in partitions {
+            if !add(&mut lists, partition.orders())? {
                 return Ok(None);
             }
         }
-        Ok(Some(RisingOrders { parts: lists }))
+        Ok(Some(RisingOrders { lists }))
     }
 
     /// The row that gives the reference.
@@ -57,9 +60,9 @@ impl<'a> RisingOrders<'a> {
     fn first(&self, order_no: u64) -> Option<OrderRow>
         ensures { result ≡ first_row self.now order_no }
     {
-        let at = self.parts.partition_point(|part| part.last < order_no);
-        match self.parts.get(at) {
-            Some(part) => part.rows.first(order_no),
+        let at = self.lists.partition_point(|list| list.last < order_no);
+        match self.lists.get(at) {
+            Some(list) => list.rows.first(order_no),
             None => None,
         }
     }
@@ -79,19 +82,19 @@ impl<'a> PricesExecutions for RisingOrders<'a> {
 
 /// Adds the rows of a list, if their references rise above those so far, and says whether they do.
 /// A list without rows adds nothing.
-fn add<'a>(parts: &mut Vec<Part<'a>>, orders: &'a OrderList) -> Result<bool, OutOfMemory>
-    requires { AreRising parts.old.items }
-    ensures rising { IfOk result (λ added. IsTrue added → AreRising parts.new.items) }
+fn add<'a>(lists: &mut Vec<RisingList<'a>>, orders: &'a OrderList) -> Result<bool, OutOfMemory>
+    requires { AreRising lists.old.items }
+    ensures rising { IfOk result (λ added. IsTrue added → AreRising lists.new.items) }
     ensures rows { IfOk result (λ added. IsTrue added →
-        rows_of_lists parts.new.items ≡ rows_of_lists parts.old.items ++ orders.now) }
+        rows_of_lists lists.new.items ≡ rows_of_lists lists.old.items ++ orders.now) }
 {
     if orders.len() == 0 {
         return Ok(true);
     }
     match orders.rising() {
-        Some(rows) if are_below(parts.as_slice(), rows.least()) => {
+        Some(rows) if are_below(lists.as_slice(), rows.least()) => {
             let last = rows.greatest();
-            parts.push(Part { last, rows })?;
+            lists.push(RisingList { last, rows })?;
             Ok(true)
         }
         _ => Ok(false),
@@ -99,9 +102,9 @@ fn add<'a>(parts: &mut Vec<Part<'a>>, orders: &'a OrderList) -> Result<bool, Out
 }
 
 /// Whether the reference is above all in the lists.
-fn are_below(parts: &[Part<'_>], order_no: u64) -> bool
-    requires { AllPairs IsAbove parts.now }
-    ensures { IsTrue result → All (λ part. part.last < order_no) parts.now }
+fn are_below(lists: &[RisingList<'_>], order_no: u64) -> bool
+    requires { AllPairs IsAbove lists.now }
+    ensures { IsTrue result → All (λ list. list.last < order_no) lists.now }
 {
-    parts.is_empty() || parts[parts.len() - 1].last < order_no
+    lists.is_empty() || lists[lists.len() - 1].last < order_no
 }

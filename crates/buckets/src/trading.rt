@@ -4,7 +4,7 @@ ghost use Rattle.std.specs.List.{IsDistinct};
 ghost use Rattle.row_types.specs.declared.order.OrderRow.{OrderRow as TheRow};
 ghost use Rattle.probe.specs.Pricing.{IsPricingOf, priced};
 ghost use Rattle.morsel_rows.specs.Partitions.{AreRowsByPlace};
-ghost use Rattle.buckets.specs.BucketRows.{rows_of_parts};
+ghost use Rattle.buckets.specs.BucketRows.{rows_of_partitions};
 ghost use Rattle.buckets.specs.FoundRows.{repeated_in, trades_in, unknown_in};
 
 use crate::OutOfMemory;
@@ -25,31 +25,31 @@ pub(crate) struct Traded {
 
 /// Prices the executions of the partitions by their orders, and adds the sales that have a price of
 /// their own.
-pub(crate) fn trade(alloc: Global, parts: &[&Partition]) -> Result<Traded, OutOfMemory>
-    requires { AreRowsByPlace (rows_of_parts parts.now) }
-    ensures repeated { IfOk result (λ traded. traded.repeated ≡ repeated_in (rows_of_parts parts.now)) }
-    ensures unknown { IfOk result (λ traded. traded.unknown ≡ unknown_in (rows_of_parts parts.now)) }
-    ensures sales { IfOk result (λ traded. traded.sales.items ≡ trades_in (rows_of_parts parts.now)) }
+pub(crate) fn trade(alloc: Global, partitions: &[&Partition]) -> Result<Traded, OutOfMemory>
+    requires { AreRowsByPlace (rows_of_partitions partitions.now) }
+    ensures repeated { IfOk result (λ traded. traded.repeated ≡ repeated_in (rows_of_partitions partitions.now)) }
+    ensures unknown { IfOk result (λ traded. traded.unknown ≡ unknown_in (rows_of_partitions partitions.now)) }
+    ensures sales { IfOk result (λ traded. traded.sales.items ≡ trades_in (rows_of_partitions partitions.now)) }
 {
-    let mut traded = price_executions(alloc, parts)?;
-    add_own_priced(&mut traded.sales, parts)?;
+    let mut traded = price_executions(alloc, partitions)?;
+    add_own_priced(&mut traded.sales, partitions)?;
     Ok(traded)
 }
 
 /// Prices the executions of the partitions by their orders: searched where they lie, where their references rise, and
 /// else in a table of those that are needed.
-fn price_executions(alloc: Global, parts: &[&Partition]) -> Result<Traded, OutOfMemory>
-    requires { IsDistinct nat_eq (map (λ row. row.place) (rows_of_parts parts.now).orders) }
-    ensures repeated { IfOk result (λ traded. traded.repeated ≡ repeated_in (rows_of_parts parts.now)) }
-    ensures unknown { IfOk result (λ traded. traded.unknown ≡ unknown_in (rows_of_parts parts.now)) }
+fn price_executions(alloc: Global, partitions: &[&Partition]) -> Result<Traded, OutOfMemory>
+    requires { IsDistinct nat_eq (map (λ row. row.place) (rows_of_partitions partitions.now).orders) }
+    ensures repeated { IfOk result (λ traded. traded.repeated ≡ repeated_in (rows_of_partitions partitions.now)) }
+    ensures unknown { IfOk result (λ traded. traded.unknown ≡ unknown_in (rows_of_partitions partitions.now)) }
     ensures sales { IfOk result (λ traded. traded.sales.items
-        ≡ priced (rows_of_parts parts.now).orders (rows_of_parts parts.now).executions) }
+        ≡ priced (rows_of_partitions partitions.now).orders (rows_of_partitions partitions.now).executions) }
 {
-    if let Some(orders) = RisingOrders::of(alloc, parts)? {
-        return price_by(alloc, &orders, None, parts);
+    if let Some(orders) = RisingOrders::of(alloc, partitions)? {
+        return price_by(alloc, &orders, None, partitions);
     }
-    let Built { table, repeated } = OrderTable::of_vec(needed_orders(alloc, parts)?);
-    price_by(alloc, &table, repeated, parts)
+    let Built { table, repeated } = OrderTable::of_vec(needed_orders(alloc, partitions)?);
+    price_by(alloc, &table, repeated, partitions)
 }
 
 /// What is traded at the prices of these orders, of which this is the first that repeats a reference.
@@ -57,14 +57,14 @@ fn price_by<P: PricesExecutions>(
     alloc: Global,
     prices: &P,
     repeated: Option<Repeated>,
-    parts: &[&Partition],
+    partitions: &[&Partition],
 ) -> Result<Traded, OutOfMemory>
     ensures repeated { IfOk result (λ traded. traded.repeated ≡ repeated) }
     ensures pricing { IfOk result (λ traded. (rows : List TheRow) → P.PricesBy rows prices.now →
-        IsPricingOf rows (rows_of_parts parts.now).executions
+        IsPricingOf rows (rows_of_partitions partitions.now).executions
         (record { sales = traded.sales; unknown = traded.unknown })) }
 {
-    let Priced { sales, unknown } = price(alloc, prices, parts)?;
+    let Priced { sales, unknown } = price(alloc, prices, partitions)?;
     Ok(Traded {
         repeated,
         unknown,
@@ -76,38 +76,38 @@ fn price_by<P: PricesExecutions>(
 fn price<P: PricesExecutions>(
     alloc: Global,
     prices: &P,
-    parts: &[&Partition],
+    partitions: &[&Partition],
 ) -> Result<Priced, OutOfMemory>
     ensures { IfOk result (λ outcome. (rows : List TheRow) → P.PricesBy rows prices.now →
-        IsPricingOf rows (rows_of_parts parts.now).executions outcome) }
+        IsPricingOf rows (rows_of_partitions partitions.now).executions outcome) }
 {
     let mut priced = Priced {
-        sales: Vec::with_capacity(alloc, count_trades(parts))?,
+        sales: Vec::with_capacity(alloc, count_trades(partitions))?,
         unknown: None,
     };
-    for part in parts {
-        price_into(&mut priced, prices, part.executions())?;
+    for partition in partitions {
+        price_into(&mut priced, prices, partition.executions())?;
     }
     Ok(priced)
 }
 
 /// Adds the sales of the partitions that have a price of their own.
-fn add_own_priced(sales: &mut Vec<Sale>, parts: &[&Partition]) -> Result<(), OutOfMemory>
+fn add_own_priced(sales: &mut Vec<Sale>, partitions: &[&Partition]) -> Result<(), OutOfMemory>
     ensures { OnOk result
-        (sales.new.items ≡ sales.old.items ++ (rows_of_parts parts.now).own_priced) }
+        (sales.new.items ≡ sales.old.items ++ (rows_of_partitions partitions.now).own_priced) }
 {
-    for part in parts {
-        sales.extend_from_slice(part.own_priced())?;
+    for partition in partitions {
+        sales.extend_from_slice(partition.own_priced())?;
     }
     Ok(())
 }
 
 /// How many trades the partitions have, for room for them to be made.
-fn count_trades(parts: &[&Partition]) -> usize {
+fn count_trades(partitions: &[&Partition]) -> usize {
     let mut count = 0usize;
-    for part in parts {
-        count = count.saturating_add(part.executions().len());
-        count = count.saturating_add(part.own_priced().len());
+    for partition in partitions {
+        count = count.saturating_add(partition.executions().len());
+        count = count.saturating_add(partition.own_priced().len());
     }
     count
 }

@@ -13,7 +13,7 @@ use Rattle.std.proofs.lemmas.List.Folds.{list_all-append}
 use Rattle.std.proofs.lemmas.List.Splits.{slice_split_none, slice_split_at}
 use Rattle.std.proofs.lemmas.List.Sums.{AllPass-from_list_all, list_all-from_AllPass}
 use Rattle.lists.specs.declared.limits.TheConstants.{SECONDS_OF_DAY}
-use Rattle.query.specs.Words.{parts, words_of_parts, words_from, words_of}
+use Rattle.query.specs.Words.{split_by, words_of_parts, words_from, words_of}
 use Rattle.query.specs.Values.{number_from, count_of, unit_of, pair_at, clock_of, time_of, symbols_of, kinds_of}
 use Rattle.meaning.specs.Meaning.{CanBeSpelled, Kinds, Meaning, Span, are_symbols, has_some, is_symbol_byte, is_symbol, is_width}
 use Rattle.meaning.specs.declared.query.What.TheVariants.{Bars, Sales}
@@ -37,7 +37,7 @@ others : (separator : ℕ) (bytes : List ℕ) → lacks separator bytes ≡ true
 others separator bytes h = grind (arith, nat_tests, All-weaker, not-true, AllPass-from_list_all)
 
 parts_joined : (separator : ℕ) (xs : List (List ℕ)) (x : List ℕ) → list_all (lacks separator) (x ∷ xs) ≡ true
-    → parts separator (join_with_byte separator (x ∷ xs)) ≡ x ∷ xs
+    → split_by separator (join_with_byte separator (x ∷ xs)) ≡ x ∷ xs
 parts_joined separator [] x h = slice_split_none (λ byte. byte == separator) x (others separator x (and_parts (lacks separator x) _ h).0)
 parts_joined separator (y ∷ ys) x h =
     let apart = and_parts (lacks separator x) _ h in

@@ -4,7 +4,7 @@ ghost use Rattle.lists.specs.declared.limits.TheConstants.{LONGEST_FILE};
 
 use crate::case::Case;
 use crate::devices::{append_line, reader_of, writer_of};
-use crate::way::{Reading, Way};
+use crate::way::{Access, Way};
 use command_line::{
     Counted, CountedSink, Job, Settings, command, explain, perform, perform_blocks, perform_opened,
 };
@@ -32,7 +32,7 @@ pub(crate) fn append_outcome<R: Threads + Wait + Sync>(
                 rt,
                 alloc,
                 &job,
-                way.reading,
+                way.access,
                 &mut reader,
                 &mut out,
                 &mut errors,
@@ -71,16 +71,16 @@ fn performed<R: Threads + Wait + Sync>(
     rt: &R,
     alloc: Global,
     job: &Job,
-    reading: Reading,
+    access: Access,
     reader: &mut Interrupted<'_>,
     out: &mut InterruptedWriter,
     errors: &mut InterruptedWriter,
 ) -> u8 {
-    match reading {
-        Reading::Stream => performed_in_order(rt, alloc, job, reader, out, errors),
-        Reading::Blocks => performed_by_blocks(rt, alloc, job, reader.rest, out, errors),
-        Reading::Opened => performed_opened(rt, alloc, job, reader, out, errors),
-        Reading::NotOpened => performed_unopened(rt, alloc, job, out, errors),
+    match access {
+        Access::Stream => performed_in_order(rt, alloc, job, reader, out, errors),
+        Access::Blocks => performed_by_blocks(rt, alloc, job, reader.rest, out, errors),
+        Access::Opened => performed_opened(rt, alloc, job, reader, out, errors),
+        Access::NotOpened => performed_unopened(rt, alloc, job, out, errors),
     }
 }
 

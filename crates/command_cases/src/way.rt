@@ -9,7 +9,7 @@ use std::io;
 
 /// How the day is read.
 #[derive(Clone, Copy)]
-pub(crate) enum Reading {
+pub(crate) enum Access {
     /// In order, from a source that is there.
     Stream,
     /// In order, from a file that was opened.
@@ -31,7 +31,7 @@ pub(crate) struct Calls {
 /// How the day is read, the most bytes that it may have, and how the reader, the output and the errors are called.
 #[derive(Clone, Copy)]
 pub(crate) struct Way {
-    pub(crate) reading: Reading,
+    pub(crate) access: Access,
     pub(crate) limit: u64,
     pub(crate) source: Calls,
     pub(crate) out: Calls,
@@ -41,7 +41,7 @@ pub(crate) struct Way {
 
 /// The next way.
 pub(crate) fn next_way(left: &mut &[u8]) -> io::Result<Way> {
-    let reading = next_reading(left)?;
+    let access = next_access(left)?;
     let limit = left.read_u64::<BigEndian>()?;
     let source = next_calls(left)?;
     let out = next_calls(left)?;
@@ -50,7 +50,7 @@ pub(crate) fn next_way(left: &mut &[u8]) -> io::Result<Way> {
         return Err(no_case());
     }
     Ok(Way {
-        reading,
+        access,
         limit,
         source,
         out,
@@ -58,13 +58,13 @@ pub(crate) fn next_way(left: &mut &[u8]) -> io::Result<Way> {
     })
 }
 
-/// The letter of a reading.
-fn next_reading(left: &mut &[u8]) -> io::Result<Reading> {
+/// The letter of an access.
+fn next_access(left: &mut &[u8]) -> io::Result<Access> {
     match left.read_u8()? {
-        b'S' => Ok(Reading::Stream),
-        b'O' => Ok(Reading::Opened),
-        b'N' => Ok(Reading::NotOpened),
-        b'B' => Ok(Reading::Blocks),
+        b'S' => Ok(Access::Stream),
+        b'O' => Ok(Access::Opened),
+        b'N' => Ok(Access::NotOpened),
+        b'B' => Ok(Access::Blocks),
         _ => Err(no_case()),
     }
 }

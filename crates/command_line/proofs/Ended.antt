@@ -1,8 +1,7 @@
 -- What a run's outcome says of its status, and its status of the errors.
 use Rattle.std.proofs.Common.{◌≡◌, ◌==◌, Result, Ok, Err, refl, arith}
-use Rattle.reports.specs.declared.Sink.{Ghosts as SinkOf}
 use Rattle.reports.specs.FaultLines.{status_of}
-use Rattle.reports.specs.Reports.{Reported, status_of_outcome}
+use Rattle.reports.specs.Reports.{Device, Reported, status_of_outcome}
 use Rattle.runs.specs.Runs.{is_read_failed}
 use Rattle.outcomes.specs.declared.run_fault.RunFault.{RunFault}
 use Rattle.outcomes.specs.declared.run_fault.RunFault.TheVariants as fault
@@ -29,7 +28,7 @@ no_fault_is_0 (fault.WriteFailed written) zero = let bad : 5 ≡ 0 = zero in abs
 no_fault_is_0 fault.OutOfMemory zero = let bad : 3 ≡ 0 = zero in absurd (omega arith)
 
 -- so with status 0 the errors have nothing
-pub quiet_at_0 : {L : Type 0} (sink : SinkOf L) (before after : L) (outcome : Result (Unit {0}) RunFault) → status_of_outcome outcome ≡ 0
-    → Reported sink before after outcome → after ≡ before
-quiet_at_0 sink before after (Ok done) zero reported = reported
-quiet_at_0 sink before after (Err f) zero reported = absurd (no_fault_is_0 f zero)
+pub quiet_at_0 : (errors : Device) (outcome : Result (Unit {0}) RunFault) → status_of_outcome outcome ≡ 0 → Reported errors outcome
+    → errors.after ≡ errors.before
+quiet_at_0 errors (Ok done) zero reported = reported
+quiet_at_0 errors (Err f) zero reported = absurd (no_fault_is_0 f zero)

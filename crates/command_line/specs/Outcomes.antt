@@ -9,24 +9,20 @@ use Rattle.streaming.specs.declared.Source.{Ghosts as SourceOf}
 use Rattle.runs.specs.Runs.{Ran, is_write_failed}
 use Rattle.outcomes.specs.declared.run_fault.RunFault.{RunFault}
 use Rattle.outcomes.specs.declared.run_fault.RunFault.TheVariants as fault
-use Rattle.reports.specs.declared.Sink.{Ghosts as SinkOf}
-use Rattle.reports.specs.FaultLines.{line_of, status_of}
-use Rattle.reports.specs.Reports.{Delivered, Reported, status_of_outcome}
+use Rattle.reports.specs.Reports.{Reported, Told, status_of, status_of_outcome}
+pub use Rattle.reports.specs.Reports.{Device, device}
 
--- What the program did to its devices, and its status. K is the states of its output, L of its errors, and `out_sink`
--- and `sink` are the members of their `Sink`.
-module _ {K L : Type 0} (job : Job) (out_sink : SinkOf K) (out out_after : K)
-    (sink : SinkOf L) (errors errors_after : L) (status : ℕ) where
+-- what the program did to its devices, and its status
+module _ (job : Job) (out errors : Device) (status : ℕ) where
   -- given what is known of its source, the job did to its output what a run of its query does, and the output failed
-  -- if and only if the outcome says so; the status is the outcome's, and the line of its fault, if it has one, went to
-  -- the errors
+  -- if and only if the outcome says so; the status is the outcome's, and the errors got the line of its fault, if any
   abbrev pub Did : Reading → Type 0
   Did reading =
       (outcome : Result (Unit {0}) RunFault)
-      × Ran reading out_sink (string_bytes job.query) job.settings.limit out out_after outcome
-      × (out_sink.has_failed out_after ≡ is_write_failed outcome)
+      × Ran reading out.sink (string_bytes job.query) job.settings.limit out.before out.after outcome
+      × (out.sink.has_failed out.after ≡ is_write_failed outcome)
       × (status ≡ status_of_outcome outcome)
-      × Reported sink errors errors_after outcome
+      × Reported errors outcome
 
   -- the job was done over a stream, from some state of it to a later one; the status says whether it failed
   abbrev pub DidStream : {S : Type 0} → SourceOf S → Type 0
@@ -37,11 +33,8 @@ module _ {K L : Type 0} (job : Job) (out_sink : SinkOf K) (out out_after : K)
 
   -- the job was done over a source that is read at places, and its words give no size of morsels
   abbrev pub DidBlocks : {S : Type 0} → BlockSourceOf S → Type 0
-  DidBlocks {S} device = (job.morsel_given ≡ false) × (source : S) × Did (of_blocks device job.settings.limit source)
+  DidBlocks {S} file = (job.morsel_given ≡ false) × (source : S) × Did (of_blocks file job.settings.limit source)
 
-  -- the file could not be opened: this is the status of a failed reading, its line went to the errors, and the output
-  -- was left alone
+  -- the file could not be opened: a failed reading is told, and the output was left alone
   abbrev pub DidNotOpen : Type 0
-  DidNotOpen =
-      (status ≡ status_of fault.ReadFailed)
-      × Delivered sink errors errors_after (line_of fault.ReadFailed) × (out_after ≡ out)
+  DidNotOpen = Told errors status fault.ReadFailed × (out.after ≡ out.before)

@@ -3,6 +3,7 @@ ghost use Rattle.command_line.specs.Outcomes.{Did, DidNotOpen};
 ghost use Rattle.block_scan.specs.Blocks.{of_blocks};
 ghost use Rattle.streaming.specs.Readings.{of_stream};
 ghost use Rattle.reports.specs.FaultLines.{status_of};
+ghost use Rattle.reports.specs.Reports.{device};
 
 use arguments::Job;
 use reports::{report, tell};
@@ -25,7 +26,7 @@ pub fn perform<R: Threads + Wait + Sync, S: Source, K: Sink, L: Sink>(
     requires source { S.has_failed source.old ≡ false }
     requires out { K.has_failed out.old ≡ false }
     requires errors { L.has_failed errors.old ≡ false }
-    ensures did { Did job.now K.Sink out.old out.new L.Sink errors.old errors.new result
+    ensures did { Did job.now (device K.Sink out.old out.new) (device L.Sink errors.old errors.new) result
         (of_stream S.Source job.now.settings.limit job.now.settings.morsel source.old source.new) }
     ensures read_failed { S.has_failed source.new ≡ (result == status_of RunFault.ReadFailed) }
     ensures quiet { result ≡ 0 → errors.new ≡ errors.old }
@@ -48,7 +49,7 @@ pub fn perform_blocks<R: Threads + Wait + Sync, S: BlockSource + Send + Sync, K:
 ) -> u8
     requires out { K.has_failed out.old ≡ false }
     requires errors { L.has_failed errors.old ≡ false }
-    ensures did { Did job.now K.Sink out.old out.new L.Sink errors.old errors.new result
+    ensures did { Did job.now (device K.Sink out.old out.new) (device L.Sink errors.old errors.new) result
         (of_blocks S.BlockSource.own job.now.settings.limit source) }
     ensures quiet { result ≡ 0 → errors.new ≡ errors.old }
 {
@@ -70,9 +71,9 @@ pub fn perform_opened<R: Threads + Wait + Sync, S: Source + Drop, K: Sink, L: Si
     requires source { MatchOption opened (Unit {0}) (λ source. S.has_failed source ≡ false) }
     requires out { K.has_failed out.old ≡ false }
     requires errors { L.has_failed errors.old ≡ false }
-    ensures did { MatchOption opened
-        (DidNotOpen job.now K.Sink out.old out.new L.Sink errors.old errors.new result)
-        (λ source. (after : S) × Did job.now K.Sink out.old out.new L.Sink errors.old errors.new result
+    ensures did { let to_out = device K.Sink out.old out.new in let to_errors = device L.Sink errors.old errors.new in
+        MatchOption opened (DidNotOpen job.now to_out to_errors result)
+        (λ source. (after : S) × Did job.now to_out to_errors result
         (of_stream S.Source job.now.settings.limit job.now.settings.morsel source after)
         × (S.has_failed after ≡ (result == status_of RunFault.ReadFailed))) }
     ensures quiet { result ≡ 0 → errors.new ≡ errors.old }

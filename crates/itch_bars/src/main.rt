@@ -2,7 +2,7 @@
 #![tactic(auto)]
 
 ghost use Rattle.std.specs.Prelude.{◌≡◌, ◌⊎◌, false};
-ghost use Rattle.command_line.specs.Outcomes.{DidBlocks, DidNotOpen, DidStream};
+ghost use Rattle.command_line.specs.Outcomes.{DidBlocks, DidNotOpen, DidStream, device};
 
 pub use command_line::{Job, WordsFault, command, perform};
 use command_line::{
@@ -50,14 +50,12 @@ fn start<R: Threads + Wait + Sync, K: Sink, L: Sink>(
 ) -> u8
     requires out { K.has_failed out.old ≡ false }
     requires errors { L.has_failed errors.old ≡ false }
-    ensures did { DidStream job.now K.Sink out.old out.new L.Sink errors.old errors.new result
-        ⟦<Counted<Stdin> as Source>⟧
-        ⊎ DidStream job.now K.Sink out.old out.new L.Sink errors.old errors.new result
-        ⟦<Counted<File> as Source>⟧
-        ⊎ (let file = ⟦<FileBlocks<File> as BlockSource>⟧ in
-        DidBlocks job.now K.Sink out.old out.new L.Sink errors.old errors.new result
+    ensures did { let to_out = device K.Sink out.old out.new in let to_errors = device L.Sink errors.old errors.new in
+        DidStream job.now to_out to_errors result ⟦<Counted<Stdin> as Source>⟧
+        ⊎ DidStream job.now to_out to_errors result ⟦<Counted<File> as Source>⟧
+        ⊎ (let file = ⟦<FileBlocks<File> as BlockSource>⟧ in DidBlocks job.now to_out to_errors result
         (record { GaveAt = file.GaveAt; EndsAt = file.EndsAt; FailsAt = file.FailsAt }))
-        ⊎ DidNotOpen job.now K.Sink out.old out.new L.Sink errors.old errors.new result }
+        ⊎ DidNotOpen job.now to_out to_errors result }
     ensures quiet { result ≡ 0 → errors.new ≡ errors.old }
 {
     if job.file.as_str() == STANDARD_INPUT {

@@ -11,6 +11,7 @@ use crate::symbols::Symbols;
 use probe::{LocateList, Locates, Selection};
 use std::alloc::Allocator;
 use time_and_sales::Names;
+use time_and_sales::names::LOCATES;
 
 /// The selection of a query: the locates, of 0 to 65,535, whose names the query lists, its span
 /// and its kinds. If the query lists no symbol, every locate is selected and no memory is taken, so
@@ -37,9 +38,7 @@ pub fn selection<A: Allocator + Clone, B: Allocator, C: Allocator + Clone>(
     })
 }
 
-// How many locates there are.
-const LOCATES: u32 = 65_536;
-
+/// The locates whose names are among the symbols.
 fn listed<A: Allocator + Clone, B: Allocator, C: Allocator + Clone>(
     alloc: A,
     symbols: &Symbols<B>,

@@ -49,10 +49,10 @@ partition_at b rows = slice_index_or rows.partitions b no_rows_in
 
 -- the rows of partitions, one partition after another
 abbrev pub joined_partitions : List PartitionView → PartitionView
-joined_partitions parts = record {
-  orders = flat_map (λ rows. rows.orders) parts;
-  executions = flat_map (λ rows. rows.executions) parts;
-  own_priced = flat_map (λ rows. rows.own_priced) parts;
+joined_partitions partitions = record {
+  orders = flat_map (λ rows. rows.orders) partitions;
+  executions = flat_map (λ rows. rows.executions) partitions;
+  own_priced = flat_map (λ rows. rows.own_priced) partitions;
 }
 
 -- they are the rows of some messages, by place: no place occurs twice in a list, and there are fewer trades than a

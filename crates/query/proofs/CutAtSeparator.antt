@@ -10,11 +10,11 @@ use Rattle.std.proofs.lemmas.Bool.Decides.{nat_tests}
 use Rattle.std.proofs.lemmas.List.Sums.{fails_before_first}
 use borrow.Author.Tests.{ltb-true, ltb-false}
 use Rattle.std.specs.Option.{option_map_or}
-use Rattle.query.specs.Words.{Word, word, parts, words_from}
+use Rattle.query.specs.Words.{Word, word, split_by, words_from}
 
 -- the parts of what comes after a separator, if there was one
 abbrev pub after_part : ℕ → Option (Bor (List ℕ)) → List (List ℕ)
-after_part separator rest = option_map_or (λ r. parts separator r.now) rest []
+after_part separator rest = option_map_or (λ r. split_by separator r.now) rest []
 
 -- the words of what is left of a text, which begins at byte `at`
 abbrev pub words_left : ℕ → Option (Bor (List ℕ)) → List Word
@@ -25,15 +25,15 @@ abbrev pub IsInText : ℕ → Option (Bor (List ℕ)) → Type 0
 IsInText at rest = MatchOption rest (Unit {0}) (λ r. at + length r.now < 2 ^ 63)
 
 pub parts_at : (separator : ℕ) (text : List ℕ) (end : ℕ) → position (λ byte. byte == separator) text ≡ Some end
-    → parts separator text ≡ take end text ∷ parts separator (take (length text - (end + 1)) (drop (end + 1) text))
+    → split_by separator text ≡ take end text ∷ split_by separator (take (length text - (end + 1)) (drop (end + 1) text))
 parts_at separator text end e =
     let h = cond_some _ (position_or_len (λ byte. byte == separator) text) end e in
-    let cut : parts separator text ≡ take end text ∷ parts separator (drop (end + 1) text) =
-    subst (λ n. parts separator text ≡ take n text ∷ parts separator (drop (n + 1) text)) h.1
+    let cut : split_by separator text ≡ take end text ∷ split_by separator (drop (end + 1) text) =
+    subst (λ n. split_by separator text ≡ take n text ∷ split_by separator (drop (n + 1) text)) h.1
     (slice_split_first (λ byte. byte == separator) text 0 (ltb-true _ _ h.0)) in
     rw take_rest cut
 
-pub parts_none : (separator : ℕ) (text : List ℕ) → position (λ byte. byte == separator) text ≡ None → parts separator text ≡ text ∷ []
+pub parts_none : (separator : ℕ) (text : List ℕ) → position (λ byte. byte == separator) text ≡ None → split_by separator text ≡ text ∷ []
 parts_none separator text e =
     let p : ℕ → Bool = λ byte. byte == separator in
     let past : ltb (position_or_len p text) (length text) ≡ false = false_from_ne_true _
@@ -46,7 +46,7 @@ left None = 0
 left (Some rest) = length rest.now + 1
 
 -- the words of a text are its first part, if it isn't empty, and the words of what is left
-pub words_cut : (at : ℕ) (text part : List ℕ) (rest : Option (Bor (List ℕ))) → parts 32 text ≡ part ∷ after_part 32 rest
+pub words_cut : (at : ℕ) (text part : List ℕ) (rest : Option (Bor (List ℕ))) → split_by 32 text ≡ part ∷ after_part 32 rest
     → words_from at text
     ≡ cond (nat_lt 0 (length part)) (word at part ∷ words_left (at + (length part + 1)) rest) (words_left (at + (length part + 1)) rest)
 unfolding words_from
@@ -54,13 +54,13 @@ words_cut at text part None e = rw e refl
 words_cut at text part (Some rest) e = rw e refl
 
 -- a part that isn't empty is the next word
-pub next_word : (at : ℕ) (text part : List ℕ) (rest : Option (Bor (List ℕ))) → parts 32 text ≡ part ∷ after_part 32 rest → length part == 0 ≡ false
+pub next_word : (at : ℕ) (text part : List ℕ) (rest : Option (Bor (List ℕ))) → split_by 32 text ≡ part ∷ after_part 32 rest → length part == 0 ≡ false
     → words_from at text ≡ word at part ∷ words_left (at + (length part + 1)) rest
 next_word at text part rest e some =
     let long : nat_lt 0 (length part) ≡ true = grind (arith, nat_tests) in words_cut at text part rest e ∙ cond-true _ _ _ long
 
 -- an empty part is no word
-pub no_word : (at : ℕ) (text part : List ℕ) (rest : Option (Bor (List ℕ))) → parts 32 text ≡ part ∷ after_part 32 rest → length part == 0 ≡ true
+pub no_word : (at : ℕ) (text part : List ℕ) (rest : Option (Bor (List ℕ))) → split_by 32 text ≡ part ∷ after_part 32 rest → length part == 0 ≡ true
     → words_from at text ≡ words_left (at + (length part + 1)) rest
 no_word at text part rest e none =
     let short : nat_lt 0 (length part) ≡ false = grind (arith, nat_tests) in words_cut at text part rest e ∙ cond-false _ _ _ short

@@ -3,7 +3,7 @@ use Rattle.std.proofs.Common.{◌≡◌, ℕ, Bool, true, false, cond, List, [],
 use Rattle.std.specs.List.{list_all, onto_first}
 use Rattle.std.proofs.lemmas.Bool.{and_parts}
 use Rattle.std.proofs.lemmas.Option.{cond_some}
-use Rattle.query.specs.Words.{parts}
+use Rattle.query.specs.Words.{split_by}
 use Rattle.query.specs.Values.{is_kind, letters_of, kinds_of}
 use Rattle.meaning.specs.Meaning.{Kinds, has_some}
 use Rattle.query.proofs.WordByWord.{reading}
@@ -12,9 +12,9 @@ use Rattle.query.proofs.WordByWord.{reading}
 first_letter : (byte : ℕ) (bytes part : List ℕ) → is_kind (byte ∷ part) ≡ true → has_some (letters_of (byte ∷ bytes)) ≡ true
 first_letter byte bytes part h = grind arith
 
-list_has_letter : (bytes : List ℕ) → list_all is_kind (parts 44 bytes) ≡ true → has_some (letters_of bytes) ≡ true
+list_has_letter : (bytes : List ℕ) → list_all is_kind (split_by 44 bytes) ≡ true → has_some (letters_of bytes) ≡ true
 list_has_letter [] h = absurd (cc)
-list_has_letter (byte ∷ bytes) h = go (eqb byte 44) (parts 44 bytes) h
+list_has_letter (byte ∷ bytes) h = go (eqb byte 44) (split_by 44 bytes) h
   where
     go : (b : Bool) (rest : List (List ℕ)) → list_all is_kind (cond b ([] ∷ rest) (onto_first byte rest)) ≡ true
         → has_some (letters_of (byte ∷ bytes)) ≡ true

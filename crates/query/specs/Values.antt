@@ -4,7 +4,7 @@ use Rattle.std.specs.Prelude.{ℕ, ◌+◌, ◌-◌, ◌*◌, ◌==◌, nat_lt, 
 use Rattle.std.specs.Char.{is_ascii_digit}
 use Rattle.std.specs.List.{list_all}
 use Rattle.lists.specs.Among.{is_among}
-use Rattle.query.specs.Words.{parts}
+use Rattle.query.specs.Words.{split_by}
 use Rattle.meaning.specs.Meaning.{is_symbol}
 use Rattle.lists.specs.declared.limits.TheConstants.{SECONDS_OF_DAY}
 use Rattle.probe.specs.declared.selection.Kinds.{Kinds}
@@ -50,7 +50,7 @@ time_of bytes = if bytes_eq bytes (codes "24:00:00") then Some SECONDS_OF_DAY el
 
 -- the symbols of a word that lists them, with a comma between each two
 unfoldable pub symbols_of : List ℕ → Option (List (List ℕ))
-symbols_of bytes = let symbols = parts COMMA bytes in
+symbols_of bytes = let symbols = split_by COMMA bytes in
     if list_all is_symbol symbols then Some symbols else None
 
 -- a word is the letter of a kind
@@ -66,4 +66,4 @@ letters_of bytes =
 
 -- the kinds of a word that lists them, with a comma between each two
 unfoldable pub kinds_of : List ℕ → Option Kinds
-kinds_of bytes = if list_all is_kind (parts COMMA bytes) then Some (letters_of bytes) else None
+kinds_of bytes = if list_all is_kind (split_by COMMA bytes) then Some (letters_of bytes) else None

@@ -19,8 +19,8 @@ abbrev pub reads_as : List ℕ → Word → Bool
 reads_as text w = bytes_eq w.bytes text
 
 -- the parts of a text between the bytes that separate them, empty parts too
-abbrev pub parts : ℕ → List ℕ → List (List ℕ)
-parts separator text = slice_split (λ byte. byte == separator) text
+abbrev pub split_by : ℕ → List ℕ → List (List ℕ)
+split_by separator text = slice_split (λ byte. byte == separator) text
 
 -- the words that parts are, with one byte between each two, the first of them at byte `at`
 abbrev pub words_of_parts : ℕ → List (List ℕ) → List Word
@@ -29,7 +29,7 @@ words_of_parts at (part ∷ more) = word at part ∷ words_of_parts (at + (lengt
 
 -- the parts between spaces that aren't empty, of a text that begins at byte `at`
 unfoldable pub words_from : ℕ → List ℕ → List Word
-words_from at text = filter (λ w. nat_lt 0 (length w.bytes)) (words_of_parts at (parts SPACE text))
+words_from at text = filter (λ w. nat_lt 0 (length w.bytes)) (words_of_parts at (split_by SPACE text))
 
 -- the words of a text: the runs of bytes between spaces, each with the number of bytes before it
 abbrev pub words_of : List ℕ → List Word

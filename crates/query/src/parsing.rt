@@ -31,9 +31,9 @@ pub fn parse<A: Allocator + Clone>(alloc: A, text: &str) -> Result<Query<A>, Que
         MatchResult result (λ query. query ≡ meaning) (λ fault. fault ≡ QueryFault.OutOfMemory) }
 {
     let mut words = Words::of(text.as_bytes());
-    let mut reading = Reading::only(read_what(&mut words)?);
-    reading.read_rest(&alloc, &mut words)?;
-    Ok(reading.into_query())
+    let mut builder = QueryBuilder::only(read_what(&mut words)?);
+    builder.read_rest(&alloc, &mut words)?;
+    Ok(builder.into_query())
 }
 
 /// Reads `sales`, or `bars` and a width.
@@ -85,7 +85,7 @@ const ALL_KINDS: Kinds = Kinds {
 
 /// What the words so far have said; a moment or condition that wasn't given is `None`.
 #[derive(Drop)]
-pub(crate) struct Reading<A: Allocator> {
+pub(crate) struct QueryBuilder<A: Allocator> {
     what: What,
     as_of: Option<u32>,
     symbols: Option<Symbols<A>>,
@@ -93,7 +93,7 @@ pub(crate) struct Reading<A: Allocator> {
     kinds: Option<Kinds>,
 }
 
-impl<A: Allocator> Model for Reading<A> {
+impl<A: Allocator> Model for QueryBuilder<A> {
     ghost use Rattle.query.specs.Grammar.{Said, meaning_of};
     ghost use Rattle.meaning.specs.Meaning.{CanBeSpelled};
 
@@ -106,13 +106,13 @@ impl<A: Allocator> Model for Reading<A> {
         record { what = r.what; as_of = r.as_of; symbols = r.symbols; span = r.span; kinds = r.kinds })) };
 }
 
-impl<A: Allocator + Clone> Reading<A> {
+impl<A: Allocator + Clone> QueryBuilder<A> {
     /// No moment and no condition was given yet.
     pub(crate) fn only(what: What) -> Self
         requires { HasWidth what }
         ensures { result ≡ only what }
     {
-        Reading {
+        QueryBuilder {
             what,
             as_of: None,
             symbols: None,

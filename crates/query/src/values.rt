@@ -4,7 +4,7 @@ ghost use Rattle.std.specs.Char.{is_ascii_digit};
 ghost use Rattle.std.specs.List.{list_all};
 ghost use Rattle.query.specs.Values.{clock_of, is_kind, kinds_of, number_from, count_of, pair_at, symbols_of, time_of};
 ghost use Rattle.query.specs.Values.{unit_of};
-ghost use Rattle.query.specs.Words.{parts};
+ghost use Rattle.query.specs.Words.{split_by};
 
 use crate::words::cut;
 use lists::limits::SECONDS_OF_DAY;
@@ -134,7 +134,7 @@ fn is_kind(part: &[u8]) -> bool
 }
 
 fn are_kinds(bytes: &[u8]) -> bool
-    ensures { result ≡ list_all is_kind (parts COMMA bytes.now) }
+    ensures { result ≡ list_all is_kind (split_by COMMA bytes.now) }
 {
     let mut rest = Some(bytes);
     while let Some(text) = rest {

@@ -2,7 +2,7 @@
 ghost use Rattle.std.specs.Prelude.{◌≡◌, ◌+◌, ◌<◌, ◌≤◌, ◌^◌, ◌∷◌, ◌++◌, [], length, MatchOption, IfOk, IfErr, IfSome};
 ghost use Rattle.std.specs.Prelude.{OnOk, position, ◌==◌, None, Some, true, false};
 ghost use Rattle.std.specs.Option.{option_map_or};
-ghost use Rattle.query.specs.Words.{IsLater, Word, parts, reads_as, word, words_from};
+ghost use Rattle.query.specs.Words.{IsLater, Word, split_by, reads_as, word, words_from};
 ghost use Rattle.query.specs.Values.{time_of};
 
 use crate::values::time_of;
@@ -50,8 +50,8 @@ fn first_place(text: &[u8], separator: u8) -> Option<usize>
 /// What comes before the first separator, and what comes after it if there is one.
 #[tactic(auto, using(crate::proofs::CutAtSeparator::parting))]
 pub(crate) fn cut(text: &[u8], separator: u8) -> (&[u8], Option<&[u8]>)
-    ensures parts { parts separator text.now
-        ≡ result.0.now ∷ option_map_or (λ rest. parts separator rest.now) result.1 [] }
+    ensures parts { split_by separator text.now
+        ≡ result.0.now ∷ option_map_or (λ rest. split_by separator rest.now) result.1 [] }
     ensures shorter { MatchOption result.1 (length result.0.now ≡ length text.now)
         (λ rest. length result.0.now + 1 + length rest.now ≡ length text.now) }
 {

@@ -1,7 +1,7 @@
 //! How it is told on the program's devices why there is no answer, or no job.
 ghost use Rattle.std.specs.Prelude.{◌≡◌, false};
 ghost use Rattle.reports.specs.FaultLines.{line_of, status_of};
-ghost use Rattle.reports.specs.Reports.{Delivered, Explained, Reported, status_of_outcome};
+ghost use Rattle.reports.specs.Reports.{Delivered, Explained, Reported, device, status_of_outcome};
 
 use crate::lines::{line_of, status_of};
 use arguments::WordsFault;
@@ -15,7 +15,7 @@ const WRONG_WORDS: u8 = 2;
 pub fn report<L: Sink>(outcome: Result<(), RunFault>, errors: &mut L) -> u8
     requires { L.has_failed errors.old ≡ false }
     ensures status { result ≡ status_of_outcome outcome }
-    ensures reported { Reported L.Sink errors.old errors.new outcome }
+    ensures reported { Reported (device L.Sink errors.old errors.new) outcome }
 {
     match outcome {
         Ok(()) => 0,
@@ -29,7 +29,7 @@ pub fn report<L: Sink>(outcome: Result<(), RunFault>, errors: &mut L) -> u8
 pub fn explain<K: Sink, L: Sink>(fault: &WordsFault, out: &mut K, errors: &mut L) -> u8
     requires out { K.has_failed out.old ≡ false }
     requires errors { L.has_failed errors.old ≡ false }
-    ensures { Explained L.Sink errors.old errors.new K.Sink out.old out.new result fault.now }
+    ensures { Explained (device K.Sink out.old out.new) (device L.Sink errors.old errors.new) result fault.now }
 {
     match fault {
         WordsFault::Help { text } | WordsFault::Version { text } => {
@@ -50,7 +50,7 @@ pub fn explain<K: Sink, L: Sink>(fault: &WordsFault, out: &mut K, errors: &mut L
 pub fn tell<L: Sink>(fault: &RunFault, errors: &mut L) -> u8
     requires { L.has_failed errors.old ≡ false }
     ensures status { result ≡ status_of fault.now }
-    ensures line { Delivered L.Sink errors.old errors.new (line_of fault.now) }
+    ensures line { Delivered (device L.Sink errors.old errors.new) (line_of fault.now) }
 {
     let line = line_of(fault);
     let _ = deliver(errors, line.as_slice());

@@ -84,6 +84,13 @@ fn divided_rows_are_those_of_as_many_partitions(rt: HostRuntime) -> Result<(), F
     Ok(())
 }
 
+/// Whether the rows of two partitions, divided into three times as many, are those of six.
+fn is_divided<A: Allocator + Copy>(alloc: A, rows: &MorselRows<A>) -> Result<bool, AllocError> {
+    let divided = rows.divided(alloc, 3)?;
+    let want = rows_in(alloc, 6)?;
+    Ok(are_same(&divided, &want, 6))
+}
+
 /// Whether rows that are divided within so many bytes are those of as many partitions; None if there is no room,
 /// and nothing is kept then.
 fn is_divided_within(alloc: Global, bytes: usize) -> Result<Option<bool>, AllocError> {
@@ -92,16 +99,11 @@ fn is_divided_within(alloc: Global, bytes: usize) -> Result<Option<bool>, AllocE
         return Ok(None);
     };
     let used = heap.used();
-    let Ok(divided) = rows.divided(&heap, 3) else {
-        return Ok(if heap.used() == used {
-            None
-        } else {
-            Some(false)
-        });
-    };
-    let all = LocalHeap::new(alloc, 1 << 16)?;
-    let want = rows_in(&all, 6)?;
-    Ok(Some(divided.breaks() == want.breaks() && divided.directory() == want.directory()))
+    match is_divided(&heap, &rows) {
+        Ok(is_right) => Ok(Some(is_right)),
+        Err(_) if heap.used() == used => Ok(None),
+        Err(_) => Ok(Some(false)),
+    }
 }
 
 #[test]

@@ -1,6 +1,6 @@
 //! Lists of order rows: lean, narrow and wide ones, and the memory that they take.
 use linked_list_allocator::LocalHeap;
-use morsel_rows::{OrderList, OutOfMemory};
+use morsel_rows::{OrderList, OutOfMemory, RisingRows};
 use order_table::OrderRow;
 use std::alloc::{Allocator, Global};
 use std::test::Fail;
@@ -79,16 +79,36 @@ fn a_list_gives_back_the_rows_that_were_pushed(rt: HostRuntime) -> Result<(), Fa
     Ok(())
 }
 
+/// Whether lists of these rows are equal.
+fn are_equal(alloc: Global, one: &[(u64, u64)], other: &[(u64, u64)]) -> Result<bool, OutOfMemory> {
+    let one = list_of(alloc, one)?;
+    let other = list_of(alloc, other)?;
+    Ok(one == other)
+}
+
+/// Whether a list of these rows is equal to one that has a row more.
+fn is_equal_to_longer(alloc: Global, rows: &[(u64, u64)]) -> Result<bool, OutOfMemory> {
+    let list = list_of(alloc, rows)?;
+    let mut longer = list_of(alloc, rows)?;
+    longer.push(order(9, 300))?;
+    Ok(list == longer)
+}
+
+/// Whether the list of this number is equal to itself alone.
+fn is_equal_to_itself_alone(alloc: Global, number: usize) -> Result<bool, OutOfMemory> {
+    for other in 0..LISTS.len() {
+        if are_equal(alloc, LISTS[number % LISTS.len()], LISTS[other])? != (number == other) {
+            return Ok(false);
+        }
+    }
+    Ok(true)
+}
+
 #[test]
 fn lists_are_equal_if_their_rows_are(rt: HostRuntime) -> Result<(), Fail> {
-    for (number, rows) in LISTS.iter().enumerate() {
-        for (other, others) in LISTS.iter().enumerate() {
-            let is_same = list_of(rt.alloc(), rows)? == list_of(rt.alloc(), others)?;
-            assert!(rt; is_same == (number == other), "{number} and {other}");
-        }
-        let mut longer = list_of(rt.alloc(), rows)?;
-        longer.push(order(9, 300))?;
-        assert!(rt; longer != list_of(rt.alloc(), rows)?, "{rows:?}");
+    for number in 0..LISTS.len() {
+        assert!(rt; is_equal_to_itself_alone(rt.alloc(), number)?, "{number}");
+        assert!(rt; !is_equal_to_longer(rt.alloc(), LISTS[number])?, "{number}");
     }
     Ok(())
 }
@@ -132,12 +152,14 @@ fn rows_near_the_first_take_twelve_bytes(rt: HostRuntime) -> Result<(), Fail> {
 
 /// Pushes rows until one is refused, and says how many were taken.
 fn pushed<A: Allocator + Copy>(list: &mut OrderList<A>, rows: &[(u64, u64)]) -> usize {
-    for (number, (order_no, place)) in rows.iter().enumerate() {
+    let mut count = 0;
+    for (order_no, place) in rows {
         if list.push(order(*order_no, *place)).is_err() {
-            return number;
+            break;
         }
+        count += 1;
     }
-    rows.len()
+    count
 }
 
 /// Whether each row is refused as long as there is no memory, and the list then has those before it.
@@ -165,60 +187,89 @@ fn a_row_that_is_refused_leaves_the_list(rt: HostRuntime) -> Result<(), Fail> {
     Ok(())
 }
 
+/// Pushes a row of each reference from one number to another, times a factor.
+fn push_each<A: Allocator + Copy>(
+    list: &mut OrderList<A>,
+    from: u64,
+    to: u64,
+    factor: u64,
+) -> Result<(), OutOfMemory> {
+    for number in from..to {
+        list.push(order(number.wrapping_mul(factor), 100))?;
+    }
+    Ok(())
+}
+
+/// How many bytes a list of a hundred rows takes with no row, with so many lean ones, with a narrow one more, and with
+/// all rows.
+fn bytes_by_rows(alloc: Global, lean: u64) -> Result<[usize; 4], Fail> {
+    let heap = LocalHeap::new(alloc, 4_096)?;
+    let mut list = OrderList::with_room(&heap, 100)?;
+    let room = heap.used();
+    push_each(&mut list, 0, lean, 1)?;
+    let with_lean = heap.used();
+    push_each(&mut list, 1, 2, FAR)?;
+    let narrow = heap.used();
+    push_each(&mut list, lean.saturating_add(1), 100, FAR)?;
+    let all = if list.len() == 100 { heap.used() } else { 0 };
+    Ok([room, with_lean, narrow, all])
+}
+
 /// A list that turns out narrow has no room for lean rows beside that for narrow ones.
 #[test]
 fn room_is_given_back_where_rows_turn_out_narrow(rt: HostRuntime) -> Result<(), Fail> {
     for lean in [1, 2, 50] {
-        let heap = LocalHeap::new(rt.alloc(), 4_096)?;
-        let mut list = OrderList::with_room(&heap, 100)?;
-        let room = heap.used();
+        let [room, with_lean, narrow, all] = bytes_by_rows(rt.alloc(), lean)?;
         assert!(rt; room >= 100 * 12 && room < 102 * 12, "{room}");
-        for number in 0..lean {
-            list.push(order(number, 100))?;
-        }
-        assert!(rt; heap.used() == room, "{lean}");
-        list.push(order(FAR, 140))?;
-        let narrow = heap.used();
+        assert!(rt; with_lean == room, "{lean}");
         assert!(rt; narrow <= 102 * 16 + 64, "{lean}: {narrow}");
-        for number in lean + 1..100 {
-            list.push(order(FAR * number, 180))?;
-        }
-        assert!(rt; heap.used() == narrow && list.len() == 100, "{lean}");
+        assert!(rt; all == narrow, "{lean}");
+    }
+    Ok(())
+}
+
+/// The greatest reference that is near `FAR`.
+const TOP: u64 = FAR + (1 << 31) - 1;
+
+/// References, and the place at which a list of `FAR`, the next one and `TOP` has them.
+const SEARCHED: [(u64, Option<u64>); 11] = [
+    (FAR, Some(7)),
+    (FAR + 1, Some(8)),
+    (TOP, Some(9)),
+    (0, None),
+    (FAR - 1, None),
+    (FAR - (1 << 31), None),
+    (FAR + 2, None),
+    (TOP + 1, None),
+    (TOP + (1 << 32), None),
+    (FAR + (1 << 32), None),
+    (u64::MAX, None),
+];
+
+/// Where the rows have a reference first.
+fn place_of(rows: &RisingRows<'_>, order_no: u64) -> Option<u64> {
+    match rows.first(order_no) {
+        Some(row) => Some(row.place),
+        None => None,
+    }
+}
+
+#[test]
+fn a_search_knows_references_near_and_far(rt: HostRuntime) -> Result<(), Fail> {
+    let list = list_of(rt.alloc(), &[(FAR, 7), (FAR + 1, 8), (TOP, 9)])?;
+    let Some(rows) = list.rising() else {
+        return Err(Fail::from("the references rise"));
+    };
+    assert!(rt; rows.least() == FAR && rows.greatest() == TOP);
+    for (order_no, place) in SEARCHED {
+        assert!(rt; place_of(&rows, order_no) == place, "{order_no}");
     }
     Ok(())
 }
 
 #[test]
-fn a_search_knows_references_near_and_far(rt: HostRuntime) -> Result<(), Fail> {
-    let top = FAR + (1 << 31) - 1;
-    let list = list_of(rt.alloc(), &[(FAR, 7), (FAR + 1, 8), (top, 9)])?;
-    let rising = list.rising();
-    assert!(rt; rising.is_some());
-    if let Some(rows) = rising {
-        assert!(rt; rows.least() == FAR && rows.greatest() == top);
-        for (order_no, place) in [
-            (FAR, Some(7)),
-            (FAR + 1, Some(8)),
-            (top, Some(9)),
-            (0, None),
-            (FAR - 1, None),
-            (FAR - (1 << 31), None),
-            (FAR + 2, None),
-            (top + 1, None),
-            (top + (1 << 32), None),
-            (FAR + (1 << 32), None),
-            (u64::MAX, None),
-        ] {
-            assert!(rt;
-                rows.first(order_no).map(|row| row.place) == place,
-                "{order_no}"
-            );
-        }
-    }
-    assert!(rt;
-        list_of(rt.alloc(), &[(FAR, 7), (top + 1, 8)])?
-            .rising()
-            .is_none()
-    );
+fn references_that_are_far_apart_do_not_rise(rt: HostRuntime) -> Result<(), Fail> {
+    let list = list_of(rt.alloc(), &[(FAR, 7), (TOP + 1, 8)])?;
+    assert!(rt; list.rising().is_none());
     Ok(())
 }

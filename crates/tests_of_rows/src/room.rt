@@ -45,10 +45,13 @@ fn a_list_takes_its_room_at_once_or_is_refused(rt: HostRuntime) -> Result<(), Fa
 
 /// Whether there are three partitions, none of which has an order.
 fn are_three_without_orders<A: Allocator>(rows: &MorselRows<A>) -> bool {
-    let has_none = |number| rows
-        .partition(number)
-        .is_some_and(|part| part.orders().len() == 0);
-    has_none(0) && has_none(1) && has_none(2) && rows.partition(3).is_none()
+    for number in 0..3 {
+        match rows.partition(number) {
+            Some(partition) if partition.orders().len() == 0 => {}
+            _ => return false,
+        }
+    }
+    rows.partition(3).is_none()
 }
 
 /// How many bytes three partitions of 24 rows take of so many, if there is room for them; if there isn't, how
@@ -127,25 +130,43 @@ fn executed(order_no: u64) -> Message {
     })
 }
 
-/// A partition that got no rows gives all its memory back, and one that has rows keeps them.
-#[test]
-fn partitions_without_rows_keep_no_memory(rt: HostRuntime) -> Result<(), Fail> {
-    let heap = LocalHeap::new(rt.alloc(), 4_096)?;
+/// How many executions a partition has, if it is there.
+fn executions_in<A: Allocator>(rows: &MorselRows<A>, number: u32) -> Option<usize> {
+    match rows.partition(number) {
+        Some(partition) => Some(partition.executions().len()),
+        None => None,
+    }
+}
+
+/// How many bytes three partitions take, and how many once they gave back what the row of the last didn't take.
+fn taken_and_left(alloc: Global) -> Result<(usize, usize), AllocError> {
+    let heap = LocalHeap::new(alloc, 4_096)?;
     let mut rows = MorselRows::new(&heap, 3, 24)?;
     let taken = heap.used();
     rows.add_counted(None, 4, &executed(5))?;
     rows.shrink_to_fit();
+    Ok((taken, heap.used()))
+}
+
+/// A partition that got no rows gives all its memory back.
+#[test]
+fn partitions_without_rows_keep_no_memory(rt: HostRuntime) -> Result<(), Fail> {
     // Of three boxes and their rooms, one box is left, with room for the execution.
-    assert!(rt; heap.used() < taken / 2);
-    assert!(rt;
-        (0..3).all(|number| rows
-            .partition(number)
-            .is_some_and(|part| part.is_empty() == (number != 2)))
-    );
+    let (taken, left) = taken_and_left(rt.alloc())?;
+    assert!(rt; left < taken / 2);
+    Ok(())
+}
+
+/// A partition that has rows keeps them, and one that has none can still get some.
+#[test]
+fn partitions_keep_their_rows_when_room_is_given_back(rt: HostRuntime) -> Result<(), Fail> {
+    let mut rows = MorselRows::new(rt.alloc(), 3, 24)?;
+    rows.add_counted(None, 4, &executed(5))?;
+    rows.shrink_to_fit();
+    for (number, count) in [(0, 0), (1, 0), (2, 1)] {
+        assert!(rt; executions_in(&rows, number) == Some(count), "{number}");
+    }
     rows.add_counted(None, 8, &executed(6))?;
-    assert!(rt;
-        rows.partition(0)
-            .is_some_and(|part| part.executions().len() == 1)
-    );
+    assert!(rt; executions_in(&rows, 0) == Some(1));
     Ok(())
 }

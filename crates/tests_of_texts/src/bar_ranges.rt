@@ -8,6 +8,7 @@ use bars::{BarTable, BucketBars, Form, OutOfMemory, Sale, lines_in_ranges, write
 use probe::Kind;
 use std::alloc::Global;
 use std::test::Fail;
+use std::thread::Threads;
 use time_and_sales::{DirectoryRow, Names};
 
 /// A sale of five shares at half past nine and so many seconds.
@@ -119,22 +120,35 @@ fn bars_are_made_where_they_are_half_as_many_as_the_sales(rt: HostRuntime) -> Re
     Ok(())
 }
 
-#[test]
-fn lines_of_bars_in_ranges_are_those_of_one_table(rt: HostRuntime) -> Result<(), Fail> {
-    let alloc = rt.alloc();
+/// The lines of the bars of all tables joined.
+fn lines_of_one_table(alloc: Global) -> Result<Vec<u8>, OutOfMemory> {
     let (one, other, third) = tables(alloc)?;
-    let names = names(alloc)?;
     let first = one.table(alloc)?;
     let second = other.table(alloc)?;
     let last = third.table(alloc)?;
     let all = BarTable::merge_all(alloc, &[&first, &second, &last])?;
-    let want = lines(alloc, &all, &names)?;
-    assert!(rt; want.as_slice() == LINES.as_bytes());
+    lines(alloc, &all, &names(alloc)?)
+}
+
+/// The lines of the bars that threads make by so many ranges, and in how many pieces.
+fn lines_by_ranges(
+    rt: &(impl Threads + Sync),
+    alloc: Global,
+    ranges: u32,
+) -> Result<(Vec<u8>, usize), OutOfMemory> {
+    let (one, other, third) = tables(alloc)?;
+    let names = names(alloc)?;
+    let pieces = lines_in_ranges(rt, alloc, &[&one, &other, &third], &names, ranges)?;
+    Ok((joined(alloc, pieces.as_slice())?, pieces.len()))
+}
+
+#[test]
+fn lines_of_bars_in_ranges_are_those_of_one_table(rt: HostRuntime) -> Result<(), Fail> {
+    assert!(rt; lines_of_one_table(rt.alloc())?.as_slice() == LINES.as_bytes());
     for ranges in [1, 2, 3, 5, 100] {
-        let pieces = lines_in_ranges(&rt, alloc, &[&one, &other, &third], &names, ranges)?;
-        assert!(rt; pieces.len() == ranges as usize, "{ranges}");
-        let text = joined(alloc, pieces.as_slice())?;
-        assert!(rt; text.as_slice() == want.as_slice(), "{ranges}");
+        let (text, pieces) = lines_by_ranges(&rt, rt.alloc(), ranges)?;
+        assert!(rt; pieces == ranges as usize, "{ranges}");
+        assert!(rt; text.as_slice() == LINES.as_bytes(), "{ranges}");
     }
     Ok(())
 }

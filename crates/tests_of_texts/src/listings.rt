@@ -66,30 +66,62 @@ fn stands_at<A: Allocator>(listing: &Listing<A>, places: &[u64]) -> bool {
         .eq(places.iter().copied())
 }
 
+/// Whether a listing took in another, and whether its sales are as they should be then; refused if there is no memory
+/// for the two.
+fn united(heap: &LocalHeap) -> Result<(bool, bool), OutOfMemory> {
+    let (mut one, other) = listings(heap)?;
+    let is_united = one.unite(&other).is_ok();
+    let is_right = if is_united {
+        stands_at(&one, &[41, 87, 133])
+    } else {
+        stands_at(&one, &[41, 133])
+    };
+    Ok((is_united, is_right))
+}
+
 #[test]
 fn listings_take_in_others_or_stay(rt: HostRuntime) -> Result<(), Fail> {
     let (mut was_refused, mut finished) = (false, false);
     for step in 1..100 {
         let heap = LocalHeap::new(rt.alloc(), 16 * step)?;
-        let Ok((mut one, other)) = listings(&heap) else {
+        let Ok((is_united, is_right)) = united(&heap) else {
             continue;
         };
-        if one.unite(&other).is_ok() {
-            assert!(rt; stands_at(&one, &[41, 87, 133]));
-            finished = true;
+        assert!(rt; is_right, "{step}");
+        finished = is_united;
+        if finished {
             break;
         }
-        assert!(rt; stands_at(&one, &[41, 133]));
         was_refused = true;
     }
     assert!(rt; was_refused && finished);
-    let heap = LocalHeap::new(rt.alloc(), 1 << 12)?;
-    let (one, mut other) = listings(&heap)?;
+    Ok(())
+}
+
+/// The sales of the second listing that takes in the first, in one vector.
+fn united_the_other_way(heap: &LocalHeap) -> Result<usize, OutOfMemory> {
+    let (one, mut other) = listings(heap)?;
     other.unite(&one)?;
-    assert!(rt; stands_at(&other, &[41, 87, 133]));
-    assert!(rt; other.into_vec().len() == 3);
+    let is_right = stands_at(&other, &[41, 87, 133]);
+    let sales = other.into_vec();
+    Ok(if is_right { sales.len() } else { 0 })
+}
+
+#[test]
+fn either_listing_takes_in_the_other(rt: HostRuntime) -> Result<(), Fail> {
+    let heap = LocalHeap::new(rt.alloc(), 1 << 12)?;
+    assert!(rt; united_the_other_way(&heap)? == 3);
     assert!(rt; Listing::empty(&heap).items().is_empty());
     Ok(())
+}
+
+/// Whether many listings were merged in memory of the heap, and are as they should be; None if that was refused.
+fn merged_in(heap: &LocalHeap) -> Result<Option<bool>, OutOfMemory> {
+    let both = in_one_vector(heap)?;
+    match Listing::merge_all(heap, both) {
+        Ok(all) => Ok(Some(stands_at(&all, &[41, 87, 133]))),
+        Err(_) => Ok(None),
+    }
 }
 
 #[test]
@@ -97,17 +129,22 @@ fn many_listings_are_merged_or_refused(rt: HostRuntime) -> Result<(), Fail> {
     let (mut was_refused, mut finished) = (false, false);
     for step in 1..200 {
         let heap = LocalHeap::new(rt.alloc(), 16 * step)?;
-        let Ok(both) = in_one_vector(&heap) else {
-            continue;
-        };
-        if let Ok(all) = Listing::merge_all(&heap, both) {
-            assert!(rt; stands_at(&all, &[41, 87, 133]));
-            finished = true;
-            break;
+        match merged_in(&heap) {
+            Ok(Some(is_right)) => {
+                assert!(rt; is_right);
+                finished = true;
+                break;
+            }
+            Ok(None) => was_refused = true,
+            Err(_) => {}
         }
-        was_refused = true;
     }
     assert!(rt; was_refused && finished);
+    Ok(())
+}
+
+#[test]
+fn no_listings_have_no_sales(rt: HostRuntime) -> Result<(), Fail> {
     let heap = LocalHeap::new(rt.alloc(), 1 << 12)?;
     assert!(rt; merged_none(&heap)?.items().is_empty());
     Ok(())

@@ -8,6 +8,7 @@ use crate::bar_ranges::{joined, names, sale};
 use probe::Sale;
 use std::alloc::Global;
 use std::test::Fail;
+use std::thread::Threads;
 use time_and_sales::{Listing, Names, OutOfMemory, lines_in_ranges, write_sale};
 
 /// Sales of two listings, whose places lie between one another.
@@ -76,18 +77,27 @@ fn lines(alloc: Global, listing: &Listing, names: &Names) -> Result<Vec<u8>, Out
     Ok(text)
 }
 
+/// The lines of the sales that threads make by so many ranges, and in how many pieces.
+fn lines_by_ranges(
+    rt: &(impl Threads + Sync),
+    alloc: Global,
+    ranges: u32,
+) -> Result<(Vec<u8>, usize), OutOfMemory> {
+    let (one, other) = listings(alloc)?;
+    let names = names(alloc)?;
+    let pieces = lines_in_ranges(rt, alloc, &[&one, &other], &names, ranges)?;
+    Ok((joined(alloc, pieces.as_slice())?, pieces.len()))
+}
+
 #[test]
 fn lines_of_sales_in_ranges_are_those_of_one_listing(rt: HostRuntime) -> Result<(), Fail> {
     let alloc = rt.alloc();
-    let (one, other) = listings(alloc)?;
-    let names = names(alloc)?;
-    let want = lines(alloc, &merged(alloc)?, &names)?;
+    let want = lines(alloc, &merged(alloc)?, &names(alloc)?)?;
     assert!(rt; want.as_slice() == LINES.as_bytes());
     for ranges in [1, 2, 3, 5, 100] {
-        let pieces = lines_in_ranges(&rt, alloc, &[&one, &other], &names, ranges)?;
-        assert!(rt; pieces.len() == ranges as usize, "{ranges}");
-        let text = joined(alloc, pieces.as_slice())?;
-        assert!(rt; text.as_slice() == want.as_slice(), "{ranges}");
+        let (text, pieces) = lines_by_ranges(&rt, rt.alloc(), ranges)?;
+        assert!(rt; pieces == ranges as usize, "{ranges}");
+        assert!(rt; text.as_slice() == LINES.as_bytes(), "{ranges}");
     }
     Ok(())
 }

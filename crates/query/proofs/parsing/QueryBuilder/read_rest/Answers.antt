@@ -5,7 +5,7 @@ use Rattle.query.specs.Faults.{linked, moment, read_from, step}
 use Rattle.query.specs.Grammar.{Said}
 use Rattle.query.specs.Words.{IsLater}
 use Rattle.query.proofs.WordByWord.{reading, refused_later}
-use Rattle.query.proofs.parsing.Reading.read_rest.Goals as goal
+use Rattle.query.proofs.parsing.QueryBuilder.read_rest.Goals as goal
 
 pub returns-then-is-clause-err : goal.returns-then-is-clause-err
 unfolding step

@@ -9,7 +9,7 @@ use Rattle.std.proofs.lemmas.Option.{get_or_from_slice_get}
 use Rattle.lists.proofs.Lists.{flat_map_push}
 use Rattle.morsel_rows.specs.SameRows.{is_same_partition, partition_equiv}
 use Rattle.morsel_rows.specs.Partitions.{MorselRowsView, PartitionView, joined_partitions, no_rows_in, partition_at}
-use Rattle.buckets.specs.BucketRows.{rows_at, rows_of_parts}
+use Rattle.buckets.specs.BucketRows.{rows_at, rows_of_partitions}
 
 -- rows, and others after them
 with_rows : PartitionView → PartitionView → PartitionView
@@ -22,13 +22,14 @@ with_rows rows more = record {
 same_rows : {one other : PartitionView} → one.orders ≡ other.orders → one.executions ≡ other.executions → one.own_priced ≡ other.own_priced → one ≡ other
 same_rows orders executions own_priced = λ i. record { orders = orders i; executions = executions i; own_priced = own_priced i }
 
-joined_more : (parts : List PartitionView) (part : PartitionView) → joined_partitions (parts ++ part ∷ []) ≡ with_rows (joined_partitions parts) part
+joined_more : (partitions : List PartitionView) (partition : PartitionView)
+    → joined_partitions (partitions ++ partition ∷ []) ≡ with_rows (joined_partitions partitions) partition
 unfolding with_rows
-joined_more parts part =
+joined_more partitions partition =
     same_rows
-    (flat_map_push (λ (rows : PartitionView). rows.orders) parts part)
-    (flat_map_push (λ (rows : PartitionView). rows.executions) parts part)
-    (flat_map_push (λ (rows : PartitionView). rows.own_priced) parts part)
+    (flat_map_push (λ (rows : PartitionView). rows.orders) partitions partition)
+    (flat_map_push (λ (rows : PartitionView). rows.executions) partitions partition)
+    (flat_map_push (λ (rows : PartitionView). rows.own_priced) partitions partition)
 
 joined_none : (rows : PartitionView) → with_rows rows no_rows_in ≡ rows
 unfolding with_rows
@@ -52,30 +53,33 @@ module _ (number i : ℕ) (morsels : List (Arc MorselRowsView Global)) (d : Arc 
       ∙ joined_more (rows_at number (take i morsels)) (at (get_or morsels i d))
 
   -- it has one of the number
-  pub part_more : (parts new : List (Bor PartitionView)) (part : Bor PartitionView) → rows_of_parts parts ≡ joined_partitions (rows_at number (take i morsels))
-      → new ≡ parts ++ part ∷ [] → slice_get (arc_value (get_or morsels i d)).partitions number ≡ Some part.now
-      → rows_of_parts new ≡ joined_partitions (rows_at number (take (i + 1) morsels))
-  part_more parts new part before pushed there =
+  pub partition_more : (partitions new : List (Bor PartitionView)) (partition : Bor PartitionView)
+      → rows_of_partitions partitions ≡ joined_partitions (rows_at number (take i morsels))
+      → new ≡ partitions ++ partition ∷ [] → slice_get (arc_value (get_or morsels i d)).partitions number ≡ Some partition.now
+      → rows_of_partitions new ≡ joined_partitions (rows_at number (take (i + 1) morsels))
+  partition_more partitions new partition before pushed there =
       let now : Bor PartitionView → PartitionView = λ p. p.now in
-      ap (λ l. joined_partitions (map now l)) pushed ∙ ap joined_partitions (map_push now parts part) ∙ joined_more (map now parts) part.now
-      ∙ ap₂ with_rows before (sym (get_or_from_slice_get (arc_value (get_or morsels i d)).partitions number part.now no_rows_in there)) ∙ sym morsel_more
+      ap (λ l. joined_partitions (map now l)) pushed ∙ ap joined_partitions (map_push now partitions partition)
+      ∙ joined_more (map now partitions) partition.now
+      ∙ ap₂ with_rows before (sym (get_or_from_slice_get (arc_value (get_or morsels i d)).partitions number partition.now no_rows_in there)) ∙ sym morsel_more
 
   -- it has none
-  pub part_missing : (parts : List (Bor PartitionView)) → rows_of_parts parts ≡ joined_partitions (rows_at number (take i morsels))
-      → length (arc_value (get_or morsels i d)).partitions ≤ number → rows_of_parts parts ≡ joined_partitions (rows_at number (take (i + 1) morsels))
-  part_missing parts before past =
+  pub partition_missing : (partitions : List (Bor PartitionView)) → rows_of_partitions partitions ≡ joined_partitions (rows_at number (take i morsels))
+      → length (arc_value (get_or morsels i d)).partitions ≤ number → rows_of_partitions partitions ≡ joined_partitions (rows_at number (take (i + 1) morsels))
+  partition_missing partitions before past =
       before
       ∙ sym (morsel_more
       ∙ ap (with_rows (joined_partitions (rows_at number (take i morsels)))) (get_or_past (arc_value (get_or morsels i d)).partitions number no_rows_in past)
       ∙ joined_none (joined_partitions (rows_at number (take i morsels))))
 
   -- it has one without rows
-  pub part_empty : (parts : List (Bor PartitionView)) (part : PartitionView) → rows_of_parts parts ≡ joined_partitions (rows_at number (take i morsels))
-      → slice_get (arc_value (get_or morsels i d)).partitions number ≡ Some part → part ≡ no_rows_in
-      → rows_of_parts parts ≡ joined_partitions (rows_at number (take (i + 1) morsels))
-  part_empty parts part before there empty =
+  pub partition_empty : (partitions : List (Bor PartitionView)) (partition : PartitionView)
+      → rows_of_partitions partitions ≡ joined_partitions (rows_at number (take i morsels))
+      → slice_get (arc_value (get_or morsels i d)).partitions number ≡ Some partition → partition ≡ no_rows_in
+      → rows_of_partitions partitions ≡ joined_partitions (rows_at number (take (i + 1) morsels))
+  partition_empty partitions partition before there empty =
       before
       ∙ sym (morsel_more
       ∙ ap (with_rows (joined_partitions (rows_at number (take i morsels))))
-      (get_or_from_slice_get (arc_value (get_or morsels i d)).partitions number part no_rows_in there ∙ empty)
+      (get_or_from_slice_get (arc_value (get_or morsels i d)).partitions number partition no_rows_in there ∙ empty)
       ∙ joined_none (joined_partitions (rows_at number (take i morsels))))

@@ -1,7 +1,7 @@
 use Rattle.std.proofs.Common.{◌≡◌, codes, length}
 use Rattle.query.specs.Faults.{read_from, condition, linked}
 use Rattle.query.specs.Words.{IsLater}
-use Rattle.query.proofs.parsing.Reading.read_conditions.Given as goal
+use Rattle.query.proofs.parsing.QueryBuilder.read_conditions.Given as goal
 
 abbrev pub invariant-loop-word : goal.invariant-loop-word
 invariant-loop-word g l =

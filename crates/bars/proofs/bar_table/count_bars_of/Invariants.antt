@@ -1,9 +1,0 @@
-use Rattle.std.proofs.Common.{All, take}
-use Rattle.row_types.specs.declared.trade.Sale.{Sale}
-use Rattle.bars.specs.Bars.{IsTraded}
-use Rattle.bars.specs.Steps.{bar_of_one}
-use Rattle.bars.proofs.bar_table.count_bars_of.Given as goal
-
--- the bars of the sales so far are traded
-abbrev pub invariant-loop-sale : goal.invariant-loop-sale
-invariant-loop-sale l = All (λ (s : Sale). IsTraded (bar_of_one l.width s)) (take l.sale-index l.sales)
