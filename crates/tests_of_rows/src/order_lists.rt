@@ -152,12 +152,12 @@ fn rows_near_the_first_take_twelve_bytes(rt: HostRuntime) -> Result<(), Fail> {
 
 /// Pushes rows until one is refused, and says how many were taken.
 fn pushed<A: Allocator + Copy>(list: &mut OrderList<A>, rows: &[(u64, u64)]) -> usize {
-    let mut count = 0;
+    let mut count = 0usize;
     for (order_no, place) in rows {
         if list.push(order(*order_no, *place)).is_err() {
             break;
         }
-        count += 1;
+        count = count.saturating_add(1);
     }
     count
 }

@@ -11,7 +11,7 @@ use Rattle.bars.proofs.bar_table.put_in_order.Goals as goal
 pub loop-sale-init : goal.loop-sale-init
 loop-sale-init g c = record {
   shares = rw c.as_slice-in_order.ensures.value
-  (All-permutation (λ (s : Sale). 0 < s.shares) c.args.sales.now.items _ c.sort_unstable_by_key.ensures.permutation c.requires.shares);
+      (All-permutation (λ (s : Sale). 0 < s.shares) c.args.sales.now.items _ c.sort_unstable_by_key.ensures.permutation c.requires.shares);
   traded = search rules;
 }
 
@@ -19,7 +19,7 @@ pub loop-sale-preserved : goal.loop-sale-preserved
 loop-sale-preserved g c = record {
   shares = c.loop-sale.invariant.shares;
   traded = All-more (λ (s : Sale). IsTraded (bar_of_one c.args.width s)) c.as_slice-in_order.result.now c.loop-sale.sale-index no_sale
-    c.loop-sale-test.true c.loop-sale.invariant.traded (rw c.of_sale-bar.ensures.value at c.of_sale-bar.ensures.traded);
+      c.loop-sale-test.true c.loop-sale.invariant.traded (rw c.of_sale-bar.ensures.value at c.of_sale-bar.ensures.traded);
 }
 
 pub returns-clause-rise : goal.returns-clause-rise
