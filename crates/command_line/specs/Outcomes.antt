@@ -24,7 +24,7 @@ module _ (job : Job) (out errors : Device) (status : ℕ) where
       × (status ≡ status_of_outcome outcome)
       × Reported errors outcome
 
-  -- the job was done over a stream, from some state of it to a later one; the status says whether it failed
+  -- the job was done over some stream, from a state of it to a later one; the status says whether it failed
   abbrev pub DidStream : {S : Type 0} → SourceOf S → Type 0
   DidStream {S} stream =
       (before : S) × (after : S) × (stream.has_failed before ≡ false)
@@ -35,6 +35,6 @@ module _ (job : Job) (out errors : Device) (status : ℕ) where
   abbrev pub DidBlocks : {S : Type 0} → BlockSourceOf S → Type 0
   DidBlocks {S} file = (job.morsel_given ≡ false) × (source : S) × Did (of_blocks file job.settings.limit source)
 
-  -- the file could not be opened: a failed reading is told, and the output was left alone
+  -- what is told of a file that could not be opened: a failed reading, and the output was left alone
   abbrev pub DidNotOpen : Type 0
   DidNotOpen = Told errors status fault.ReadFailed × (out.after ≡ out.before)

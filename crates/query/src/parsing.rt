@@ -1,5 +1,7 @@
 //! Reads a text as a query.
-ghost use Rattle.std.specs.Prelude.{◌≡◌, ◌≢◌, IfOk, IfErr, MatchResult, OnOk, Ok, Err, Some, codes, true};
+#![tactic(auto, using(crate::proofs::WordByWord::reading), unfolding(crate::specs::Faults::step))]
+
+ghost use Rattle.std.specs.Prelude.{◌≡◌, ◌≢◌, ◌≤◌, IfOk, IfErr, IfSome, MatchResult, OnOk, Ok, Err, Some, codes, true};
 ghost use Rattle.query.specs.Faults.{condition, first_query_fault, IsRefused, kind_list, linked, moment, query};
 ghost use Rattle.query.specs.Faults.{read_from, symbol_list, time_span, width};
 ghost use Rattle.query.specs.Grammar.{Means, meaning_of, only};
@@ -31,13 +33,12 @@ pub fn parse<A: Allocator + Clone>(alloc: A, text: &str) -> Result<Query<A>, Que
         MatchResult result (λ query. query ≡ meaning) (λ fault. fault ≡ QueryFault.OutOfMemory) }
 {
     let mut words = Words::of(text.as_bytes());
-    let mut builder = QueryBuilder::only(read_what(&mut words)?);
-    builder.read_rest(&alloc, &mut words)?;
+    let mut builder = QueryBuilder::new(read_what(&mut words)?, words.moment()?);
+    builder.read_filter(&alloc, &mut words)?;
     Ok(builder.into_query())
 }
 
 /// Reads `sales`, or `bars` and a width.
-#[tactic(auto, using(crate::proofs::WordByWord::reading), unfolding(crate::specs::Faults::step))]
 fn read_what(words: &mut Words<'_>) -> Result<What, QueryFault>
     ensures ok { IfOk result (λ what.
         read_from query words.old ≡ read_from (moment (only what)) words.new) }
@@ -48,15 +49,15 @@ fn read_what(words: &mut Words<'_>) -> Result<What, QueryFault>
     let word = words.required()?;
     if word.is(b"sales") {
         Ok(What::Sales)
-    } else {
-        word.require(b"bars")?;
+    } else if word.is(b"bars") {
         let width = read_width(words)?;
         Ok(What::Bars { width })
+    } else {
+        Err(QueryFault::UnknownWord { at: word.at })
     }
 }
 
 /// Reads a number and its unit.
-#[tactic(auto, using(crate::proofs::WordByWord::reading), unfolding(crate::specs::Faults::step))]
 fn read_width(words: &mut Words<'_>) -> Result<u32, QueryFault>
     ensures ok { IfOk result (λ seconds.
         read_from width words.old ≡ read_from (moment (only (Bars seconds))) words.new) }
@@ -107,14 +108,15 @@ impl<A: Allocator> Model for QueryBuilder<A> {
 }
 
 impl<A: Allocator + Clone> QueryBuilder<A> {
-    /// No moment and no condition was given yet.
-    pub(crate) fn only(what: What) -> Self
-        requires { HasWidth what }
-        ensures { result ≡ only what }
+    /// No condition was given yet.
+    pub(crate) fn new(what: What, as_of: Option<u32>) -> Self
+        requires listed { HasWidth what }
+        requires moment { IfSome as_of (λ time. time ≤ SECONDS_OF_DAY) }
+        ensures { result ≡ record (only what) { as_of = as_of } }
     {
         QueryBuilder {
             what,
-            as_of: None,
+            as_of,
             symbols: None,
             span: None,
             kinds: None,
@@ -135,53 +137,20 @@ impl<A: Allocator + Clone> QueryBuilder<A> {
         }
     }
 
-    /// Reads what may follow what is listed: `as of` and a time, and then a filter.
-    #[tactic(auto, using(crate::proofs::WordByWord::reading), unfolding(crate::specs::Faults::step))]
-    pub(crate) fn read_rest(&mut self, alloc: &A, words: &mut Words<'_>) -> Result<(), QueryFault>
-        ensures ok { OnOk result (read_from (moment self.old) words.old ≡ Ok (meaning_of self.new)) }
-        ensures err { IfErr result (IsRefused (moment self.old) words.old) }
-    {
-        let Some(word) = words.next() else {
-            return Ok(());
-        };
-        if word.is(b"as") {
-            words.required()?.require(b"of")?;
-            self.as_of = Some(words.required()?.time()?);
-            return self.read_filter(alloc, words);
-        }
-        word.require(b"where")?;
-        self.read_conditions(alloc, words)
-    }
-
-    /// Reads to the end of the text: nothing, or `where` and conditions.
-    #[tactic(auto, using(crate::proofs::WordByWord::reading), unfolding(crate::specs::Faults::step))]
-    fn read_filter(&mut self, alloc: &A, words: &mut Words<'_>) -> Result<(), QueryFault>
+    /// Reads to the end of the text: nothing, or `where` and conditions with `and` between each two.
+    pub(crate) fn read_filter(&mut self, alloc: &A, words: &mut Words<'_>) -> Result<(), QueryFault>
         ensures ok { OnOk result (read_from (linked (codes "where") self.old) words.old ≡ Ok (meaning_of self.new)) }
         ensures err { IfErr result (IsRefused (linked (codes "where") self.old) words.old) }
     {
-        let Some(word) = words.next() else {
-            return Ok(());
-        };
-        word.require(b"where")?;
-        self.read_conditions(alloc, words)
-    }
-
-    /// Reads the conditions after `where`, to the end of the text.
-    #[tactic(auto, using(crate::proofs::WordByWord::reading), unfolding(crate::specs::Faults::step))]
-    fn read_conditions(&mut self, alloc: &A, words: &mut Words<'_>) -> Result<(), QueryFault>
-        ensures ok { OnOk result (read_from (condition self.old) words.old ≡ Ok (meaning_of self.new)) }
-        ensures err { IfErr result (IsRefused (condition self.old) words.old) }
-    {
-        self.read_condition(alloc, words)?;
-        while let Some(word) = words.next() {
-            word.require(b"and")?;
+        let mut link = b"where".as_slice();
+        while words.follows(link)? {
             self.read_condition(alloc, words)?;
+            link = b"and";
         }
         Ok(())
     }
 
     /// Reads one condition.
-    #[tactic(auto, using(crate::proofs::WordByWord::reading), unfolding(crate::specs::Faults::step))]
     fn read_condition(&mut self, alloc: &A, words: &mut Words<'_>) -> Result<(), QueryFault>
         ensures ok { OnOk result (read_from (condition self.old) words.old
             ≡ read_from (linked (codes "and") self.new) words.new) }
@@ -211,7 +180,6 @@ impl<A: Allocator + Clone> QueryBuilder<A> {
     }
 
     /// Reads `in` and a list of symbols.
-    #[tactic(auto, using(crate::proofs::WordByWord::reading), unfolding(crate::specs::Faults::step))]
     fn read_symbols(&mut self, alloc: &A, words: &mut Words<'_>) -> Result<(), QueryFault>
         ensures ok { OnOk result (read_from (symbol_list self.old) words.old
             ≡ read_from (linked (codes "and") self.new) words.new) }
@@ -221,16 +189,13 @@ impl<A: Allocator + Clone> QueryBuilder<A> {
             begins_list words.old ≡ true) }
         ensures later { OnOk result (IsLater words.old words.new) }
     {
-        words.required()?.require(b"in")?;
-        let list = words.required()?;
-        let alloc = alloc.clone().map_err(|_| QueryFault::OutOfMemory)?;
+        let list = words.after(b"in")?;
         let symbols = symbols_of(alloc, list.bytes).map_err(|_| QueryFault::OutOfMemory)?;
         self.symbols = Some(symbols.ok_or(QueryFault::UnknownWord { at: list.at })?);
         Ok(())
     }
 
     /// Reads `from`, a time, `until` and a time.
-    #[tactic(auto, using(crate::proofs::WordByWord::reading), unfolding(crate::specs::Faults::step))]
     fn read_span(&mut self, words: &mut Words<'_>) -> Result<(), QueryFault>
         ensures ok { OnOk result (read_from (time_span self.old) words.old
             ≡ read_from (linked (codes "and") self.new) words.new) }
@@ -238,10 +203,8 @@ impl<A: Allocator + Clone> QueryBuilder<A> {
             × (read_from (time_span self.old) words.old ≡ Err fault)) }
         ensures later { OnOk result (IsLater words.old words.new) }
     {
-        words.required()?.require(b"from")?;
-        let since = words.required()?.time()?;
-        words.required()?.require(b"until")?;
-        let until = words.required()?.time()?;
+        let since = words.time_after(b"from")?;
+        let until = words.time_after(b"until")?;
         if since < until {
             self.span = Some(Span { since, until });
             Ok(())
@@ -259,8 +222,7 @@ impl<A: Allocator + Clone> QueryBuilder<A> {
             × (read_from (kind_list self.old) words.old ≡ Err fault)) }
         ensures later { OnOk result (IsLater words.old words.new) }
     {
-        words.required()?.require(b"in")?;
-        let list = words.required()?;
+        let list = words.after(b"in")?;
         self.kinds = Some(kinds_of(list.bytes).ok_or(QueryFault::UnknownWord { at: list.at })?);
         Ok(())
     }

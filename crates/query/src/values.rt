@@ -108,13 +108,13 @@ pub(crate) fn time_of(bytes: &[u8]) -> Option<u32>
 
 /// The symbols of a list with a comma between each two, if it is one.
 #[tactic(auto, using(crate::proofs::SymbolLists::lists), unfolding(crate::specs::Values::symbols_of))]
-pub(crate) fn symbols_of<A: Allocator>(
-    alloc: A,
+pub(crate) fn symbols_of<A: Allocator + Clone>(
+    alloc: &A,
     bytes: &[u8],
 ) -> Result<Option<Symbols<A>>, OutOfMemory>
     ensures { IfOk result (λ symbols. symbols ≡ symbols_of bytes.now) }
 {
-    let mut items = Vec::new(alloc);
+    let mut items = Vec::new(alloc.clone()?);
     let mut rest = Some(bytes);
     while let Some(text) = rest {
         let (part, after) = cut(text, COMMA);

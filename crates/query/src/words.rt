@@ -1,9 +1,13 @@
 //! The words of a text, one after the other.
+#![tactic(auto, using(crate::proofs::WordByWord::reading), unfolding(crate::specs::Faults::step))]
+
 ghost use Rattle.std.specs.Prelude.{◌≡◌, ◌+◌, ◌<◌, ◌≤◌, ◌^◌, ◌∷◌, ◌++◌, [], length, MatchOption, IfOk, IfErr, IfSome};
-ghost use Rattle.std.specs.Prelude.{OnOk, position, ◌==◌, None, Some, true, false};
+ghost use Rattle.std.specs.Prelude.{OnOk, position, ◌==◌, ◌≢◌, if◌then◌else◌, codes, Ok, Err, ℕ, true};
 ghost use Rattle.std.specs.Option.{option_map_or};
-ghost use Rattle.query.specs.Words.{IsLater, Word, split_by, reads_as, word, words_from};
+ghost use Rattle.query.specs.Words.{IsLater, Word, begins_list, lists_symbols, split_by, reads_as, word, words_from};
 ghost use Rattle.query.specs.Values.{time_of};
+ghost use Rattle.query.specs.Faults.{Next, condition, linked, moment, needs, read_from, text, timed};
+ghost use Rattle.query.specs.Grammar.{Said, meaning_of, only};
 
 use crate::values::time_of;
 use lists::limits::SECONDS_OF_DAY;
@@ -97,6 +101,70 @@ impl<'a> Words<'a> {
     {
         self.next().ok_or(QueryFault::Incomplete)
     }
+
+    /// The word after this one, both of which must be there.
+    pub(crate) fn after(&mut self, first: &[u8]) -> Result<Word<'a>, QueryFault>
+        ensures ok { IfOk result (λ next. (leads : _ → Next) → read_from (text first.now (needs leads)) self.old
+            ≡ read_from (leads (word next.at next.bytes.now)) self.new) }
+        ensures err { IfErr result (λ fault. (fault ≢ QueryFault.OutOfMemory)
+            × ((leads : _ → Next) → read_from (text first.now (needs leads)) self.old ≡ Err fault)) }
+        ensures later { OnOk result (IsLater self.old self.new) }
+        ensures listed { OnOk result (first.now ≡ codes "in" → begins_list self.old ≡ true) }
+    {
+        let word = self.required()?;
+        if !word.is(first) {
+            return Err(QueryFault::UnknownWord { at: word.at });
+        }
+        self.required()
+    }
+
+    /// The time after this word.
+    pub(crate) fn time_after(&mut self, first: &[u8]) -> Result<u32, QueryFault>
+        ensures ok { IfOk result (λ time. (leads : ℕ → Next)
+            → read_from (text first.now (timed leads)) self.old ≡ read_from (leads time) self.new) }
+        ensures small { IfOk result (λ time. time ≤ SECONDS_OF_DAY) }
+        ensures err { IfErr result (λ fault. (fault ≢ QueryFault.OutOfMemory)
+            × ((leads : ℕ → Next) → read_from (text first.now (timed leads)) self.old ≡ Err fault)) }
+        ensures later { OnOk result (IsLater self.old self.new) }
+    {
+        let word = self.after(first)?;
+        time_of(word.bytes).ok_or(QueryFault::BadTime { at: word.at })
+    }
+
+    /// Whether this word comes next, and not the end.
+    pub(crate) fn follows(&mut self, link: &[u8]) -> Result<bool, QueryFault>
+        ensures ok { IfOk result (λ more. (said : Said) → read_from (linked link.now said) self.old
+            ≡ (if more then read_from (condition said) self.new else Ok (meaning_of said))) }
+        ensures err { IfErr result (λ fault. (fault ≢ QueryFault.OutOfMemory)
+            × ((said : Said) → read_from (linked link.now said) self.old ≡ Err fault)) }
+        ensures later { IfOk result (λ more. more ≡ true → IsLater self.old self.new) }
+    {
+        match self.next() {
+            None => Ok(false),
+            Some(word) if word.is(link) => Ok(true),
+            Some(word) => Err(QueryFault::UnknownWord { at: word.at }),
+        }
+    }
+
+    /// The time after `as of`, if `as` comes next.
+    pub(crate) fn moment(&mut self) -> Result<Option<u32>, QueryFault>
+        ensures ok { IfOk result (λ as_of. (what : _) → read_from (moment (only what)) self.old
+            ≡ read_from (linked (codes "where") (record (only what) { as_of = as_of })) self.new) }
+        ensures small { IfOk result (λ as_of. IfSome as_of (λ time. time ≤ SECONDS_OF_DAY)) }
+        ensures err { IfErr result (λ fault. (fault ≢ QueryFault.OutOfMemory)
+            × ((what : _) → read_from (moment (only what)) self.old ≡ Err fault)) }
+        ensures listed { OnOk result (lists_symbols self.new ≡ true → lists_symbols self.old ≡ true) }
+    {
+        let mut ahead = Words {
+            at: self.at,
+            rest: self.rest,
+        };
+        match ahead.next() {
+            Some(word) if word.is(b"as") => *self = ahead,
+            _ => return Ok(None),
+        }
+        Ok(Some(self.time_after(b"of")?))
+    }
 }
 
 impl Word<'_> {
@@ -105,29 +173,5 @@ impl Word<'_> {
         ensures { result ≡ reads_as text.now (word self.now.at self.now.bytes.now) }
     {
         self.bytes == text
-    }
-
-    /// The word must be the text.
-    pub(crate) fn require(&self, text: &[u8]) -> Result<(), QueryFault>
-        ensures ok { IfOk result (λ _.
-            reads_as text.now (word self.now.at self.now.bytes.now) ≡ true) }
-        ensures err { IfErr result (λ fault. (fault ≡ QueryFault.UnknownWord self.now.at)
-            × (reads_as text.now (word self.now.at self.now.bytes.now) ≡ false)) }
-    {
-        if self.is(text) {
-            Ok(())
-        } else {
-            Err(QueryFault::UnknownWord { at: self.at })
-        }
-    }
-
-    /// The word must be a time.
-    pub(crate) fn time(&self) -> Result<u32, QueryFault>
-        ensures ok { IfOk result (λ time. time_of self.now.bytes.now ≡ Some time) }
-        ensures small { IfOk result (λ time. time ≤ SECONDS_OF_DAY) }
-        ensures err { IfErr result (λ fault. (fault ≡ QueryFault.BadTime self.now.at)
-            × (time_of self.now.bytes.now ≡ None)) }
-    {
-        time_of(self.bytes).ok_or(QueryFault::BadTime { at: self.at })
     }
 }

@@ -55,11 +55,11 @@ module _ {K : Type 0} (reading : Reading) (sink : SinkOf K) where
   -- `of_blocks` of a file that is read at places. Of a file `untouched` and `some` say nothing, so `Query` and
   -- `OutOfMemory` say less of it; and `too_many` never holds, so it never has the outcome `TooManyMorsels`.
   abbrev pub Ran : List ℕ → ℕ → K → K → Result (Unit {0}) RunFault → Type 0
-  -- the words mean no query, and this is their first fault; and nothing was read of a stream
+  -- the words have this first fault, and so mean no query (`meaning_or_fault`); and nothing was read of a stream
   Ran words limit before after (Err (fault.Query f)) =
       (first_query_fault (words_of words) ≡ Some f) × reading.untouched × (after ≡ before)
   -- a stream gave no more than the limit and a byte; that a call of it failed, the clause `read_failed` of `run` says.
-  -- Of a file, a reading failed.
+  -- Of a file, a reading failed, if its source says which fail.
   Ran words limit before after (Err fault.ReadFailed) = IsQuery words × reading.failed × (after ≡ before)
   -- a stream gave the limit and a byte, a reading of a file gave a byte at the limit; and this is the limit
   Ran words limit before after (Err (fault.TooLong most)) =
@@ -74,12 +74,12 @@ module _ {K : Type 0} (reading : Reading) (sink : SinkOf K) where
   -- the others come of an answer: its text was written, or a part of it; or it is a fault of the day
   Ran words limit before after handed = IsHandedOver sink (Answers reading words) before after handed
 
--- the run's sink failed
+-- the result says that the sink failed
 abbrev pub is_write_failed : {T : Type 0} → Result T RunFault → Bool
 is_write_failed (Err (fault.WriteFailed written)) = true
 is_write_failed _ = false
 
--- the run's source failed
+-- the result says that the source failed
 abbrev pub is_read_failed : {T : Type 0} → Result T RunFault → Bool
 is_read_failed (Err fault.ReadFailed) = true
 is_read_failed _ = false

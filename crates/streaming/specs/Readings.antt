@@ -15,13 +15,13 @@ use Rattle.streaming.specs.declared.fault.SourceFault.TheVariants as fault
 pub record Reading : Type 1 where
   -- all that the source had to give, which isn't more than the limit, was read, and is these bytes
   pub all : List ℕ → Type 0
-  -- these bytes may be answered over, since they don't have too many morsels
+  -- these bytes may be answered over: they don't have too many morsels, or they are truncated
   pub answerable : List ℕ → Type 0
-  -- it was read in part, or not at all: what is known of that part
+  -- it was read in part, whole or not at all: what is known of what it gave
   pub some : Type 0
   -- it gave more than the limit
   pub longer : Type 0
-  -- a call of it failed: what is known of what it had given
+  -- what is known if a failed call of it is reported
   pub failed : Type 0
   -- all that it had to give was read, and has too many morsels
   pub too_many : Type 0
@@ -29,7 +29,7 @@ pub record Reading : Type 1 where
   pub untouched : Type 0
 
 -- what each refusal of a source says of it. What is truncated may be answered over: that it is truncated is the answer.
--- Out of memory says only what is known of a source that was read in part.
+-- Out of memory says only what is known of a source however much of it was read.
 abbrev pub IsSourceFault : Reading → SourceFault → Type 0
 IsSourceFault reading fault.ReadFailed = reading.failed
 IsSourceFault reading fault.TooLong = reading.longer

@@ -50,12 +50,18 @@ fn message(number: u64) -> Message {
     }
 }
 
-/// The rows of sixty messages in so many partitions.
-fn rows_in<A: Allocator + Copy>(alloc: A, parts: u32) -> Result<MorselRows<A>, AllocError> {
-    let mut rows = MorselRows::new(alloc, parts.max(1), 0)?;
+/// Adds the rows of sixty messages.
+fn add_sixty<A: Allocator + Copy>(rows: &mut MorselRows<A>) -> Result<(), AllocError> {
     for number in 0..60u64 {
         rows.add_counted(None, 50 * number, &message(number))?;
     }
+    Ok(())
+}
+
+/// The rows of sixty messages in so many partitions.
+fn rows_in<A: Allocator + Copy>(alloc: A, parts: u32) -> Result<MorselRows<A>, AllocError> {
+    let mut rows = MorselRows::new(alloc, parts.max(1), 0)?;
+    add_sixty(&mut rows)?;
     Ok(rows)
 }
 
@@ -76,34 +82,56 @@ fn are_same<A: Allocator>(one: &MorselRows<A>, other: &MorselRows<A>, parts: u32
 #[test]
 fn divided_rows_are_those_of_as_many_partitions(rt: HostRuntime) -> Result<(), Fail> {
     for (parts, pieces) in [(1, 1), (1, 11), (2, 3), (64, 11), (7, 53)] {
-        let divided = rows_in(rt.alloc(), parts)?.divided(rt.alloc(), pieces.max(1))?;
-        let all = parts.saturating_mul(pieces);
-        let want = rows_in(rt.alloc(), all)?;
-        assert!(rt; are_same(&divided, &want, all), "{parts} {pieces}");
+        assert!(rt; are_divided(rt.alloc(), parts, pieces)?, "{parts} {pieces}");
     }
     Ok(())
 }
 
-/// Whether the rows of two partitions, divided into three times as many, are those of six.
-fn is_divided<A: Allocator + Copy>(alloc: A, rows: &MorselRows<A>) -> Result<bool, AllocError> {
-    let divided = rows.divided(alloc, 3)?;
-    let want = rows_in(alloc, 6)?;
-    Ok(are_same(&divided, &want, 6))
+/// Whether these are the rows of sixty messages in so many partitions.
+fn are_rows_in<A: Allocator + Copy>(
+    alloc: A,
+    rows: &MorselRows<A>,
+    parts: u32,
+) -> Result<bool, AllocError> {
+    let want = rows_in(alloc, parts)?;
+    Ok(are_same(rows, &want, parts))
 }
 
-/// Whether rows that are divided within so many bytes are those of as many partitions; None if there is no room,
-/// and nothing is kept then.
-fn is_divided_within(alloc: Global, bytes: usize) -> Result<Option<bool>, AllocError> {
-    let heap = LocalHeap::new(alloc, bytes)?;
-    let Ok(rows) = rows_in(&heap, 2) else {
-        return Ok(None);
+/// Whether rows, divided into so many times as many partitions, are those of as many.
+fn is_divided<A: Allocator + Copy>(
+    alloc: A,
+    rows: &MorselRows<A>,
+    parts: u32,
+    pieces: u32,
+) -> Result<bool, AllocError> {
+    let divided = rows.divided(alloc, pieces.max(1))?;
+    are_rows_in(alloc, &divided, parts.saturating_mul(pieces))
+}
+
+/// Whether the rows of so many partitions, divided into so many times as many, are those of as many.
+fn are_divided(alloc: Global, parts: u32, pieces: u32) -> Result<bool, AllocError> {
+    let rows = rows_in(alloc, parts)?;
+    is_divided(alloc, &rows, parts, pieces)
+}
+
+/// Whether the rows of two partitions, divided in the heap into three times as many, are those of six; None if there is
+/// no room, and nothing is kept then.
+fn is_divided_in(heap: &LocalHeap) -> Option<bool> {
+    let Ok(rows) = rows_in(heap, 2) else {
+        return None;
     };
     let used = heap.used();
-    match is_divided(&heap, &rows) {
-        Ok(is_right) => Ok(Some(is_right)),
-        Err(_) if heap.used() == used => Ok(None),
-        Err(_) => Ok(Some(false)),
+    match is_divided(heap, &rows, 2, 3) {
+        Ok(is_right) => Some(is_right),
+        Err(_) if heap.used() == used => None,
+        Err(_) => Some(false),
     }
+}
+
+/// The same within so many bytes.
+fn is_divided_within(alloc: Global, bytes: usize) -> Result<Option<bool>, AllocError> {
+    let heap = LocalHeap::new(alloc, bytes)?;
+    Ok(is_divided_in(&heap))
 }
 
 #[test]

@@ -1,6 +1,7 @@
 //! Lists of order rows: lean, narrow and wide ones, and the memory that they take.
+use crate::rows::{bounds_of, list_of, order, place_of, push_each, rises};
 use linked_list_allocator::LocalHeap;
-use morsel_rows::{OrderList, OutOfMemory, RisingRows};
+use morsel_rows::{OrderList, OutOfMemory};
 use order_table::OrderRow;
 use std::alloc::{Allocator, Global};
 use std::test::Fail;
@@ -37,22 +38,14 @@ const LISTS: [&[(u64, u64)]; 9] = [
     ],
 ];
 
-/// An order of this reference at this place.
-fn order(order_no: u64, place: u64) -> OrderRow {
-    OrderRow {
-        place,
-        order_no,
-        price: 5,
+/// Whether these are the rows of these references, each at the place beside it.
+fn are_rows(out: &[OrderRow], rows: &[(u64, u64)]) -> bool {
+    for (row, (order_no, place)) in out.iter().zip(rows) {
+        if *row != order(*order_no, *place) {
+            return false;
+        }
     }
-}
-
-/// A list of rows of these references, each at the place beside it.
-fn list_of(alloc: Global, rows: &[(u64, u64)]) -> Result<OrderList, OutOfMemory> {
-    let mut list = OrderList::new(alloc);
-    for (order_no, place) in rows {
-        list.push(order(*order_no, *place))?;
-    }
-    Ok(list)
+    out.len() == rows.len()
 }
 
 /// Whether the list has these rows.
@@ -63,11 +56,7 @@ fn has<A: Allocator>(
 ) -> Result<bool, OutOfMemory> {
     let mut out = Vec::new(alloc);
     list.append_to(&mut out)?;
-    let mut is_same = list.len() == rows.len() && out.len() == rows.len();
-    for (row, (order_no, place)) in out.iter().zip(rows) {
-        is_same = is_same && *row == order(*order_no, *place);
-    }
-    Ok(is_same)
+    Ok(list.len() == rows.len() && are_rows(out.as_slice(), rows))
 }
 
 #[test]
@@ -86,11 +75,17 @@ fn are_equal(alloc: Global, one: &[(u64, u64)], other: &[(u64, u64)]) -> Result<
     Ok(one == other)
 }
 
+/// A list of these rows and one more.
+fn longer_of(alloc: Global, rows: &[(u64, u64)]) -> Result<OrderList, OutOfMemory> {
+    let mut list = list_of(alloc, rows)?;
+    list.push(order(9, 300))?;
+    Ok(list)
+}
+
 /// Whether a list of these rows is equal to one that has a row more.
 fn is_equal_to_longer(alloc: Global, rows: &[(u64, u64)]) -> Result<bool, OutOfMemory> {
     let list = list_of(alloc, rows)?;
-    let mut longer = list_of(alloc, rows)?;
-    longer.push(order(9, 300))?;
+    let longer = longer_of(alloc, rows)?;
     Ok(list == longer)
 }
 
@@ -113,29 +108,36 @@ fn lists_are_equal_if_their_rows_are(rt: HostRuntime) -> Result<(), Fail> {
     Ok(())
 }
 
-/// How many bytes nine rows take for which there was room: one of the first reference, and eight of the other.
-fn bytes_of_nine(alloc: Global, first: u64, other: u64) -> Result<usize, Fail> {
-    let heap = LocalHeap::new(alloc, 4_096)?;
-    let mut list = OrderList::with_room(&heap, 9)?;
+/// How many bytes of the heap nine rows take for which there was room: one of the first reference, and eight of the
+/// other.
+fn used_by_nine(heap: &LocalHeap, first: u64, other: u64) -> Result<usize, OutOfMemory> {
+    let mut list = OrderList::with_room(heap, 9)?;
     list.push(order(first, 100))?;
-    for number in 0..8 {
-        list.push(order(other, 140 + number))?;
-    }
+    push_each(&mut list, 8, (other, 140), (0, 1))?;
     Ok(heap.used())
 }
+
+/// How many bytes nine such rows take.
+fn bytes_of_nine(alloc: Global, first: u64, other: u64) -> Result<usize, OutOfMemory> {
+    let heap = LocalHeap::new(alloc, 4_096)?;
+    used_by_nine(&heap, first, other)
+}
+
+/// The first references of lists, and the lowest that is near each.
+const NEAR: [(u64, u64); 6] = [
+    (0, 0),
+    (5, 0),
+    (1 << 31, 0),
+    ((1 << 31) + 1, 1),
+    (FAR, FAR - (1 << 31)),
+    (u64::MAX, u64::MAX - u32::MAX as u64),
+];
 
 /// A row takes 12 bytes if it is near the first one, and otherwise 16, and those 64 once. The room is that of one list.
 #[test]
 fn rows_near_the_first_take_twelve_bytes(rt: HostRuntime) -> Result<(), Fail> {
-    for (first, lowest) in [
-        (0, 0),
-        (5, 0),
-        (1 << 31, 0),
-        ((1 << 31) + 1, 1),
-        (FAR, FAR - (1 << 31)),
-        (u64::MAX, u64::MAX - u32::MAX as u64),
-    ] {
-        for near in [first, lowest, lowest + u32::MAX as u64] {
+    for (first, lowest) in NEAR {
+        for near in [first, lowest, lowest.wrapping_add(u32::MAX as u64)] {
             let used = bytes_of_nine(rt.alloc(), first, near)?;
             assert!(rt; used >= 9 * 12 && used < 10 * 12, "{first} {near}: {used}");
         }
@@ -162,21 +164,39 @@ fn pushed<A: Allocator + Copy>(list: &mut OrderList<A>, rows: &[(u64, u64)]) -> 
     count
 }
 
+/// How many of these rows a list takes; None if it then hasn't those before the one that is refused.
+fn taken<A: Allocator + Copy>(
+    alloc: Global,
+    heap: A,
+    rows: &[(u64, u64)],
+) -> Result<Option<usize>, OutOfMemory> {
+    let mut list = OrderList::new(heap);
+    let count = pushed(&mut list, rows);
+    match rows.get(..count) {
+        Some(before) if has(alloc, &list, before)? => Ok(Some(count)),
+        _ => Ok(None),
+    }
+}
+
+/// How many of these rows a list takes in a heap of so many bytes.
+fn taken_within(
+    alloc: Global,
+    bytes: usize,
+    rows: &[(u64, u64)],
+) -> Result<Option<usize>, OutOfMemory> {
+    let heap = LocalHeap::new(alloc, bytes)?;
+    taken(alloc, &heap, rows)
+}
+
 /// Whether each row is refused as long as there is no memory, and the list then has those before it.
 #[test]
 fn a_row_that_is_refused_leaves_the_list(rt: HostRuntime) -> Result<(), Fail> {
     for rows in LISTS {
         let (mut was_refused, mut is_whole) = (rows.is_empty(), false);
         for step in 1..100 {
-            let heap = LocalHeap::new(rt.alloc(), 16 * step)?;
-            let mut list = OrderList::new(&heap);
-            let count = pushed(&mut list, rows);
-            let before = rows.get(..count);
-            assert!(rt; before.is_some(), "{rows:?}, {step}");
-            if let Some(before) = before {
-                assert!(rt; has(rt.alloc(), &list, before)?, "{rows:?}, {step}");
-            }
-            is_whole = count == rows.len();
+            let taken = taken_within(rt.alloc(), 16 * step, rows)?;
+            assert!(rt; taken.is_some(), "{rows:?}, {step}");
+            is_whole = taken == Some(rows.len());
             if is_whole {
                 break;
             }
@@ -187,32 +207,25 @@ fn a_row_that_is_refused_leaves_the_list(rt: HostRuntime) -> Result<(), Fail> {
     Ok(())
 }
 
-/// Pushes a row of each reference from one number to another, times a factor.
-fn push_each<A: Allocator + Copy>(
-    list: &mut OrderList<A>,
-    from: u64,
-    to: u64,
-    factor: u64,
-) -> Result<(), OutOfMemory> {
-    for number in from..to {
-        list.push(order(number.wrapping_mul(factor), 100))?;
-    }
-    Ok(())
-}
-
-/// How many bytes a list of a hundred rows takes with no row, with so many lean ones, with a narrow one more, and with
-/// all rows.
-fn bytes_by_rows(alloc: Global, lean: u64) -> Result<[usize; 4], Fail> {
-    let heap = LocalHeap::new(alloc, 4_096)?;
-    let mut list = OrderList::with_room(&heap, 100)?;
+/// How many bytes of the heap a list of a hundred rows takes with no row, with so many lean ones, with a narrow one
+/// more, and with all rows.
+fn used_by_rows(heap: &LocalHeap, lean: u64) -> Result<[usize; 4], OutOfMemory> {
+    let mut list = OrderList::with_room(heap, 100)?;
     let room = heap.used();
-    push_each(&mut list, 0, lean, 1)?;
+    push_each(&mut list, lean, (0, 100), (1, 0))?;
     let with_lean = heap.used();
-    push_each(&mut list, 1, 2, FAR)?;
+    push_each(&mut list, 1, (FAR, 100), (0, 0))?;
     let narrow = heap.used();
-    push_each(&mut list, lean.saturating_add(1), 100, FAR)?;
+    let (next, rest) = (lean.saturating_add(1), 99u64.saturating_sub(lean));
+    push_each(&mut list, rest, (next.wrapping_mul(FAR), 100), (FAR, 0))?;
     let all = if list.len() == 100 { heap.used() } else { 0 };
     Ok([room, with_lean, narrow, all])
+}
+
+/// How many bytes such a list takes.
+fn bytes_by_rows(alloc: Global, lean: u64) -> Result<[usize; 4], OutOfMemory> {
+    let heap = LocalHeap::new(alloc, 4_096)?;
+    used_by_rows(&heap, lean)
 }
 
 /// A list that turns out narrow has no room for lean rows beside that for narrow ones.
@@ -246,30 +259,18 @@ const SEARCHED: [(u64, Option<u64>); 11] = [
     (u64::MAX, None),
 ];
 
-/// Where the rows have a reference first.
-fn place_of(rows: &RisingRows<'_>, order_no: u64) -> Option<u64> {
-    match rows.first(order_no) {
-        Some(row) => Some(row.place),
-        None => None,
-    }
-}
-
 #[test]
 fn a_search_knows_references_near_and_far(rt: HostRuntime) -> Result<(), Fail> {
     let list = list_of(rt.alloc(), &[(FAR, 7), (FAR + 1, 8), (TOP, 9)])?;
-    let Some(rows) = list.rising() else {
-        return Err(Fail::from("the references rise"));
-    };
-    assert!(rt; rows.least() == FAR && rows.greatest() == TOP);
+    assert!(rt; bounds_of(&list) == Some((FAR, TOP)));
     for (order_no, place) in SEARCHED {
-        assert!(rt; place_of(&rows, order_no) == place, "{order_no}");
+        assert!(rt; place_of(&list, order_no) == place, "{order_no}");
     }
     Ok(())
 }
 
 #[test]
 fn references_that_are_far_apart_do_not_rise(rt: HostRuntime) -> Result<(), Fail> {
-    let list = list_of(rt.alloc(), &[(FAR, 7), (TOP + 1, 8)])?;
-    assert!(rt; list.rising().is_none());
+    assert!(rt; !rises(rt.alloc(), &[(FAR, 7), (TOP + 1, 8)])?);
     Ok(())
 }

@@ -5,15 +5,18 @@ use order_table::{Built, OrderRow, OrderTable, Repeated, partition};
 use std::alloc::{Allocator, Global};
 use std::test::Fail;
 
+/// References and places, and the price of an execution there.
+const PRICED: [(u64, u64, Option<u32>); 4] = [
+    (1, 0, None),
+    (1, 1, Some(4)),
+    (1, 33, Some(4)),
+    (2, 80, None),
+];
+
 #[test]
 fn the_first_row_prices(rt: HostRuntime) -> Result<(), Fail> {
     let built = OrderTable::build(rt.alloc(), &order_rows())?;
-    for (order_no, place, want) in [
-        (1, 0, None),
-        (1, 1, Some(4)),
-        (1, 33, Some(4)),
-        (2, 80, None),
-    ] {
+    for (order_no, place, want) in PRICED {
         assert!(rt;
             built.table.price_before(order_no, place) == want,
             "{order_no} at {place}"
@@ -51,15 +54,24 @@ fn a_table_is_refused_until_there_is_room(rt: HostRuntime) -> Result<(), Fail> {
     Ok(())
 }
 
+/// How many bytes of the heap a table of forty rows by this factor takes; None if a reference repeats.
+fn used_by_forty(alloc: Global, heap: &LocalHeap, factor: u64) -> Result<Option<usize>, Fail> {
+    let rows = forty_rows(alloc, factor)?;
+    let built = OrderTable::build(heap, rows.as_slice())?;
+    if built.repeated.is_none() {
+        Ok(Some(heap.used()))
+    } else {
+        Ok(None)
+    }
+}
+
 /// A row takes 24 bytes.
 #[test]
 fn a_table_takes_room_for_its_rows_alone(rt: HostRuntime) -> Result<(), Fail> {
     for factor in [1, 17, 40] {
-        let rows = forty_rows(rt.alloc(), factor)?;
         let heap = LocalHeap::new(rt.alloc(), 16_384)?;
-        let built = OrderTable::build(&heap, rows.as_slice())?;
-        assert!(rt; built.repeated.is_none());
-        assert!(rt; heap.used() <= 42 * 24, "{factor}");
+        let used = used_by_forty(rt.alloc(), &heap, factor)?;
+        assert!(rt; used.is_some_and(|used| used <= 42 * 24), "{factor}");
     }
     Ok(())
 }
@@ -73,18 +85,23 @@ fn prices_within(alloc: Global, heap: &LocalHeap, factor: u64) -> Result<Option<
     }
 }
 
-/// Whether there is room in so many bytes for rows that rise and for others, or for none; None if only for some, or if
-/// a table is wrong.
-fn is_room_for_all(alloc: Global, bytes: usize) -> Result<Option<bool>, Fail> {
-    let heap = LocalHeap::new(alloc, bytes)?;
-    let rising = prices_within(alloc, &heap, 1)?;
-    let mixed = prices_within(alloc, &heap, 17)?;
-    let falling = prices_within(alloc, &heap, 40)?;
+/// Whether there is room in the heap for rows that rise and for others, or for none; None if only for some, or if a
+/// table is wrong.
+fn has_room_for_all(alloc: Global, heap: &LocalHeap) -> Result<Option<bool>, Fail> {
+    let rising = prices_within(alloc, heap, 1)?;
+    let mixed = prices_within(alloc, heap, 17)?;
+    let falling = prices_within(alloc, heap, 40)?;
     match (rising, mixed, falling) {
         (None, None, None) => Ok(Some(false)),
         (Some(true), Some(true), Some(true)) => Ok(Some(true)),
         _ => Ok(None),
     }
+}
+
+/// The same in so many bytes.
+fn is_room_for_all(alloc: Global, bytes: usize) -> Result<Option<bool>, Fail> {
+    let heap = LocalHeap::new(alloc, bytes)?;
+    has_room_for_all(alloc, &heap)
 }
 
 // The room that is enough for rows that rise is enough for others, which are sorted where they are.
@@ -106,13 +123,17 @@ fn rows_are_sorted_where_they_are(rt: HostRuntime) -> Result<(), Fail> {
 
 /// Whether no reference repeats, and each prices what stands behind its row alone.
 fn prices_each<A: Allocator + Clone>(built: &Built<A>, rows: &[OrderRow]) -> bool {
-    let price = |order_no, place| built.table.price_before(order_no, place);
+    let table = &built.table;
+    for row in rows {
+        if table.price_before(row.order_no, row.place).is_some()
+            || table.price_before(row.order_no, 40) != Some(row.price)
+        {
+            return false;
+        }
+    }
     built.repeated.is_none()
-        && price(0, 80).is_none()
-        && price(41, 80).is_none()
-        && rows.iter().all(|row| {
-            price(row.order_no, row.place).is_none() && price(row.order_no, 40) == Some(row.price)
-        })
+        && table.price_before(0, 80).is_none()
+        && table.price_before(41, 80).is_none()
 }
 
 #[test]
@@ -128,14 +149,19 @@ fn a_table_answers_as_a_search_over_its_rows(rt: HostRuntime) -> Result<(), Fail
         (0, 1 << 61),
         (0, 0x9e37_79b9_7f4a_7c15),
     ] {
-        let rows = hundred_rows(rt.alloc(), bits, factor)?;
-        let built = OrderTable::build(rt.alloc(), rows.as_slice())?;
         assert!(rt;
-            answers_as_a_search(&built, rows.as_slice()),
+            hundred_answer(rt.alloc(), bits, factor)?,
             "{bits}, {factor}"
         );
     }
     Ok(())
+}
+
+/// Whether the table of a hundred rows of these bits and this factor tells what a search over them tells.
+fn hundred_answer(alloc: Global, bits: u64, factor: u64) -> Result<bool, Fail> {
+    let rows = hundred_rows(alloc, bits, factor)?;
+    let built = OrderTable::build(alloc, rows.as_slice())?;
+    Ok(answers_as_a_search(&built, rows.as_slice()))
 }
 
 /// Whether the table of these rows, which are in the order of their places, tells what a search over

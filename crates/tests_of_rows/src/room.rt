@@ -1,32 +1,26 @@
 //! Room for rows that is taken at once.
+use crate::rows::push_each;
 use itch_messages::{Executed, Header, Message};
 use linked_list_allocator::LocalHeap;
 use morsel_rows::{MorselRows, OrderList};
-use order_table::OrderRow;
 use std::alloc::{AllocError, Allocator, Global};
 use std::test::Fail;
 
-/// An order of this reference, at the place of the same number.
-fn order(number: u64) -> OrderRow {
-    OrderRow {
-        place: number,
-        order_no: number,
-        price: 5,
-    }
-}
-
-/// Whether a list has room for nine rows in so many bytes, and takes no more for them; None if there is no room.
-fn takes_nine_within(alloc: Global, bytes: usize) -> Result<Option<bool>, AllocError> {
-    let heap = LocalHeap::new(alloc, bytes)?;
-    let Ok(mut list) = OrderList::with_room(&heap, 9) else {
-        return Ok(None);
+/// Whether a list has room for nine rows in the heap, and takes no more for them; None if there is no room.
+fn takes_nine(heap: &LocalHeap) -> Option<bool> {
+    let Ok(mut list) = OrderList::with_room(heap, 9) else {
+        return None;
     };
     let (used, length) = (heap.used(), list.len());
-    for number in 0..9 {
-        list.push(order(number))?;
-    }
+    let are_pushed = push_each(&mut list, 9, (0, 0), (1, 1)).is_ok();
     let is_taken_at_once = length == 0 && used >= 9 * 12 && heap.used() == used;
-    Ok(Some(is_taken_at_once && list.len() == 9))
+    Some(are_pushed && is_taken_at_once && list.len() == 9)
+}
+
+/// The same in so many bytes.
+fn takes_nine_within(alloc: Global, bytes: usize) -> Result<Option<bool>, AllocError> {
+    let heap = LocalHeap::new(alloc, bytes)?;
+    Ok(takes_nine(&heap))
 }
 
 #[test]
@@ -43,29 +37,38 @@ fn a_list_takes_its_room_at_once_or_is_refused(rt: HostRuntime) -> Result<(), Fa
     Ok(())
 }
 
+/// How many orders a partition has, if it is there.
+fn orders_in<A: Allocator>(rows: &MorselRows<A>, number: u32) -> Option<usize> {
+    match rows.partition(number) {
+        Some(partition) => Some(partition.orders().len()),
+        None => None,
+    }
+}
+
 /// Whether there are three partitions, none of which has an order.
 fn are_three_without_orders<A: Allocator>(rows: &MorselRows<A>) -> bool {
     for number in 0..3 {
-        match rows.partition(number) {
-            Some(partition) if partition.orders().len() == 0 => {}
-            _ => return false,
+        if orders_in(rows, number) != Some(0) {
+            return false;
         }
     }
     rows.partition(3).is_none()
+}
+
+/// How many bytes three partitions of 24 rows take of the heap, if there is room for them.
+fn used_by_three(heap: &LocalHeap) -> Option<usize> {
+    match MorselRows::new(heap, 3, 24) {
+        Ok(rows) if are_three_without_orders(&rows) => Some(heap.used()),
+        Ok(_) => Some(0),
+        Err(_) => None,
+    }
 }
 
 /// How many bytes three partitions of 24 rows take of so many, if there is room for them; if there isn't, how
 /// many are taken all the same.
 fn taken_by_three(alloc: Global, bytes: usize) -> Result<Result<usize, usize>, AllocError> {
     let heap = LocalHeap::new(alloc, bytes)?;
-    let Ok(rows) = MorselRows::new(&heap, 3, 24) else {
-        return Ok(Err(heap.used()));
-    };
-    if are_three_without_orders(&rows) {
-        Ok(Ok(heap.used()))
-    } else {
-        Ok(Ok(0))
-    }
+    Ok(used_by_three(&heap).ok_or(heap.used()))
 }
 
 #[test]
@@ -88,31 +91,27 @@ fn each_partition_takes_its_room_or_all_are_refused(rt: HostRuntime) -> Result<(
 /// Each partition takes room for as many rows as are asked for, and gives back what no row took.
 #[test]
 fn room_is_taken_for_so_many_rows_and_given_back(rt: HostRuntime) -> Result<(), Fail> {
-    let (with_few, without) = taken_and_kept(rt.alloc(), 16)?;
-    let (with_more, left) = taken_and_kept(rt.alloc(), 24)?;
+    let (with_few, without) = taken_and_left(rt.alloc(), 16, 0)?;
+    let (with_more, left) = taken_and_left(rt.alloc(), 24, 0)?;
     let room = with_more.saturating_sub(with_few);
     assert!(rt; room >= 3 * 8 * 12 && room <= 3 * 9 * 12, "{room}");
     assert!(rt; left == without);
     Ok(())
 }
 
-/// How many bytes three partitions take with room for so many rows, and how many once no row took it.
-fn taken_and_kept(alloc: Global, count: usize) -> Result<(usize, usize), AllocError> {
-    let heap = LocalHeap::new(alloc, 4_096)?;
-    let mut rows = MorselRows::new(&heap, 3, count)?;
-    let taken = heap.used();
-    rows.shrink_to_fit();
-    Ok((taken, heap.used()))
+/// Whether three partitions with room for so many rows take no memory of the heap, which nothing else takes.
+fn take_none(heap: &LocalHeap, count: usize) -> Result<bool, AllocError> {
+    let rows = MorselRows::new(heap, 3, count)?;
+    Ok(heap.used() == 0 && are_three_without_orders(&rows))
 }
 
 /// Where no room is asked for, or room for a few rows, partitions take no memory before they have rows.
 #[test]
 fn a_partition_without_rows_takes_no_memory(rt: HostRuntime) -> Result<(), Fail> {
     let heap = LocalHeap::new(rt.alloc(), 4_096)?;
-    let rows = MorselRows::new(&heap, 3, 0)?;
-    assert!(rt; heap.used() == 0 && are_three_without_orders(&rows));
-    let few = MorselRows::new(&heap, 3, 15)?;
-    assert!(rt; heap.used() == 0 && are_three_without_orders(&few));
+    for count in [0, 15] {
+        assert!(rt; take_none(&heap, count)?, "{count}");
+    }
     Ok(())
 }
 
@@ -138,34 +137,68 @@ fn executions_in<A: Allocator>(rows: &MorselRows<A>, number: u32) -> Option<usiz
     }
 }
 
-/// How many bytes three partitions take, and how many once they gave back what the row of the last didn't take.
-fn taken_and_left(alloc: Global) -> Result<(usize, usize), AllocError> {
-    let heap = LocalHeap::new(alloc, 4_096)?;
-    let mut rows = MorselRows::new(&heap, 3, 24)?;
-    let taken = heap.used();
-    rows.add_counted(None, 4, &executed(5))?;
+/// Adds so many executions of the reference 5, then gives back the room that no row takes.
+fn add_and_shrink<A: Allocator + Copy>(
+    rows: &mut MorselRows<A>,
+    executions: u64,
+) -> Result<(), AllocError> {
+    for _ in 0..executions {
+        rows.add_counted(None, 4, &executed(5))?;
+    }
     rows.shrink_to_fit();
+    Ok(())
+}
+
+/// How many bytes of the heap three partitions take with room for so many rows, and how many once they gave back what
+/// so many executions of the last didn't take.
+fn used_and_left(
+    heap: &LocalHeap,
+    room: usize,
+    executions: u64,
+) -> Result<(usize, usize), AllocError> {
+    let mut rows = MorselRows::new(heap, 3, room)?;
+    let taken = heap.used();
+    add_and_shrink(&mut rows, executions)?;
     Ok((taken, heap.used()))
+}
+
+/// How many bytes such partitions take, and how many then.
+fn taken_and_left(
+    alloc: Global,
+    room: usize,
+    executions: u64,
+) -> Result<(usize, usize), AllocError> {
+    let heap = LocalHeap::new(alloc, 4_096)?;
+    used_and_left(&heap, room, executions)
 }
 
 /// A partition that got no rows gives all its memory back.
 #[test]
 fn partitions_without_rows_keep_no_memory(rt: HostRuntime) -> Result<(), Fail> {
     // Of three boxes and their rooms, one box is left, with room for the execution.
-    let (taken, left) = taken_and_left(rt.alloc())?;
+    let (taken, left) = taken_and_left(rt.alloc(), 24, 1)?;
     assert!(rt; left < taken / 2);
     Ok(())
+}
+
+/// How many executions the three partitions have that gave back their room.
+fn executions_kept<A: Allocator + Copy>(
+    rows: &mut MorselRows<A>,
+) -> Result<[Option<usize>; 3], AllocError> {
+    add_and_shrink(rows, 1)?;
+    Ok([
+        executions_in(rows, 0),
+        executions_in(rows, 1),
+        executions_in(rows, 2),
+    ])
 }
 
 /// A partition that has rows keeps them, and one that has none can still get some.
 #[test]
 fn partitions_keep_their_rows_when_room_is_given_back(rt: HostRuntime) -> Result<(), Fail> {
     let mut rows = MorselRows::new(rt.alloc(), 3, 24)?;
-    rows.add_counted(None, 4, &executed(5))?;
-    rows.shrink_to_fit();
-    for (number, count) in [(0, 0), (1, 0), (2, 1)] {
-        assert!(rt; executions_in(&rows, number) == Some(count), "{number}");
-    }
+    let kept = executions_kept(&mut rows)?;
+    assert!(rt; kept == [Some(0), Some(0), Some(1)], "{kept:?}");
     rows.add_counted(None, 8, &executed(6))?;
     assert!(rt; executions_in(&rows, 0) == Some(1));
     Ok(())

@@ -2,10 +2,67 @@
 ghost use Rattle.std.specs.Prelude.{IfOk, IsTrue, map, nat_eq};
 ghost use Rattle.std.specs.List.{IsDistinct};
 
+use morsel_rows::{OrderList, OutOfMemory};
 use order_table::OrderRow;
 use probe::{Execution, Kind, Sale};
-use std::alloc::Global;
+use std::alloc::{Allocator, Global};
 use std::test::Fail;
+
+/// An order of this reference at this place.
+pub(crate) fn order(order_no: u64, place: u64) -> OrderRow {
+    OrderRow {
+        place,
+        order_no,
+        price: 5,
+    }
+}
+
+/// A list of rows of these references, each at the place beside it.
+pub(crate) fn list_of(alloc: Global, rows: &[(u64, u64)]) -> Result<OrderList, OutOfMemory> {
+    let mut list = OrderList::new(alloc);
+    for (order_no, place) in rows {
+        list.push(order(*order_no, *place))?;
+    }
+    Ok(list)
+}
+
+/// Pushes so many rows: the first of this reference and place, each further one by the steps behind the one before.
+pub(crate) fn push_each<A: Allocator + Copy>(
+    list: &mut OrderList<A>,
+    count: u64,
+    (order_no, place): (u64, u64),
+    (order_step, place_step): (u64, u64),
+) -> Result<(), OutOfMemory> {
+    for number in 0..count {
+        list.push(order(
+            order_no.wrapping_add(number.wrapping_mul(order_step)),
+            place.wrapping_add(number.wrapping_mul(place_step)),
+        ))?;
+    }
+    Ok(())
+}
+
+/// The least and the greatest reference of a list that is searched where it lies.
+pub(crate) fn bounds_of(list: &OrderList) -> Option<(u64, u64)> {
+    match list.rising() {
+        Some(rows) => Some((rows.least(), rows.greatest())),
+        None => None,
+    }
+}
+
+/// Where a list that is searched where it lies has a reference first.
+pub(crate) fn place_of(list: &OrderList, order_no: u64) -> Option<u64> {
+    match list.rising()?.first(order_no) {
+        Some(row) => Some(row.place),
+        None => None,
+    }
+}
+
+/// Whether a list of these rows is searched where it lies.
+pub(crate) fn rises(alloc: Global, rows: &[(u64, u64)]) -> Result<bool, OutOfMemory> {
+    let list = list_of(alloc, rows)?;
+    Ok(list.rising().is_some())
+}
 
 /// Three rows of the reference 1, the first of them in the middle.
 pub(crate) fn order_rows() -> [OrderRow; 3]

@@ -23,17 +23,22 @@ fn is_none_priced<A: Allocator>(priced: &Priced<A>) -> bool {
     priced.sales.is_empty() && priced.unknown.is_none()
 }
 
-/// Whether so many bytes are enough to price the executions, and whether what was priced is right.
+/// Whether what is priced of the executions is right; None if there is no room for it.
+fn priced_in<A: Allocator>(alloc: A, table: &OrderTable) -> Option<bool> {
+    match price_all(alloc, table, &executions()) {
+        Ok(priced) => Some(are_priced(&priced)),
+        Err(_) => None,
+    }
+}
+
+/// The same in so many bytes.
 fn priced_within(
     alloc: Global,
     bytes: usize,
     table: &OrderTable,
 ) -> Result<Option<bool>, AllocError> {
     let heap = LocalHeap::new(alloc, bytes)?;
-    match price_all(&heap, table, &executions()) {
-        Ok(priced) => Ok(Some(are_priced(&priced))),
-        Err(_) => Ok(None),
-    }
+    Ok(priced_in(&heap, table))
 }
 
 #[test]
@@ -81,16 +86,11 @@ fn executions_are_priced_after_others(rt: HostRuntime) -> Result<(), Fail> {
     Ok(())
 }
 
-/// Whether the executions are priced once more in so many bytes, and whether what comes is right: two sales, or what
-/// stood. None if there is no room for the first of the two.
-fn priced_twice_within(
-    alloc: Global,
-    bytes: usize,
-    table: &OrderTable,
-) -> Result<Option<(bool, bool)>, AllocError> {
-    let heap = LocalHeap::new(alloc, bytes)?;
-    let Ok(mut priced) = price_all(&heap, table, &executions()) else {
-        return Ok(None);
+/// Whether the executions are priced once more, and whether what comes is right: two sales, or what stood. None if
+/// there is no room for the first of the two.
+fn priced_twice_in<A: Allocator>(alloc: A, table: &OrderTable) -> Option<(bool, bool)> {
+    let Ok(mut priced) = price_all(alloc, table, &executions()) else {
+        return None;
     };
     let is_priced = price_into(&mut priced, table, &executions()).is_ok();
     let is_right = if is_priced {
@@ -98,7 +98,17 @@ fn priced_twice_within(
     } else {
         are_priced(&priced)
     };
-    Ok(Some((is_priced, is_right)))
+    Some((is_priced, is_right))
+}
+
+/// The same in so many bytes.
+fn priced_twice_within(
+    alloc: Global,
+    bytes: usize,
+    table: &OrderTable,
+) -> Result<Option<(bool, bool)>, AllocError> {
+    let heap = LocalHeap::new(alloc, bytes)?;
+    Ok(priced_twice_in(&heap, table))
 }
 
 /// Whether nothing is priced where there is room for no sale.

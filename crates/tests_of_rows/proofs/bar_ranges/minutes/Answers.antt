@@ -1,0 +1,19 @@
+use Rattle.std.proofs.Common.{ℕ, ◌<◌, ◌^◌, All, List, subst}
+use Rattle.std.proofs.lemmas.List.Elements.{All-weaker}
+use Rattle.row_types.specs.declared.trade.Sale.{Sale}
+use Rattle.bars.specs.Bars.{AreBarsOf, IsTraded}
+use Rattle.bars.specs.Texts.{IsWritable}
+use Rattle.bars.specs.declared.bar.Bar.{Bar}
+use Rattle.bars.proofs.SumsAreBounded.{table_is_writable}
+use Rattle.tests_of_rows.proofs.bar_ranges.minutes.Goals as goal
+
+starts_small : (width : ℕ) (sales : List Sale) (table : List Bar) → AreBarsOf width sales table → All IsTraded table
+    → All (λ (s : Sale). s.time < 2 ^ 48) sales → All (λ (bar : Bar). bar.start < 2 ^ 48) table
+starts_small width sales table are traded times =
+    All-weaker IsWritable (λ (bar : Bar). bar.start < 2 ^ 48) (λ bar w. w.0) table (table_is_writable width sales table are traded times)
+
+pub returns-clause-bars : goal.returns-clause-bars
+returns-clause-bars c = subst (λ l. AreBarsOf 60 l c.of_vec-table.result) c.in_ok-sales.ensures.items c.of_vec-table.ensures.bars
+
+pub returns-clause-starts : goal.returns-clause-starts
+returns-clause-starts c = starts_small 60 c.args.sales.now c.of_vec-table.result (returns-clause-bars c) c.of_vec-table.ensures.traded c.requires.times
