@@ -4,14 +4,14 @@ ghost use Rattle.lists.specs.declared.limits.TheConstants.{MOST_PARTITIONS};
 
 use day_file::cut;
 use executor::{
-    Answer, Crew, DayFault, DayFile, Division, Gate, LONGEST_FILE, OutOfMemory, Query, Settings,
-    answer, answer_blocks, parse,
+    Answer, Crew, DayFault, DayFile, Division, FileBlocks, Gate, LONGEST_FILE, OutOfMemory, Query,
+    Settings, answer, answer_blocks, parse,
 };
 use std::alloc::Global;
 use std::sync::{Arc, Wait};
 use std::test::Fail;
 use std::thread::Threads;
-use tests_support::{Day, Form, file_of, in_memory};
+use tests_support::{Day, Form, Memory, file_of, in_memory};
 
 /// The text of a listing without sales.
 pub const HEADER: &str = "time,symbol,kind,price,shares,number\n";
@@ -52,6 +52,11 @@ pub enum Way {
 
 pub const WAYS: [Way; 2] = [Way::Morsels, Way::Blocks];
 
+/// A source of these bytes, to be shared.
+fn shared(alloc: Global, bytes: &[u8]) -> Result<Arc<FileBlocks<Memory<'_>>, Global>, OutOfMemory> {
+    Ok(Arc::new(alloc, in_memory(bytes))?)
+}
+
 /// The answer of pipelines over a source of these bytes that is read at places.
 pub fn answer_by_blocks<G: Gate, R: Threads + Wait + Sync>(
     rt: &R,
@@ -65,7 +70,7 @@ pub fn answer_by_blocks<G: Gate, R: Threads + Wait + Sync>(
 ) -> Result<Answer, Fail>
     requires { (0 < parts) × (parts ≤ MOST_PARTITIONS) }
 {
-    let source = Arc::new(alloc, in_memory(bytes))?;
+    let source = shared(alloc, bytes)?;
     let settings = Settings {
         crew,
         morsel: 1,
