@@ -23,8 +23,7 @@ impl<A: Allocator> Model for Text<A> {
 }
 
 impl<A: Allocator> Text<A> {
-    /// The text of these pieces. It is refused if they have 2^64 bytes or more, for which no machine
-    /// has memory.
+    /// The text of these pieces. It is refused if they have 2^64 bytes or more, for which no machine has memory.
     pub fn of(pieces: Vec<Vec<u8, A>, A>) -> Result<Self, OutOfMemory>
         ensures text { IfOk result (λ text. text ≡ all_items pieces.items) }
         ensures refused { IsErr result ↔ (2 ^ 64 ≤ length (all_items pieces.items)) }

@@ -76,9 +76,8 @@ pub fn text_of_listings<R: Threads + Sync>(
     of_all(header, lines)
 }
 
-/// The text of the bars of all tables, those of one locate and start joined: a header line, then a
-/// line for each bar, by locate and then by start. So many threads make it, or fewer, each some
-/// parts for ranges of locates.
+/// The text of the bars of all tables, those of one locate and start joined: a header line, then a line for each bar,
+/// by locate and then by start. So many threads make it, or fewer, each some parts for ranges of locates.
 pub fn text_of_tables<R: Threads + Sync>(
     rt: &R,
     alloc: Global,

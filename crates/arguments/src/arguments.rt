@@ -85,8 +85,7 @@ pub struct Job {
     pub file: String,
     /// The text of the query.
     pub query: String,
-    /// Whether the words give a size of morsels, in which even a file is then held that can be read
-    /// by blocks.
+    /// Whether the words give a size of morsels, in which even a file is then held that can be read by blocks.
     pub morsel_given: bool,
     pub settings: Settings,
 }

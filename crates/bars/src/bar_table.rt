@@ -174,9 +174,8 @@ impl<A: Allocator + Clone> BarTable<A> {
     }
 }
 
-/// Puts sales in order of the keys of their bars, and says how many bars there are, for room for
-/// them. That the bar of each is traded is known where a sale is read, whose price is of 32 bits by
-/// its type.
+/// Puts sales in order of the keys of their bars, and says how many bars there are, for room for them. That the bar of
+/// each is traded is known where a sale is read, whose price is of 32 bits by its type.
 #[tactic(auto, using(std::proofs::lemmas::List::take_all))]
 pub(crate) fn put_in_order<A: Allocator>(sales: &mut Vec<Sale, A>, width: u32) -> usize
     requires width { 0 < width }
@@ -258,8 +257,11 @@ fn all_of<'a, A: Allocator>(alloc: A, parts: &[&'a [Bar]]) -> Result<Vec<&'a Bar
 
 /// How many bars the parts have, for room for them to be made.
 fn count_bars(parts: &[&[Bar]]) -> usize {
-    let counts = parts.iter().map(|part| part.len());
-    counts.fold(0, |count: usize, more| count.saturating_add(more))
+    let mut count = 0usize;
+    for part in parts {
+        count = count.saturating_add(part.len());
+    }
+    count
 }
 
 /// Sorted bars in one list, those of one key made one.

@@ -26,10 +26,9 @@ use time_and_sales::Names;
 /// are sorted, and take little memory.
 const LONG_RANGE: usize = 8_192;
 
-/// The lines of the bars of all tables, those of one locate and start joined, in pieces that are
-/// one text when they are put together. Each piece is of the bars in a range of locates. So many
-/// threads, or fewer, join and write them, each an even share of the ranges, one after the other. It
-/// is refused if a thread was refused memory.
+/// The lines of the bars of all tables, those of one locate and start joined, in pieces that are one text when they are
+/// put together. Each piece is of the bars in a range of locates. So many threads, or fewer, join and write them, each
+/// an even share of the ranges, one after the other. It is refused if a thread was refused memory.
 pub fn lines_in_ranges<R: Threads + Sync>(
     rt: &R,
     alloc: Global,
@@ -73,8 +72,13 @@ fn count_ranges(tables: &[&BucketBars], threads: u32) -> u32 {
 
 /// Of what most is kept among the tables.
 fn longest<'a>(tables: &[&'a BucketBars]) -> Option<&'a Form> {
-    let forms = tables.iter().map(|table| table.form());
-    forms.max_by_key(|form| form.len())
+    let mut longest = tables.first()?.form();
+    for table in tables {
+        if table.form().len() > longest.len() {
+            longest = table.form();
+        }
+    }
+    Some(longest)
 }
 
 /// The lines of the bars of all tables whose locates are in the first range.

@@ -1,9 +1,10 @@
 //! Pieces that are read and scanned through one buffer.
-ghost use Rattle.std.specs.Prelude.{◌≡◌, ◌≤◌, ◌<◌, ◌+◌, length, take, vec_len, IfErr, IfOk};
+ghost use Rattle.std.specs.Prelude.{◌≡◌, ◌≤◌, ◌<◌, ◌+◌, [], length, take, vec_len, IfErr, IfOk};
 ghost use Rattle.lists.specs.declared.limits.TheConstants.{LONGEST_FILE};
 ghost use Rattle.lists.specs.Among.{AreBytes};
 ghost use Rattle.block_scan.specs.Blocks.{IsBlocksFault};
-ghost use Rattle.block_scan.specs.Pieces.{IsAskable, IsTried};
+ghost use Rattle.block_scan.specs.Pieces.{IsAskable, IsPiece, IsTried};
+ghost use Rattle.scanning.specs.Scans.{scan_of};
 
 use crate::OutOfMemory;
 use crate::block::Block;
@@ -51,10 +52,8 @@ pub(crate) fn zeros(alloc: Global) -> Result<Vec<u8>, OutOfMemory>
     vec![in alloc; 0u8; BUFFER]
 }
 
-/// Reads from the start on, and scans the whole frames that it reads, up to the first one that
-/// begins at or after the target, or to the source's end. It keeps no more of the bytes than the
-/// buffer has room for.
-#[tactic(auto, using(crate::proofs::Walked::walked_within))]
+/// Reads from the start on, and scans the whole frames that it reads, up to the first one that begins at or after the
+/// target, or to the source's end. It keeps no more of the bytes than the buffer has room for.
 pub(crate) fn scan_piece<S: BlockSource>(
     alloc: Global,
     source: &S,
@@ -72,6 +71,35 @@ pub(crate) fn scan_piece<S: BlockSource>(
 {
     let bytes = request.block.min(target.saturating_sub(start));
     let mut scan = OpenScan::new(alloc, request.parts, bytes)?;
+    let (end, tail) = scan_frames(source, request, start, target, buffer, &mut scan)?;
+    let scanned = scan.finish(alloc)?;
+    Ok(ScannedBlock {
+        start,
+        end,
+        scanned,
+        tail,
+    })
+}
+
+/// Does what `scan_piece` does with a scan that has nothing yet, and says where it ended and how.
+#[tactic(auto, using(crate::proofs::Walked::walked_within))]
+fn scan_frames<S: BlockSource>(
+    source: &S,
+    request: Request,
+    start: u64,
+    target: u64,
+    buffer: &mut [u8],
+    scan: &mut OpenScan,
+) -> Result<(u64, Tail), SourceFault>
+    requires request { IsAskable request }
+    requires start { start ≤ request.limit }
+    requires room { LONGEST_FRAME < length buffer.old }
+    requires empty { scan.old ≡ scan_of request.parts request.as_of [] }
+    ensures piece { IfOk result (λ (end, tail). IsPiece S.BlockSource.own source.now request
+        (record { start = start; end = end; scanned = scan.new; tail = tail })) }
+    ensures fault { IfErr result (IsBlocksFault S.BlockSource.own source.now request.limit) }
+    ensures more { IfOk result (λ (end, tail). tail ≡ Tail.More → target ≤ end) }
+{
     let mut place = start;
     let mut filled = 0;
     while place < target {
@@ -80,13 +108,7 @@ pub(crate) fn scan_piece<S: BlockSource>(
         let count = read_some(source, request.limit, read, most, &mut buffer[filled..])?;
         if count == 0 {
             let tail = if filled == 0 { Tail::Whole } else { Tail::Cut };
-            let scanned = scan.finish(alloc)?;
-            return Ok(ScannedBlock {
-                start,
-                end: place,
-                scanned,
-                tail,
-            });
+            return Ok((place, tail));
         }
         filled += count;
         let frames = Frames::of(place, &buffer[..filled]);
@@ -95,13 +117,7 @@ pub(crate) fn scan_piece<S: BlockSource>(
         filled -= walked as usize;
         place += walked;
     }
-    let scanned = scan.finish(alloc)?;
-    Ok(ScannedBlock {
-        start,
-        end: place,
-        scanned,
-        tail: Tail::More,
-    })
+    Ok((place, Tail::More))
 }
 
 /// Reads at this place at most as many bytes as there is room for, and says how many those are. A

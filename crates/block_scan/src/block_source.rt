@@ -3,9 +3,8 @@ ghost use Rattle.std.specs.Prelude.{◌≡◌, ◌≤◌, ◌<◌, ◌+◌, ◌+
 
 use day_file::DeviceFailed;
 
-/// A device that gives the bytes at a place, to any number of threads and any number of times.
-/// Places are in bytes from its start. Two readings of one place may give different bytes: a file
-/// may change.
+/// A device that gives the bytes at a place, to any number of threads and any number of times. Places are in bytes from
+/// its start. Two readings of one place may give different bytes: a file may change.
 ///
 /// Threads see by `==` whether a piece of work is theirs: a source is equal to itself.
 pub trait BlockSource: Eq + Drop {

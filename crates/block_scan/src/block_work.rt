@@ -14,9 +14,8 @@ use std::marker::PhantomData;
 use std::sync::Arc;
 use streaming::SourceFault;
 
-/// Reads and scans blocks. Two readings of a block may find different bytes, so what comes of a
-/// block isn't a function of it. Blocks may be worked on together if they are of one source and of
-/// one request.
+/// Reads and scans blocks. Two readings of a block may find different bytes, so what comes of a block isn't a function
+/// of it. Blocks may be worked on together if they are of one source and of one request.
 #[derive(Drop)]
 pub struct BlockWork<S: BlockSource> {
     source: PhantomData<S>,

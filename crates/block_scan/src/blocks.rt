@@ -21,8 +21,7 @@ use streaming::SourceFault;
 /// The blocks of a source of at most `limit` bytes, in order: as many as the division has. In them
 /// is found what counts up to this moment, in seconds since midnight, in `parts` partitions.
 ///
-/// The byte at `limit` is asked for here, so a source that is too long is refused before a block is
-/// read.
+/// The byte at `limit` is asked for here, so a source that is too long is refused before a block is read.
 pub fn block_inputs<S: BlockSource + Send + Sync>(
     alloc: Global,
     source: &Arc<S, Global>,

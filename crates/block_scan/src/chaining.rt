@@ -19,10 +19,9 @@ use std::sync::Arc;
 use streaming::SourceFault;
 
 impl<S: BlockSource> Attempts<S> {
-    /// What the whole source gives: its pieces put together, the first fault of a reading, or the
-    /// place where all that was read is truncated. A piece that doesn't begin where the one before
-    /// it ends is replaced by one that is read from there, and what is left after the last one is
-    /// read here.
+    /// What the whole source gives: its pieces put together, the first fault of a reading, or the place where all that
+    /// was read is truncated. A piece that doesn't begin where the one before it ends is replaced by one that is read
+    /// from there, and what is left after the last one is read here.
     pub fn join(&self, alloc: Global) -> Result<ScanTotal, SourceFault>
         requires { (asked : Asked S) × AreAttemptsOf asked self.now }
         ensures scanned { (asked : Asked S) → AreAttemptsOf asked self.now →

@@ -44,8 +44,7 @@ impl ReadsAt for File {
     }
 }
 
-/// An open file, which all threads read at offsets of their own. Contracts see what it holds, if that is
-/// known.
+/// An open file, which all threads read at offsets of their own. Contracts see what it holds, if that is known.
 #[derive(Drop)]
 pub struct FileBlocks<F: ReadsAt> {
     file: F,

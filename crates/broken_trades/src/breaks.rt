@@ -33,8 +33,7 @@ impl<A: Allocator> Breaks<A> {
         }
     }
 
-    /// The numbers of the breaks, in whatever order they are and however often each occurs. Takes
-    /// no memory.
+    /// The numbers of the breaks, in whatever order they are and however often each occurs. Takes no memory.
     pub fn from_rows(mut rows: Vec<u64, A>) -> Breaks<A>
         ensures numbers { HasNumbersOf rows.items result }
         ensures rising { IsStrictlyIncreasing result }
@@ -51,8 +50,7 @@ impl<A: Allocator> Breaks<A> {
         self.numbers.binary_search(&trade_no).is_ok()
     }
 
-    /// Takes in the breaks of the other. It is refused if there is no memory for them, and never if
-    /// there are none.
+    /// Takes in the breaks of the other. It is refused if there is no memory for them, and never if there are none.
     pub fn unite<B: Allocator>(&mut self, other: &Breaks<B>) -> Result<(), OutOfMemory>
         ensures numbers { OnOk result (IsUnion self.old other.now self.new) }
         ensures rising { IsStrictlyIncreasing self.new }

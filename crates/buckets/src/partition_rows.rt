@@ -49,8 +49,7 @@ pub(crate) fn same_rows(
     true
 }
 
-/// Whether a partition of two morsels has the same rows. A morsel that has none of its number has
-/// no rows there.
+/// Whether a partition of two morsels has the same rows. A morsel that has none of its number has no rows there.
 #[tactic(auto, using(crate::proofs::RowsOfPartitions::rows_of_one))]
 fn same_partition(number: u32, one: &MorselRows, other: &MorselRows) -> bool
     ensures { result ≡ is_same_partition (partition_at number one.now) (partition_at number other.now) }

@@ -35,8 +35,7 @@ impl<'a> Model for RisingOrders<'a> {
 }
 
 impl<'a> RisingOrders<'a> {
-    /// The orders of the partitions, if the references of each list rise and each list is above
-    /// those before it.
+    /// The orders of the partitions, if the references of each list rise and each list is above those before it.
     pub(crate) fn of(
         alloc: Global,
         partitions: &[&'a Partition],

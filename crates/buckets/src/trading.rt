@@ -23,8 +23,7 @@ pub(crate) struct Traded {
     pub(crate) sales: Vec<Sale>,
 }
 
-/// Prices the executions of the partitions by their orders, and adds the sales that have a price of
-/// their own.
+/// Prices the executions of the partitions by their orders, and adds the sales that have a price of their own.
 pub(crate) fn trade(alloc: Global, partitions: &[&Partition]) -> Result<Traded, OutOfMemory>
     requires { AreRowsByPlace (rows_of_partitions partitions.now) }
     ensures repeated { IfOk result (λ traded. traded.repeated ≡ repeated_in (rows_of_partitions partitions.now)) }

@@ -1,6 +1,5 @@
-//! Writes a query as its canonical text, and has the laws of the query language: a text has one
-//! meaning or a fault, the fault is of the first wrong word, and what is written is read as the query
-//! that was written.
+//! Writes a query as its canonical text, and has the laws of the query language: a text has one meaning or a fault, the
+//! fault is of the first wrong word, and what is written is read as the query that was written.
 #![tactic(auto)]
 
 mod grammar_laws;

@@ -35,9 +35,8 @@ pub fn perform<R: Threads + Wait + Sync, S: Source, K: Sink, L: Sink>(
     report(outcome, errors)
 }
 
-/// Does a job on a source that is read at places, by several threads at once: `length` is how many
-/// bytes it is expected to have, and no answer depends on it. Else as `perform`; the size of morsels
-/// has no part in it.
+/// Does a job on a source that is read at places, by several threads at once: `length` is how many bytes it is expected
+/// to have, and no answer depends on it. Else as `perform`; the size of morsels has no part in it.
 pub fn perform_blocks<R: Threads + Wait + Sync, S: BlockSource + Send + Sync, K: Sink, L: Sink>(
     rt: &R,
     alloc: Global,
@@ -58,8 +57,7 @@ pub fn perform_blocks<R: Threads + Wait + Sync, S: BlockSource + Send + Sync, K:
     report(outcome, errors)
 }
 
-/// Does a job on the day file that was opened. One that can't be opened is reported before the query
-/// is looked at.
+/// Does a job on the day file that was opened. One that can't be opened is reported before the query is looked at.
 pub fn perform_opened<R: Threads + Wait + Sync, S: Source + Drop, K: Sink, L: Sink>(
     rt: &R,
     alloc: Global,

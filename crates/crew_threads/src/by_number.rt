@@ -1,5 +1,6 @@
 //! The work of a pipeline whose inputs are known by their numbers.
 ghost use Rattle.std.specs.Prelude.{◌≡◌, ◌==◌, Some, IfOk, length, slice_get, take};
+ghost use Rattle.std.specs.Arc.{arc_value};
 ghost use Rattle.std.specs.Cmp.Lexicographic.{same_text};
 ghost use Rattle.std.specs.Cmp.Rules.{comparing};
 ghost use Rattle.std.proofs.Common.{◌∙◌, ap, rules, subst, sym};
@@ -103,9 +104,9 @@ impl<W: Work, K: Known<W::Input>> Work for ByNumber<W, K> {
 pub(crate) fn numbered<W: Work, K: Known<W::Input>>(
     alloc: Global,
     inputs: &Inputs<W>,
-) -> Result<Inputs<ByNumber<W, K>>, OutOfMemory>
+) -> Result<Arc<Inputs<ByNumber<W, K>>, Global>, OutOfMemory>
     requires { inputs.now ≡ K.inputs }
-    ensures { IfOk result (λ made. made ≡ numbers_below (length K.inputs)) }
+    ensures { IfOk result (λ made. arc_value made ≡ numbers_below (length K.inputs)) }
 {
     let all = inputs.all();
     let mut items = Vec::with_capacity(alloc, all.len())?;
@@ -117,5 +118,5 @@ pub(crate) fn numbered<W: Work, K: Known<W::Input>>(
         };
         items.push(Arc::new(alloc, known)?)?;
     }
-    Ok(Inputs::of(items))
+    Ok(Arc::new(alloc, Inputs::of(items))?)
 }

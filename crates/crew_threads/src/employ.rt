@@ -1,5 +1,5 @@
 //! The workers of a pipeline, each on a thread of its own.
-ghost use Rattle.std.specs.Prelude.{◌≡◌, ◌<◌, ◌≤◌, length};
+ghost use Rattle.std.specs.Prelude.{◌≡◌, ◌<◌, ◌≤◌, All, length};
 ghost use Rattle.std.specs.Arc.{arc_value};
 ghost use Rattle.lists.specs.declared.limits.TheConstants.{MOST_WORKERS};
 ghost use Rattle.dispatcher.specs.Seats.{tasks_of, IsSeatOf, IsUnused};
@@ -17,27 +17,42 @@ use std::sync::{Arc, Wait};
 use std::thread::{Scope, Threads};
 
 impl<'s, W: Work + 's, G: Gate, R: Threads + Wait + Sync> Pipeline<'s, W, G, R> {
-    /// Starts the workers of a pipeline, each with a seat of its own. One that can't be started is done
-    /// without. The caller's thread receives from the channel that is given, and each other gatherer has its
-    /// own.
+    /// Starts the workers of a pipeline, each with a seat of its own. One that can't be started is done without. The
+    /// caller's thread receives from the channel that is given, and each other gatherer has its own.
     pub(crate) fn start_workers<E>(
         &self,
         scope: &Scope<'s, E>,
         workers: u32,
-        own: Sender<Piece<W>>,
+        own: &Sender<Piece<W>>,
         others: &Vec<Gatherer<W>>,
     ) -> Option<()>
         requires some_task { 0 < length (arc_value self.now.inputs) }
         requires workers { (0 < workers) × (workers ≤ MOST_WORKERS) }
     {
         let tasks = self.inputs.count();
-        let (dispatcher, mut seats) = Dispatcher::new(self.alloc, tasks, workers).ok()?;
+        let (dispatcher, seats) = Dispatcher::new(self.alloc, tasks, workers).ok()?;
         let dispatcher = Arc::new(self.alloc, dispatcher).ok()?;
-        while let Some(seat) = seats.pop() {
-            let to = channel_of(seats.len(), &own, others);
-            self.start_worker(scope, &dispatcher, seat, to);
-        }
+        self.start_each(scope, &dispatcher, seats, own, others);
         Some(())
+    }
+
+    /// Starts a worker for each seat.
+    fn start_each<E>(
+        &self,
+        scope: &Scope<'s, E>,
+        dispatcher: &Arc<Dispatcher, Global>,
+        mut seats: Vec<Seat>,
+        own: &Sender<Piece<W>>,
+        others: &Vec<Gatherer<W>>,
+    )
+        requires tasks { tasks_of (arc_value dispatcher.now) ≡ length (arc_value self.now.inputs) }
+        requires own { All (IsSeatOf (arc_value dispatcher.now)) seats.items }
+        requires unused { All IsUnused seats.items }
+    {
+        while let Some(seat) = seats.pop() {
+            let to = channel_of(seats.len(), own, others);
+            self.start_worker(scope, dispatcher, seat, to);
+        }
     }
 
     /// Starts one worker, if it can be started.
@@ -64,7 +79,7 @@ impl<'s, W: Work + 's, G: Gate, R: Threads + Wait + Sync> Pipeline<'s, W, G, R> 
             let (tasks, inputs) = (&*dispatcher, &*inputs);
             work(alloc, tasks, &mut seat, inputs, &mut port, number, gate)
         };
-        scope.spawn(run).ok()?;
+        let _ = scope.spawn(run);
         Some(())
     }
 }

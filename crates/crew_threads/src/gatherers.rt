@@ -14,8 +14,7 @@ pub struct Gatherer<W: Work> {
     thread: JoinHandle<Gathering<W>>,
 }
 
-/// Starts all gatherers but the caller's thread, which is gatherer 0. One that can't be started is left
-/// out.
+/// Starts all gatherers but the caller's thread, which is gatherer 0. One that can't be started is left out.
 pub fn start_gatherers<'s, E, W: Work + 's, R: Threads + Wait + Sync>(
     scope: &Scope<'s, E>,
     rt: &'s R,
@@ -64,8 +63,7 @@ pub fn channel_of<'a, W: Work>(
     }
 }
 
-/// Files what comes, until all tasks are covered or no worker is left. A piece of other work is
-/// dropped.
+/// Files what comes, until all tasks are covered or no worker is left. A piece of other work is dropped.
 pub fn gather_until_covered<W: Work, R: Wait>(
     rt: &R,
     gathering: &mut Gathering<W>,

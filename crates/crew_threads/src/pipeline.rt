@@ -34,7 +34,7 @@ pub fn run_pipeline<'s, E, W: Work + 's, G: Gate, R: Threads + Wait + Sync>(
     ensures total { IfOk result (λ total. W.IsTotalOf (arc_value inputs) total) }
     ensures admissible { OnOk result (W.IsAdmissible (arc_value inputs)) }
 {
-    run_known::<E, W, Brand, G, R>(scope, rt, alloc, inputs, crew, gate, number)
+    run_known::<E, W, Brand, G, R>(scope, rt, alloc, &inputs, crew, gate, number)
 }
 
 /// Runs a pipeline over the inputs that K names. Its tasks know them by number, so that pieces are gathered without
@@ -43,16 +43,32 @@ fn run_known<'s, E, W: Work + 's, K: Known<W::Input> + 's, G: Gate, R: Threads +
     scope: &Scope<'s, E>,
     rt: &'s R,
     alloc: Global,
+    inputs: &Inputs<W>,
+    crew: Option<Crew>,
+    gate: &'s G,
+    number: u8,
+) -> Result<W::Total, OutOfMemory>
+    requires known { inputs.now ≡ K.inputs }
+    ensures total { IfOk result (λ total. W.IsTotalOf inputs.now total) }
+    ensures admissible { OnOk result (W.IsAdmissible inputs.now) }
+{
+    let inputs = numbered::<W, K>(alloc, inputs)?;
+    run_over(scope, rt, alloc, inputs, crew, gate, number)
+}
+
+/// Runs a pipeline over these inputs.
+fn run_over<'s, E, W: Work + 's, G: Gate, R: Threads + Wait + Sync>(
+    scope: &Scope<'s, E>,
+    rt: &'s R,
+    alloc: Global,
     inputs: Arc<Inputs<W>, Global>,
     crew: Option<Crew>,
     gate: &'s G,
     number: u8,
 ) -> Result<W::Total, OutOfMemory>
-    requires known { arc_value inputs ≡ K.inputs }
     ensures total { IfOk result (λ total. W.IsTotalOf (arc_value inputs) total) }
     ensures admissible { OnOk result (W.IsAdmissible (arc_value inputs)) }
 {
-    let inputs = Arc::new(alloc, numbered::<W, K>(alloc, &inputs)?)?;
     let mut gathering = Gathering::new(alloc, Arc::try_clone(&inputs)?)?;
     let pipeline = Pipeline {
         rt,
@@ -105,7 +121,8 @@ impl<'s, W: Work + 's, G: Gate, R: Threads + Wait + Sync> Pipeline<'s, W, G, R> 
             return;
         };
         let others = start_gatherers(scope, self.rt, self.alloc, &self.inputs, crew.gatherers);
-        self.start_workers(scope, crew.workers, to, &others);
+        self.start_workers(scope, crew.workers, &to, &others);
+        drop(to);
         if others.is_empty() {
             gather_until_covered(self.rt, gathering, &from, self.inputs.count());
         } else {

@@ -21,8 +21,7 @@ pub trait Port<M> {
             (λ _. taken self.new ≡ taken self.old) };
 }
 
-/// Sends into a channel. It refuses a message if the receiver is gone or there is no memory, and
-/// tells nothing.
+/// Sends into a channel. It refuses a message if the receiver is gone or there is no memory, and tells nothing.
 #[derive(Drop)]
 pub struct ChannelPort<'r, M, R: Wait> {
     rt: &'r R,

@@ -63,17 +63,15 @@ impl Cutter {
         self.cut.length() + self.past + self.rest.as_slice().len() as u64
     }
 
-    /// The morsels that it has cut so far and keeps, in order. They are the first ones of the cut that
-    /// `finish` gives.
+    /// The morsels that it has cut so far and keeps, in order. They are the first ones of the cut that `finish` gives.
     pub fn cut_so_far(&self) -> &Cut
         ensures { result.now ≡ self.now.cut }
     {
         &self.cut
     }
 
-    /// Takes the morsels that it has cut so far out of it, and goes on as a cutter to which only the
-    /// bytes after them were fed. It gives none, and keeps all, if there were more full runs than a cut
-    /// may have.
+    /// Takes the morsels that it has cut so far out of it, and goes on as a cutter to which only the bytes after them
+    /// were fed. It gives none, and keeps all, if there were more full runs than a cut may have.
     pub fn take_cut(&mut self) -> Option<Cut>
         ensures taken { IfSome result (λ cut. cut ≡ self.old.cut) }
         ensures full { IfSome result (λ cut. All (IsFullRun self.old.target) cut) }

@@ -78,9 +78,8 @@ fn make_cut(alloc: Global, bytes: &[u8], target: u64) -> Result<Cut, CutFault>
     Ok(cut)
 }
 
-/// Cuts the file at these places: the ends of all morsels but the last. All other faults are
-/// reported before memory is taken, a truncated file before a bad end, and that before too many
-/// morsels.
+/// Cuts the file at these places: the ends of all morsels but the last. All other faults are reported before memory is
+/// taken, a truncated file before a bad end, and that before too many morsels.
 pub fn cut_at<A: Allocator>(alloc: Global, file: &DayFile<A>, ends: &[u64]) -> Result<Cut, CutFault>
     ensures cut { IfOk result (λ cut. IsCutAt ends.now cut file.now) }
     ensures fault { IfErr result (λ fault. IsCutAtFault ends.now file.now fault) }
@@ -113,8 +112,7 @@ fn first_bad(bytes: &[u8], ends: &[u64]) -> Option<u64>
     None
 }
 
-// Whether this end is greater than `start`, where a frame stands or the bytes begin, and a frame
-// stands there.
+// Whether this end is greater than `start`, where a frame stands or the bytes begin, and a frame stands there.
 #[tactic(auto, using(crate::proofs::CutsAt::end_told))]
 fn is_end(bytes: &[u8], start: u64, end: u64) -> bool
     requires limit { length bytes.now ≤ LONGEST_FILE }

@@ -19,8 +19,7 @@ pub struct Frame<'a> {
     pub body: &'a [u8],
 }
 
-/// The frames of a day file that are left, in order, and the place where the file is truncated
-/// after them, if it is.
+/// The frames of a day file that are left, in order, and the place where the file is truncated after them, if it is.
 #[derive(Debug, Drop)]
 pub struct Frames<'a> {
     place: u64,
@@ -56,8 +55,7 @@ impl<'a> Frames<'a> {
         Frames { place, rest: bytes }
     }
 
-    /// Walks over the frames that are left. It is an error if and only if the bytes are truncated
-    /// after them.
+    /// Walks over the frames that are left. It is an error if and only if the bytes are truncated after them.
     #[tactic(auto, using(crate::proofs::Walks::ended_walk))]
     pub fn finish(mut self) -> Result<(), Truncated>
         ensures { MatchResult result (λ _. self.entry.truncated ≡ None)

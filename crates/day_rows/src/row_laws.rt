@@ -3,8 +3,7 @@ ghost use Rattle.std.specs.List.{flat_map};
 ghost use Rattle.day_rows.specs.DayRows.{all_rows, joined, rows_of};
 ghost use Rattle.day_rows.specs.Messages.{Placed, counted};
 
-/// The law of rows: those of joined lists of messages are the joined rows. It does nothing when it
-/// runs.
+/// The law of rows: those of joined lists of messages are the joined rows. It does nothing when it runs.
 #[tactic(auto, using(crate::proofs::JoinedRows::joined_laws))]
 pub fn rows_are_joined()
     ensures two { (one other : List Placed) →

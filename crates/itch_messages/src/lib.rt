@@ -1,7 +1,6 @@
-//! The message bodies of Nasdaq TotalView-ITCH 5.0 that a day's trades are told by: add order (A,
-//! with attribution F), order executed (E, with price C), order replace (U), trade (P), cross trade
-//! (Q), broken trade (B) and stock directory (R). Numbers are unsigned and big-endian, and alpha
-//! fields are padded on the right with spaces.
+//! The message bodies of Nasdaq TotalView-ITCH 5.0 that a day's trades are told by: add order (A, with attribution F),
+//! order executed (E, with price C), order replace (U), trade (P), cross trade (Q), broken trade (B) and stock
+//! directory (R). Numbers are unsigned and big-endian, and alpha fields are padded on the right with spaces.
 #![tactic(auto)]
 
 mod body_law;

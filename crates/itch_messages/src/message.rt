@@ -1,9 +1,8 @@
 //! The messages that are read.
 use crate::header::Header;
 
-/// An order that is added to the book: 'A', or 'F' with the four bytes of its attribution. `side`
-/// is `B` or `S`, and `price` is in ten-thousandths of a dollar. TotalView-ITCH 5.0, sections 1.3.1
-/// and 1.3.2.
+/// An order that is added to the book: 'A', or 'F' with the four bytes of its attribution. `side` is `B` or `S`, and
+/// `price` is in ten-thousandths of a dollar. TotalView-ITCH 5.0, sections 1.3.1 and 1.3.2.
 #[derive(Clone, Copy, Debug, PartialEq, Eq)]
 pub struct Add {
     pub header: Header,
@@ -39,9 +38,8 @@ pub struct ExecutedAt {
     pub price: u32,
 }
 
-/// An order that another replaces: 'U'. `old_no` and `new_no` are the two order reference numbers,
-/// `shares` and `price` (in ten-thousandths of a dollar) are the new order's. TotalView-ITCH 5.0,
-/// section 1.4.5.
+/// An order that another replaces: 'U'. `old_no` and `new_no` are the two order reference numbers, `shares` and `price`
+/// (in ten-thousandths of a dollar) are the new order's. TotalView-ITCH 5.0, section 1.4.5.
 #[derive(Clone, Copy, Debug, PartialEq, Eq)]
 pub struct Replace {
     pub header: Header,

@@ -18,9 +18,8 @@ use std::sync::Arc;
 use std::thread::Threads;
 use time_and_sales::{Listing, Names};
 
-/// The answer that the total of all buckets gives: the first fault in the references, or the text
-/// that is asked for. So many threads, or fewer, make the text in ranges, and the rows of all buckets
-/// are let go when it is made.
+/// The answer that the total of all buckets gives: the first fault in the references, or the text that is asked for. So
+/// many threads, or fewer, make the text in ranges, and the rows of all buckets are let go when it is made.
 pub fn answer_in_ranges<R: Threads + Sync>(
     rt: &R,
     alloc: Global,

@@ -17,14 +17,12 @@ pub enum What {
     },
 }
 
-/// What is listed, and of which sales. Each query can be spelled in the language: it has one or
-/// more kinds, a moment no later than the day's end, and a span that isn't empty and ends with the
-/// day or before. A clause sees what it means.
+/// What is listed, and of which sales. Each query can be spelled in the language: it has one or more kinds, a moment no
+/// later than the day's end, and a span that isn't empty and ends with the day or before. A clause sees what it means.
 #[derive(Drop)]
 pub struct Query<A: Allocator = Global> {
     pub what: What,
-    /// Messages after this moment don't count; if there is none, each counts. In seconds since
-    /// midnight, 0 to 86,400.
+    /// Messages after this moment don't count; if there is none, each counts. In seconds since midnight, 0 to 86,400.
     pub as_of: Option<u32>,
     /// The symbols whose sales are listed, or those of each.
     pub symbols: Option<Symbols<A>>,

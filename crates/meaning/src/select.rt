@@ -13,9 +13,8 @@ use std::alloc::Allocator;
 use time_and_sales::Names;
 use time_and_sales::names::LOCATES;
 
-/// The selection of a query: the locates, of 0 to 65,535, whose names the query lists, its span
-/// and its kinds. If the query lists no symbol, every locate is selected and no memory is taken, so
-/// the call succeeds.
+/// The selection of a query: the locates, of 0 to 65,535, whose names the query lists, its span and its kinds. If the
+/// query lists no symbol, every locate is selected and no memory is taken, so the call succeeds.
 pub fn selection<A: Allocator + Clone, B: Allocator, C: Allocator + Clone>(
     alloc: A,
     query: &Query<B>,

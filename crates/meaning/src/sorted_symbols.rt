@@ -9,8 +9,7 @@ use crate::symbols::Symbols;
 use std::alloc::Allocator;
 use std::marker::Model;
 
-/// Symbols in rising order of their bytes, each as often as it was listed. A clause sees them as a
-/// list.
+/// Symbols in rising order of their bytes, each as often as it was listed. A clause sees them as a list.
 #[derive(Drop)]
 pub(crate) struct SortedSymbols<'a, A: Allocator> {
     names: Vec<&'a [u8], A>,

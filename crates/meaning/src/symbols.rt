@@ -10,8 +10,7 @@ use std::marker::Model;
 /// What parts the symbols of a list, or other items; no symbol has one.
 pub const COMMA: u8 = b',';
 
-/// A symbol: 1 to 8 visible ASCII characters, none of them a comma, held in place. A clause sees
-/// its bytes.
+/// A symbol: 1 to 8 visible ASCII characters, none of them a comma, held in place. A clause sees its bytes.
 #[derive(Drop)]
 pub struct Symbol {
     bytes: ArrayVec<u8, 8>,
@@ -28,8 +27,7 @@ impl Model for Symbol {
     ghost invariant = { λ symbol. is_symbol symbol.bytes.items ≡ true };
 }
 
-/// One or more symbols, in the order in which they were listed and as often. A clause sees them as
-/// a list.
+/// One or more symbols, in the order in which they were listed and as often. A clause sees them as a list.
 #[derive(Drop)]
 pub struct Symbols<A: Allocator = Global> {
     items: Vec<Symbol, A>,

@@ -43,8 +43,7 @@ impl<A: Allocator + Copy> Partition<A> {
         }
     }
 
-    /// No rows, and room for `orders` order rows, which is taken at once. It is refused if there is
-    /// no memory for them.
+    /// No rows, and room for `orders` order rows, which is taken at once. It is refused if there is no memory for them.
     pub(crate) fn with_room(alloc: A, orders: usize) -> Result<Self, OutOfMemory>
         ensures { IfOk result (λ partition. partition ≡ no_rows_in) }
     {
@@ -82,8 +81,7 @@ impl<A: Allocator> Partition<A> {
         self.executions.as_slice()
     }
 
-    /// The sales that have a price of their own: printable executions with a price, trades and
-    /// crosses.
+    /// The sales that have a price of their own: printable executions with a price, trades and crosses.
     #[inline(always)]
     pub fn own_priced(&self) -> &[Sale]
         ensures { result.now ≡ self.now.own_priced }

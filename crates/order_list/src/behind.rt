@@ -1,5 +1,5 @@
 //! Order rows behind lean ones.
-ghost use Rattle.std.specs.Prelude.{◌≡◌, ◌+◌, ◌^◌, ◌<◌, ◌≤◌, [], ◌∷◌, ◌++◌, length, IsTrue, OnErr, OnOk};
+ghost use Rattle.std.specs.Prelude.{◌≡◌, ◌+◌, ◌^◌, ◌<◌, ◌≤◌, [], ◌∷◌, ◌++◌, length, IfOk, IsTrue, OnErr, OnOk};
 ghost use Rattle.std.specs.Prelude.{slice_index_or, vec_capacity, vec_len};
 
 use crate::OutOfMemory;
@@ -35,23 +35,29 @@ impl<A: Allocator> Model for RowsBehind<A> {
 }
 
 impl<A: Allocator + Copy> RowsBehind<A> {
-    /// No rows. It takes no memory.
-    pub(crate) fn new(alloc: A) -> Self
-        ensures { result ≡ [] }
+    /// The rows in a box, in room for so many narrow ones. It is refused if there is no memory for them.
+    pub(crate) fn of(alloc: A, room: usize, rows: &[OrderRow]) -> Result<Box<Self, A>, OutOfMemory>
+        ensures { IfOk result (λ behind. behind.value ≡ rows.now) }
     {
-        RowsBehind {
+        let mut behind = RowsBehind {
             narrow: NarrowRows::new(alloc),
             wide: Vec::new(alloc),
-        }
+        };
+        behind.begin(room, rows)?;
+        Ok(Box::new(alloc, behind)?)
     }
 }
 
 impl<A: Allocator> RowsBehind<A> {
-    /// Takes room for so many narrow rows more. It is refused if there is no memory for them.
-    pub(crate) fn reserve(&mut self, rows: usize) -> Result<(), OutOfMemory>
-        ensures { self.new ≡ self.old }
+    /// Takes room for so many narrow rows more, and adds the rows. It is refused if there is no memory for them.
+    fn begin(&mut self, room: usize, rows: &[OrderRow]) -> Result<(), OutOfMemory>
+        ensures { OnOk result (self.new ≡ self.old ++ rows.now) }
     {
-        self.narrow.reserve(rows)
+        self.narrow.reserve(room)?;
+        for row in rows {
+            self.push(*row)?;
+        }
+        Ok(())
     }
 
     /// Adds a row at the end. If there is no memory for it, the rows stay as they were.

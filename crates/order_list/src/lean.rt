@@ -16,7 +16,7 @@ use std::alloc::Allocator;
 const BELOW: u64 = 1 << 31;
 
 /// An order row in 12 bytes: its place and its reference count from an origin.
-#[derive(Clone, Copy, Debug, PartialEq, Eq)]
+#[derive(Clone, Copy)]
 pub(crate) struct Lean {
     pub(crate) reference: u32,
     pub(crate) price: u32,

@@ -7,7 +7,7 @@ use crate::short::{ShortRow, ShortRows};
 use row_types::OrderRow;
 
 /// An order row in 16 bytes: its place counts from an origin.
-#[derive(Clone, Copy, Debug, PartialEq, Eq)]
+#[derive(Clone, Copy)]
 pub(crate) struct Narrow {
     pub(crate) order_no: u64,
     pub(crate) price: u32,

@@ -3,7 +3,7 @@ ghost use Rattle.std.specs.Prelude.{◌≡◌, ◌+◌, ◌^◌, ◌≤◌};
 ghost use Rattle.std.specs.Option.{IfSome};
 
 /// What the places of order rows in few bytes count from, and the references of lean ones.
-#[derive(Clone, Copy, Debug, PartialEq, Eq)]
+#[derive(Clone, Copy)]
 pub(crate) struct Origin {
     pub(crate) place: u64,
     pub(crate) order_no: u64,

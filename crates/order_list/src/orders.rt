@@ -48,8 +48,7 @@ impl<A: Allocator + Copy> OrderList<A> {
         }
     }
 
-    /// No rows, and room for this many lean ones, which is taken at once. It is refused if there
-    /// is no memory for them.
+    /// No rows, and room for this many lean ones, which is taken at once. It is refused if there is no memory for them.
     pub fn with_room(alloc: A, rows: usize) -> Result<Self, OutOfMemory>
         ensures { IfOk result (λ list. list ≡ []) }
     {
@@ -174,21 +173,14 @@ fn begin_behind<A: Allocator + Copy>(
 {
     let alloc = lean.allocator();
     let room = lean.room();
-    let mut behind = RowsBehind::new(alloc);
     if lean.len() == 1 {
-        behind.reserve(room)?;
-        behind.push(lean.at(0))?;
-        behind.push(row)?;
-        let behind = Box::new(alloc, behind)?;
+        let behind = RowsBehind::of(alloc, room, &[lean.at(0), row])?;
         lean.clear();
         return Ok(behind);
     }
     let rest = room.saturating_sub(lean.len());
     lean.shrink_to_fit();
-    behind.reserve(rest)?;
-    behind.push(row)?;
-    let behind = Box::new(alloc, behind)?;
-    Ok(behind)
+    RowsBehind::of(alloc, rest, &[row])
 }
 
 /// Lists are equal if they have the same rows in the same order.

@@ -35,6 +35,5 @@ fn grow<T, A: Allocator>(items: &mut Vec<T, A>) -> Result<(), OutOfMemory>
     ensures same { items.new.items ≡ items.old.items }
     ensures room { OnOk result (vec_len items.new < vec_capacity items.new) }
 {
-    items.reserve(1)?;
-    Ok(())
+    items.reserve(1)
 }

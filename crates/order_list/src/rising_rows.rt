@@ -20,8 +20,7 @@ impl Referenced for Lean {
     }
 }
 
-/// The rows of a list, one or more, each of a greater reference than the row before it. They are
-/// not copied.
+/// The rows of a list, one or more, each of a greater reference than the row before it. They are not copied.
 #[derive(Drop)]
 pub struct RisingRows<'a> {
     origin: Origin,

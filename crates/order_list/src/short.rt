@@ -70,8 +70,7 @@ impl<R: ShortRow, A: Allocator> ShortRows<R, A> {
     pub(crate) fn reserve(&mut self, rows: usize) -> Result<(), OutOfMemory>
         ensures { self.new ≡ self.old }
     {
-        self.rows.reserve_exact(rows)?;
-        Ok(())
+        self.rows.reserve_exact(rows)
     }
 
     /// What the rows take memory from.

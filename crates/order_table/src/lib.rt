@@ -1,10 +1,8 @@
-//! The order rows of a day file, and the table that prices an execution by the first row of its
-//! order reference.
+//! The order rows of a day file, and the table that prices an execution by the first row of its order reference.
 //!
-//! Rows come in any order. A row stands at its place, the byte offset of its message in the file,
-//! and "first" goes by place. A table has the rows in the order of their references, so that the
-//! first row of each is found by a binary search, and building one tells of the first row that
-//! repeats a reference.
+//! Rows come in any order. A row stands at its place, the byte offset of its message in the file, and "first" goes by
+//! place. A table has the rows in the order of their references, so that the first row of each is found by a binary
+//! search, and building one tells of the first row that repeats a reference.
 #![tactic(auto)]
 
 pub mod partitions;

@@ -2,8 +2,7 @@
 ghost use Rattle.std.specs.Prelude.{◌≡◌, List};
 ghost use Rattle.order_table.specs.Orders.{OrderRow as TheRow, price_before};
 
-/// What gives an execution the price of the first row of its order reference, wherever the rows are
-/// kept.
+/// What gives an execution the price of the first row of its order reference, wherever the rows are kept.
 pub trait PricesExecutions {
     /// It prices by these rows.
     ghost PricesBy: { List TheRow → Self → Type 0 };

@@ -24,8 +24,7 @@ pub(crate) fn put_in_order<A: Allocator>(rows: &mut Vec<OrderRow, A>)
     rows.sort_unstable_by_key(|row: &OrderRow| (row.order_no, row.place));
 }
 
-/// Of rows in order, the one of least place that repeats a reference: each repeats that of the row
-/// before it.
+/// Of rows in order, the one of least place that repeats a reference: each repeats that of the row before it.
 pub(crate) fn first_repeated(rows: &[OrderRow]) -> Option<OrderRow>
     requires distinct { IsDistinct nat_eq (map (λ row. row.place) rows.now) }
     requires in_order { IsInOrder rows.now }

@@ -1,7 +1,6 @@
 use thiserror::Error;
 
-/// What is wrong with a day file. A place is the offset of a frame's length, in bytes from the
-/// file's start.
+/// What is wrong with a day file. A place is the offset of a frame's length, in bytes from the file's start.
 #[derive(Clone, Copy, Debug, PartialEq, Eq, Error)]
 pub enum DayFault {
     /// The file ends within the frame at this place.

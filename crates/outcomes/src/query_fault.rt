@@ -6,8 +6,7 @@ use thiserror::Error;
 /// that come before the word in the text.
 #[derive(Clone, Copy, Debug, PartialEq, Eq, Error)]
 pub enum QueryFault {
-    /// A word that is not allowed there, a malformed list of symbols or kinds, or a word after the
-    /// query's end.
+    /// A word that is not allowed there, a malformed list of symbols or kinds, or a word after the query's end.
     #[error("query byte {at}: unknown word")]
     UnknownWord { at: usize },
     /// The word after `bars` is no number of one to five digits; or, reported once the unit was

@@ -7,10 +7,9 @@ use lists::limits::MOST_MORSELS;
 use std::alloc::AllocError;
 use thiserror::Error;
 
-/// Why a query was not answered. Of several faults the first in this order is reported, with two
-/// exceptions: running out of memory may be reported in place of a fault that would have been found
-/// later, or of one of the query; and if a block of a source that is read at places is read twice,
-/// a reading of it that failed may not be reported.
+/// Why a query was not answered. Of several faults the first in this order is reported, with two exceptions: running
+/// out of memory may be reported in place of a fault that would have been found later, or of one of the query; and if a
+/// block of a source that is read at places is read twice, a reading of it that failed may not be reported.
 #[derive(Clone, Copy, Debug, PartialEq, Eq, Error)]
 pub enum RunFault {
     /// The query's text is no query.

@@ -4,10 +4,9 @@ ghost use Rattle.lists.specs.declared.limits.TheConstants.{MOST_PARTITIONS};
 
 use crate::crew::Crew;
 
-/// How a query is answered. The crew, the morsel and the parts only affect speed and memory: no
-/// text of an answer and no fault of a day depends on them. A file that isn't truncated, is cut
-/// while it is read, and has more than 65,536 morsels of the size asked for is refused instead of
-/// answered.
+/// How a query is answered. The crew, the morsel and the parts only affect speed and memory: no text of an answer and
+/// no fault of a day depends on them. A file that isn't truncated, is cut while it is read, and has more than 65,536
+/// morsels of the size asked for is refused instead of answered.
 #[derive(Clone, Copy)]
 pub struct Settings {
     /// How many threads work, and how many gather what they find.

@@ -7,8 +7,7 @@ ghost use Rattle.pipelines.specs.declared.outcome.Outcome.{Outcome as TheOutcome
 use gathering::Work;
 use links::Link;
 
-/// If each list of inputs has one total and each total is linked to one thing, there is one
-/// outcome.
+/// If each list of inputs has one total and each total is linked to one thing, there is one outcome.
 pub fn functions_have_one_outcome<A: Work, B: Work, L: Link<A, B>>()
     ensures { (link : L) (inputs : List A.Input) (total_of_first : List A.Input → A.Total)
         (linked : A.Total → TheLinked (List B.Input) L.Kept L.Stop) (total_of : List B.Input → B.Total)

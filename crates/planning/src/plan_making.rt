@@ -18,7 +18,6 @@ use std::sync::Arc;
 use time_and_sales::DirectoryRow;
 
 /// The breaks of all morsels.
-#[tactic(auto, using(crate::proofs::Gathered::gathering))]
 fn breaks_of(alloc: Global, morsels: &[Arc<MorselRows, Global>]) -> Result<Breaks, OutOfMemory>
     ensures { IfOk result (λ breaks. breaks ≡ rising (all_breaks (map arc_value morsels.now))) }
 {
@@ -30,7 +29,6 @@ fn breaks_of(alloc: Global, morsels: &[Arc<MorselRows, Global>]) -> Result<Break
 }
 
 /// The directory rows of all morsels.
-#[tactic(auto, using(crate::proofs::Gathered::gathering))]
 pub(crate) fn directory_of(
     alloc: Global,
     morsels: &[Arc<MorselRows, Global>],

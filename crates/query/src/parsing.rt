@@ -18,9 +18,8 @@ use probe::{Kinds, Span};
 use std::alloc::Allocator;
 use std::marker::Model;
 
-/// Reads the query that a text spells, in time linear in its length. Of several faults it reports
-/// the first from the left. It takes memory only for the list of symbols, so it runs out of memory
-/// only if the text has one.
+/// Reads the query that a text spells, in time linear in its length. Of several faults it reports the first from the
+/// left. It takes memory only for the list of symbols, so it runs out of memory only if the text has one.
 #[tactic(auto, using(crate::proofs::WordByWord::reading, crate::proofs::MeaningOrFault::told))]
 pub fn parse<A: Allocator + Clone>(alloc: A, text: &str) -> Result<Query<A>, QueryFault>
     ensures meaning { IfOk result (λ query. Means (words_of text.now) query) }

@@ -9,11 +9,10 @@ use std::alloc::Global;
 use std::thread;
 use std::thread::Threads;
 
-/// The text of items in order of a number, in pieces that are one text when they are put together.
-/// A range of numbers begins at 0, and one at each of `numbers`, or at a greater one before it. `text`
-/// makes the lines of each range: it is given the bounds of that range and of those behind it. So many
-/// threads, or fewer if they can't be made, make the ranges, each an even share of them, one after the
-/// other. It is refused if a call is, or if there is no memory.
+/// The text of items in order of a number, in pieces that are one text when they are put together. A range of numbers
+/// begins at 0, and one at each of `numbers`, or at a greater one before it. `text` makes the lines of each range: it
+/// is given the bounds of that range and of those behind it. So many threads, or fewer if they can't be made, make the
+/// ranges, each an even share of them, one after the other. It is refused if a call is, or if there is no memory.
 pub fn texts_in_ranges<T, R: Threads + Sync, F: Fn(&[u64]) -> Result<Vec<u8>, OutOfMemory> + Sync>(
     rt: &R,
     alloc: Global,
@@ -87,8 +86,7 @@ fn texts_in_turn<F: Fn(&[u64]) -> Result<Vec<u8>, OutOfMemory>>(
     Ok(texts)
 }
 
-/// The least numbers of ranges: 0, then the greatest of the numbers so far, for each of them in
-/// turn.
+/// The least numbers of ranges: 0, then the greatest of the numbers so far, for each of them in turn.
 #[tactic(auto, using(crate::proofs::MadeTexts::bounding))]
 fn bounds_of(alloc: Global, numbers: &[u64]) -> Result<Vec<u64>, OutOfMemory>
     ensures { IfOk result (λ bounds. bounds.items ≡ 0 ∷ greatest_so_far 0 numbers.now) }

@@ -9,8 +9,7 @@ use itoa::Buffer;
 use lists::limits::MOST_MORSELS;
 use outcomes::{DayFault, QueryFault, RunFault};
 
-/// Room for the longest line, which has 103 bytes: that of a wrong length whose three numbers have
-/// 20 digits each.
+/// Room for the longest line, which has 103 bytes: that of a wrong length whose three numbers have 20 digits each.
 pub(crate) type Line = ArrayVec<u8, 103>;
 
 pub(crate) fn status_of(fault: &RunFault) -> u8

@@ -16,8 +16,7 @@ pub fn one_run<S: Source>()
         Answers (of_stream S.Source limit target before after) words other → one ≡ other }
 {}
 
-/// A source that is read at places, and can have given only one list of bytes up to its end, has
-/// one answer.
+/// A source that is read at places, and can have given only one list of bytes up to its end, has one answer.
 pub fn one_run_of_blocks<S: BlockSource>()
     ensures { (limit : ℕ) (source : S) →
         ((xs ys : List ℕ) → GaveWhole S.BlockSource.own limit source xs →

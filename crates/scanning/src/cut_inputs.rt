@@ -12,9 +12,8 @@ use gathering::Inputs;
 use std::alloc::Global;
 use std::sync::Arc;
 
-/// The inputs of the scans of a cut: each of its morsels, in order, with this moment, in seconds since
-/// midnight, and this number of partitions. They share the morsels with the cut, whose bytes are freed
-/// once both are let go.
+/// The inputs of the scans of a cut: each of its morsels, in order, with this moment, in seconds since midnight, and
+/// this number of partitions. They share the morsels with the cut, whose bytes are freed once both are let go.
 ///
 /// It is refused if memory for the list of inputs, or for one of them, is refused.
 pub fn scan_inputs(

@@ -28,8 +28,7 @@ const MOST_AT_ONCE: u64 = 32 << 20;
 /// How many frames are picked before they are taken in.
 const AT_ONCE: usize = 256;
 
-/// What the frames that were taken in so far give: the rows of their messages that count, and the least
-/// wrong length.
+/// What the frames that were taken in so far give: the rows of their messages that count, and the least wrong length.
 #[derive(Drop)]
 pub struct OpenScan {
     rows: MorselRows,
@@ -95,8 +94,7 @@ impl OpenScan {
         Ok(walked)
     }
 
-    /// Takes in so many of the frames that were picked, if there is no room for one more, and says how
-    /// many are left.
+    /// Takes in so many of the frames that were picked, if there is no room for one more, and says how many are left.
     #[inline(always)]
     fn make_room(
         &mut self,
@@ -197,8 +195,7 @@ impl OpenScan {
     }
 }
 
-/// For how many order rows each of so many partitions takes room at once: about as many as so many bytes of
-/// a day give.
+/// For how many order rows each of so many partitions takes room at once: about as many as so many bytes of a day give.
 fn orders_of(bytes: u64, parts: u32) -> u64
     requires { 0 < parts }
     ensures all { result * parts * BYTES_AN_ORDER ≤ bytes }

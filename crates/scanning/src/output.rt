@@ -9,8 +9,7 @@ use std::alloc::Global;
 use std::marker::Model;
 use std::sync::Arc;
 
-/// The rows of a morsel's counted messages, in partitions, which totals share, and the morsel's least
-/// wrong length.
+/// The rows of a morsel's counted messages, in partitions, which totals share, and the morsel's least wrong length.
 #[derive(Drop)]
 pub struct Scanned {
     rows: Arc<MorselRows, Global>,

@@ -12,8 +12,7 @@ use crate::total::ScanTotal;
 use gathering::Work;
 use std::alloc::Global;
 
-/// Scans morsels. The morsels of one cut may be scanned, with one moment and one number of
-/// partitions.
+/// Scans morsels. The morsels of one cut may be scanned, with one moment and one number of partitions.
 #[derive(Drop)]
 pub struct ScanWork;
 

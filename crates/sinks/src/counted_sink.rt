@@ -6,10 +6,9 @@ use crate::sink::Sink;
 use day_file::DeviceFailed;
 use std::io::Write;
 
-/// The sink over any writer. Any error of the writer, an interruption too, and a write of no byte
-/// of a slice that is not empty are failures. Each call of the sink calls the writer once, and none
-/// is made after an error: no clause of a writer lets that be said, so tests count the calls. No
-/// clause says that a writer passes on what it keeps back.
+/// The sink over any writer. Any error of the writer, an interruption too, and a write of no byte of a slice that is
+/// not empty are failures. Each call of the sink calls the writer once, and none is made after an error: no clause of a
+/// writer lets that be said, so tests count the calls. No clause says that a writer passes on what it keeps back.
 #[derive(Debug, Drop)]
 pub struct CountedSink<W: Write> {
     writer: W,

@@ -21,10 +21,9 @@ const PIECE: usize = 65_536;
 /// The C library heeds no vector of 32 MiB or more that is let go.
 const MOST_HEEDED: u64 = 31 << 20;
 
-/// Reads a source of at most `limit` bytes to its end, and cuts what it gives into batches of morsels,
-/// which are, joined, the morsels of the whole: each is the shortest run of frames that has at least
-/// `target` bytes, or the rest. Besides a batch it holds no more than a morsel that is not full yet,
-/// and a piece of at most 65,536 bytes.
+/// Reads a source of at most `limit` bytes to its end, and cuts what it gives into batches of morsels, which are,
+/// joined, the morsels of the whole: each is the shortest run of frames that has at least `target` bytes, or the rest.
+/// Besides a batch it holds no more than a morsel that is not full yet, and a piece of at most 65,536 bytes.
 #[derive(Drop)]
 pub struct BatchReader {
     alloc: Global,
@@ -52,8 +51,7 @@ impl Model for BatchReader {
 }
 
 impl BatchReader {
-    /// A reader that has read nothing yet. Each of its batches but the last will have at least `batch`
-    /// bytes.
+    /// A reader that has read nothing yet. Each of its batches but the last will have at least `batch` bytes.
     pub fn new(alloc: Global, limit: u64, target: u64, batch: u64) -> Result<Self, OutOfMemory>
         requires limit { limit ≤ LONGEST_FILE }
         requires target { 0 < target }

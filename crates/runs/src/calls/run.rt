@@ -16,10 +16,9 @@ use std::sync::Wait;
 use std::thread::Threads;
 use streaming::Source;
 
-/// Reads a whole day file from a source, batch by batch, and cuts it into morsels, which threads scan
-/// while the next batch is read. Threads then find the answer to the query, which is written to a sink.
-/// Nothing is written until only the sink can still refuse. After a refusal the source may have
-/// been read in part. It waits for the threads.
+/// Reads a whole day file from a source, batch by batch, and cuts it into morsels, which threads scan while the next
+/// batch is read. Threads then find the answer to the query, which is written to a sink. Nothing is written until only
+/// the sink can still refuse. After a refusal the source may have been read in part. It waits for the threads.
 pub fn run<R: Threads + Wait + Sync, S: Source, K: Sink>(
     rt: &R,
     alloc: Global,

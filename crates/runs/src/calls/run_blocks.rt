@@ -51,12 +51,10 @@ pub fn run_blocks<R: Threads + Wait + Sync, S: BlockSource + Send + Sync, K: Sin
     hand_over(answer, sink)
 }
 
-/// Answers a query over all that a source gives at places, by two pipelines as `answer` does: the
-/// first has a task for each block of the division. Neither the division nor the crew or the gate
-/// change the answer.
+/// Answers a query over all that a source gives at places, by two pipelines as `answer` does: the first has a task for
+/// each block of the division. Neither the division nor the crew or the gate change the answer.
 ///
-/// It waits for its threads. A reading that fails is reported, unless it is one of a block that was
-/// read twice.
+/// It waits for its threads. A reading that fails is reported, unless it is one of a block that was read twice.
 pub fn answer_blocks<G: Gate, R: Threads + Wait + Sync, S: BlockSource + Send + Sync>(
     rt: &R,
     alloc: Global,

@@ -1,7 +1,8 @@
 //! A source that is read batch by batch, while threads scan the batch before.
-ghost use Rattle.std.specs.Prelude.{◌≡◌, ◌<◌, ◌≤◌, ◌↔◌, false, true, IfErr, IfOk, IsErrOf};
+ghost use Rattle.std.specs.Prelude.{◌≡◌, ◌<◌, ◌≤◌, ◌↔◌, false, true, IfErr, IfOk, IsErrOf, Ok, OnOk};
 ghost use Rattle.lists.specs.declared.limits.TheConstants.{MOST_PARTITIONS};
 ghost use Rattle.streaming.specs.Readings.{IsSourceFault, of_stream};
+ghost use Rattle.scanning.specs.Scans.{ScanTotalView, with_scans};
 ghost use Rattle.runs.specs.Steps.{IsBatchRead, IsScanOf, IsScanOfAll};
 
 use crate::OutOfMemory;
@@ -41,26 +42,17 @@ pub(crate) fn scan_source<R: Threads + Wait + Sync, S: Source>(
     ensures failed { IsErrOf result SourceFault.ReadFailed ↔ (S.has_failed source.new ≡ true) }
 {
     let mut reader = BatchReader::new(alloc, settings.limit, settings.morsel, BATCH)?;
-    let mut total = ScanTotal::empty(alloc);
     let mut batch = reader.next_batch(source)?;
+    let mut total = ScanTotal::empty(alloc);
     let parts = partitions_of(&batch, settings.parts);
     let is_short = batch.is_last && batch.cut.length() < SHORT;
     let crew = if is_short { None } else { Some(settings.crew) };
     while !batch.is_last {
-        let (scans, next) = scan_and_read(
-            rt,
-            alloc,
-            &batch,
-            as_of,
-            parts,
-            crew,
-            &mut reader,
-            source,
-        );
+        let (scans, next) = scan_ahead(rt, alloc, &batch, as_of, parts, crew, &mut reader, source);
         batch = next?;
-        total.append(scans?)?;
+        take_in(&mut total, scans)?;
     }
-    total.append(scan(rt, alloc, &batch, as_of, parts, crew)?)?;
+    take_in(&mut total, scan(rt, alloc, &batch, as_of, parts, crew))?;
     Ok((total, parts, crew))
 }
 
@@ -76,8 +68,15 @@ fn partitions_of(batch: &Batch, parts: u32) -> u32
     ReferenceSample::of_cut(&batch.cut).partitions(parts)
 }
 
+/// Adds the scans of a batch to the total.
+fn take_in(total: &mut ScanTotal, scans: Result<ScanTotal, OutOfMemory>) -> Result<(), OutOfMemory>
+    ensures { OnOk result ((more : ScanTotalView) × (scans ≡ Ok more) × (total.new ≡ with_scans total.old more)) }
+{
+    total.append(scans?)
+}
+
 /// Scans a batch on threads of its own, while the caller's thread reads the next one.
-fn scan_and_read<R: Threads + Wait + Sync, S: Source>(
+fn scan_ahead<R: Threads + Wait + Sync, S: Source>(
     rt: &R,
     alloc: Global,
     batch: &Batch,

@@ -9,7 +9,7 @@ pub returns-clause-total : goal.returns-clause-total
 returns-clause-total g c =
     let inputs = g.K.Known.inputs in
     let count = length (arc_value c.in_ok-inputs.inputs) in
-    let counted = ap length (c.in_ok-inputs.ensures.ok ∙ c.in_ok-numbered.ensures) ∙ length-range_with_len 0 (length inputs) in
-    let all : take count inputs ≡ arc_value c.args.inputs = take_all count inputs (omega (arith, counted)) ∙ sym c.requires.known in
-    IfOk-weaker c.complete.result (λ total. g.W.Work.IsTotalOf (take count inputs) total) (λ total. g.W.Work.IsTotalOf (arc_value c.args.inputs) total)
-    (λ total is. subst (λ l. g.W.Work.IsTotalOf l total) all is) c.complete.ensures.total
+    let counted = ap length c.in_ok-inputs.ensures ∙ length-range_with_len 0 (length inputs) in
+    let all : take count inputs ≡ c.args.inputs.now = take_all count inputs (omega (arith, counted)) ∙ sym c.requires.known in
+    IfOk-weaker c.run_over.result (λ total. g.W.Work.IsTotalOf (take count inputs) total) (λ total. g.W.Work.IsTotalOf (c.args.inputs.now) total)
+    (λ total is. subst (λ l. g.W.Work.IsTotalOf l total) all is) c.run_over.ensures.total

@@ -1,6 +1,5 @@
-use Rattle.std.specs.Arc.{arc_value}
 use Rattle.crew_threads.proofs.pipeline.run_pipeline.Given as goal
 
 -- the name is that of the inputs that are handed over
 abbrev pub ghosts-run_known : goal.ghosts-run_known
-ghosts-run_known g a = record { inputs = arc_value a.inputs }
+ghosts-run_known g a = record { inputs = a.inputs.now }

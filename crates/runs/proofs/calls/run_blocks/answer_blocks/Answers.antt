@@ -11,4 +11,5 @@ answer_of_outcome-requires-clause-outcome g c lifetimes within =
 pub returns : goal.returns
 returns g c =
     let (runs, whole, of) = c.in-Ok.ensures.outcome in
-    (concat runs, whole, tt, IfOk-at_ok (λ answer. IsAnswer (concat runs) c.args.query.now (told_by answer)) c.in_ok-answer.was (c.answer_of_outcome.ensures runs of))
+    let told = c.answer_of_outcome.ensures runs of in
+    (concat runs, whole, tt, IfOk-at_ok (λ answer. IsAnswer (concat runs) c.args.query.now (told_by answer)) c.in_ok-answer.was told)

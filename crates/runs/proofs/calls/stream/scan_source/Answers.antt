@@ -32,46 +32,36 @@ returns-in_err-batch-2-clause-fault g c =
     let p = err_from_is_err_and c.from_residual-in_err-batch-2.result c.from_residual-in_err-batch-2.ensures.1 in
     let ahead = c.loop-batch.invariant.to.ahead in
     let is_not_last : c.loop-batch.batch.is_last ≡ false = search rules in
-    let told = of_err _ c.scan_and_read-scans.result.1 c.in_err-batch-2.field-0.0 c.in_err-batch-2.was c.scan_and_read-scans.ensures.next.told in
+    let told = of_err _ c.scan_ahead-scans.result.1 c.in_err-batch-2.field-0.0 c.in_err-batch-2.was c.scan_ahead-scans.ensures.next.told in
     rw (p.1, p.2) (rw (ahead.same.0, ahead.same.1) at (told c.args.source.now _ (ahead.more is_not_last)))
 
-pub returns-in_err-scans-clause-fault : goal.returns-in_err-scans-clause-fault
-returns-in_err-scans-clause-fault g c =
-    let p = err_from_is_err_and c.from_residual-in_err-scans.result c.from_residual-in_err-scans.ensures.1 in
+pub returns-in_err-take_in-clause-fault : goal.returns-in_err-take_in-clause-fault
+returns-in_err-take_in-clause-fault g c =
+    let p = err_from_is_err_and c.from_residual-in_err-take_in.result c.from_residual-in_err-take_in.ensures.1 in
     let is_not_last : c.loop-batch.batch.is_last ≡ false = search rules in
-    let read = c.scan_and_read-scans.ensures.next in
-    let next = of_ok _ c.scan_and_read-scans.result.1 c.in_ok-batch-2.batch c.in_ok-batch-2.was read.next in
-    rw (p.1, p.2) (gave_some (next_ahead c.loop-batch.invariant.to.ahead is_not_last read.same next))
-
-pub returns-in_err-append-clause-fault : goal.returns-in_err-append-clause-fault
-returns-in_err-append-clause-fault g c =
-    let p = err_from_is_err_and c.from_residual-in_err-append.result c.from_residual-in_err-append.ensures.1 in
-    let is_not_last : c.loop-batch.batch.is_last ≡ false = search rules in
-    let read = c.scan_and_read-scans.ensures.next in
-    let next = of_ok _ c.scan_and_read-scans.result.1 c.in_ok-batch-2.batch c.in_ok-batch-2.was read.next in
+    let read = c.scan_ahead-scans.ensures.next in
+    let next = of_ok _ c.scan_ahead-scans.result.1 c.in_ok-batch-2.batch c.in_ok-batch-2.was read.next in
     rw (p.1, p.2) (gave_some (next_ahead c.loop-batch.invariant.to.ahead is_not_last read.same next))
 
 pub loop-batch-preserved : goal.loop-batch-preserved
 loop-batch-preserved g c =
     let is_not_last : c.loop-batch.batch.is_last ≡ false = search rules in
-    let read = c.scan_and_read-scans.ensures.next in
-    let next = of_ok _ c.scan_and_read-scans.result.1 c.in_ok-batch-2.batch c.in_ok-batch-2.was read.next in
-    let scan = of_ok _ c.scan_and_read-scans.result.0 c.in_ok-scans.field-0 c.in_ok-scans.was c.scan_and_read-scans.ensures.scans in record {
-      to = rw c.in_ok-append.ensures.ok (went_on c.loop-batch.invariant.to is_not_last scan read.same next);
+    let read = c.scan_ahead-scans.ensures.next in
+    let next = of_ok _ c.scan_ahead-scans.result.1 c.in_ok-batch-2.batch c.in_ok-batch-2.was read.next in
+    let taken = c.in_ok-take_in.ensures in
+    let scan = of_ok _ c.scan_ahead-scans.result.0 taken.0 taken.1 c.scan_ahead-scans.ensures.scans in record {
+      to = rw taken.2 (went_on c.loop-batch.invariant.to is_not_last scan read.same next);
       fine = search rules;
     }
 
-pub returns-in_err-scan-clause-fault : goal.returns-in_err-scan-clause-fault
-returns-in_err-scan-clause-fault g c =
-    let p = err_from_is_err_and c.from_residual-in_err-scan.result c.from_residual-in_err-scan.ensures.1 in
-    rw (p.1, p.2) (gave_some c.loop-batch.invariant.to.ahead)
-
-pub returns-in_err-append-2-clause-fault : goal.returns-in_err-append-2-clause-fault
-returns-in_err-append-2-clause-fault g c =
-    let p = err_from_is_err_and c.from_residual-in_err-append-2.result c.from_residual-in_err-append-2.ensures.1 in
+pub returns-in_err-take_in-2-clause-fault : goal.returns-in_err-take_in-2-clause-fault
+returns-in_err-take_in-2-clause-fault g c =
+    let p = err_from_is_err_and c.from_residual-in_err-take_in-2.result c.from_residual-in_err-take_in-2.ensures.1 in
     rw (p.1, p.2) (gave_some c.loop-batch.invariant.to.ahead)
 
 pub returns-clause-scanned : goal.returns-clause-scanned
 returns-clause-scanned g c =
     let is_last : c.loop-batch.batch.is_last ≡ true = search rules in
-    rw c.in_ok-append-2.ensures.ok (ended c.args.settings.limit_in_range c.loop-batch.invariant.to is_last c.in_ok-scan.ensures)
+    let taken = c.in_ok-take_in-2.ensures in
+    let scan = of_ok _ c.scan.result taken.0 taken.1 c.scan.ensures in
+    rw taken.2 (ended c.args.settings.limit_in_range c.loop-batch.invariant.to is_last scan)

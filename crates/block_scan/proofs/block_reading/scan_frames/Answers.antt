@@ -7,7 +7,7 @@ use Rattle.day_file.proofs.Joined.{reading_of}
 use Rattle.day_file.proofs.Readings.{IsStuck-nil}
 use Rattle.block_scan.proofs.Filled.{fills_more, filled_more, moved}
 use Rattle.block_scan.proofs.Walked.{walked_of}
-use Rattle.block_scan.proofs.block_reading.scan_piece.Goals as goal
+use Rattle.block_scan.proofs.block_reading.scan_frames.Goals as goal
 
 pub loop-place-init : goal.loop-place-init
 loop-place-init g c = record {
@@ -21,7 +21,7 @@ loop-place-init g c = record {
   are = All-nil _;
   place_is = omega arith;
   within = omega (arith, c.requires.start);
-  scan_is = c.in_ok-scan.ensures c.args.request.as_of;
+  scan_is = c.requires.empty;
   stuck = λ h. IsStuck-nil;
   short = λ h. omega arith;
 }
