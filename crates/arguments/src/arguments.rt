@@ -8,6 +8,7 @@ ghost use Rattle.clap.specs.Words.{matches_of, rows_of, rule_of};
 ghost use Rattle.arguments.specs.Arguments.{HasSettingsOf, IsFaultOf, IsJobOf, is_given, morsel_rule, number_rule};
 ghost use Rattle.arguments.specs.Arguments.{required_rule, the_app};
 
+use clap::builder::ValueParser;
 use clap::error::ErrorKind;
 use clap::parser::ValueSource;
 use clap::{Arg, ArgAction, ArgMatches, Command, Error, value_parser};
@@ -190,6 +191,13 @@ fn required_argument<'a>(alloc: Global, name: &'a str, help: &'a str) -> Arg<'a>
         .help(help)
 }
 
+/// What reads a number from 1 to `most`.
+fn number_parser<'a>(most: u32) -> ValueParser<'a>
+    ensures { result ≡ Signed (pos 1) (pos most) }
+{
+    value_parser!(u32).range(1..=i64::from(most))
+}
+
 /// An option with a number from 1 to `most`, and the default if it is left out.
 fn number_option<'a>(
     alloc: Global,
@@ -205,7 +213,7 @@ fn number_option<'a>(
         .long(name)
         .value_name("N")
         .action(ArgAction::Set)
-        .value_parser(value_parser!(u32).range(1..=i64::from(most)))
+        .value_parser(number_parser(most))
         .default_value(default)
         .help(help)
 }
