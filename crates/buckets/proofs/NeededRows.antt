@@ -7,8 +7,8 @@ use Rattle.lists.proofs.Lists.{filters_commute, filter_map_on_filter}
 use Rattle.row_types.specs.declared.order.OrderRow.{OrderRow}
 use Rattle.order_table.specs.Orders.{first_repeated}
 use Rattle.order_table.proofs.PartRows.{price_where}
-use Rattle.order_filter.specs.Filters.{AreNeeded, is_needed}
-use Rattle.order_filter.proofs.FilteredOrders.{all_pass, distinct_filter, first_repeated_where}
+use Rattle.order_list.specs.Filters.{AreNeeded, is_needed}
+use Rattle.order_list.proofs.FilteredOrders.{all_pass, distinct_filter, first_repeated_where}
 use Rattle.probe.specs.Pricing.{Execution, first_unknown, is_unknown, priced, sale_at, sale_of, unknown_of, IsPricingOf}
 use Rattle.probe.specs.declared.pricing.Priced.{Priced}
 

@@ -1,11 +1,11 @@
 //! The order rows of partitions that executions need.
 ghost use Rattle.std.specs.Prelude.{◌≡◌, ℕ, ◌++◌, IfOk, List, OnErr, OnOk, filter, map};
-ghost use Rattle.order_filter.specs.Filters.{AreNeeded, IsFilterOf, is_needed};
+ghost use Rattle.order_list.specs.Filters.{AreNeeded, IsFilterOf, is_needed};
 ghost use Rattle.buckets.specs.BucketRows.{executed_in, ordered_in, rows_of_partitions};
 
 use crate::OutOfMemory;
 use morsel_rows::{OrderList, Partition};
-use order_filter::OrderFilter;
+use order_list::OrderFilter;
 use order_table::OrderRow;
 use row_types::Execution;
 use std::alloc::Global;

@@ -4,17 +4,16 @@ ghost use Rattle.std.specs.Arc.{arc_value};
 ghost use Rattle.lists.specs.declared.limits.TheConstants.{MOST_WORKERS};
 ghost use Rattle.dispatcher.specs.Seats.{tasks_of, IsSeatOf, IsUnused};
 
-use crate::gate::Gate;
+use crate::channel_port::ChannelPort;
 use crate::gatherers::{Gatherer, channel_of};
 use crate::pipeline::Pipeline;
-use crate::port::ChannelPort;
-use crate::worker::work;
 use crossbeam_channel::Sender;
 use dispatcher::{Dispatcher, Seat};
 use gathering::{Piece, Work};
 use std::alloc::Global;
 use std::sync::{Arc, Wait};
 use std::thread::{Scope, Threads};
+use workers::{Gate, work};
 
 impl<'s, W: Work + 's, G: Gate, R: Threads + Wait + Sync> Pipeline<'s, W, G, R> {
     /// Starts the workers of a pipeline, each with a seat of its own. One that can't be started is done without. The

@@ -6,21 +6,16 @@
 #![tactic(auto)]
 
 mod by_number;
-mod caller_runs;
+mod channel_port;
 mod employ;
-mod gate;
 mod gatherers;
 mod pipeline;
-mod port;
-mod worker;
 
-pub use caller_runs::{run_missing, run_task};
-pub use gate::{FreeGate, Gate};
+pub use channel_port::ChannelPort;
 pub use gatherers::{
     Gatherer, channel_of, gather_all, gather_until_covered, merge_all, start_gatherers,
 };
 pub use gathering::{Gathering, Inputs, OutOfMemory, Piece, Work};
 pub use outcomes::Crew;
 pub use pipeline::run_pipeline;
-pub use port::{ChannelPort, Port};
-pub use worker::work;
+pub use workers::{FreeGate, Gate, Port, run_missing, run_task, work};

@@ -3,8 +3,6 @@ ghost use Rattle.std.specs.Prelude.{◌≡◌, ◌<◌, length, IfOk, OnOk};
 ghost use Rattle.std.specs.Arc.{arc_value};
 
 use crate::by_number::{Known, numbered};
-use crate::caller_runs::run_missing;
-use crate::gate::Gate;
 use crate::gatherers::{gather_all, gather_until_covered, merge_all, start_gatherers};
 use gathering::{Gathering, Inputs, OutOfMemory, Piece, TotalRefused, Work};
 use outcomes::Crew;
@@ -12,6 +10,7 @@ use std::alloc::{AllocError, Global};
 use std::marker::Brand;
 use std::sync::{Arc, Wait};
 use std::thread::{Scope, Threads};
+use workers::{Gate, run_missing};
 
 /// The total of all inputs of one pipeline. If there is a crew and a task, it starts the crew's workers on
 /// threads of their own; without a crew the caller's thread runs all tasks. The crew's gatherers gather: the

@@ -2,11 +2,9 @@ pub mod CutsAt
 pub mod CutsBy
 pub mod Fed
 pub mod FirstRuns
-pub mod Given
 pub mod Joined
 pub mod Kept
 pub mod Laws
-pub mod Pieces
 pub mod Readings
 pub mod Walks
 pub mod CutFrames

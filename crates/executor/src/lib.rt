@@ -1,9 +1,15 @@
 //! All that answers a query over a whole day file: by threads (`runs`), by one thread with all rows at once
-//! (`sequential`), and by two lists of events (`rehearsals`). It has no function of its own.
+//! (`sequential`), and, here, by two lists of events, on one thread, as threads answer it in whatever order they
+//! finish: rehearsals. Laws say that the order decides nothing.
 #![tactic(auto)]
 
+mod joined;
+mod rehearsal_laws;
+mod rehearsing;
+
 pub use answers::one_answer;
-pub use rehearsals::{Rehearsal, all_arrived_answers, each_once_answers, one_rehearsal, rehearse};
+pub use rehearsal_laws::{all_arrived_answers, each_once_answers, one_rehearsal};
+pub use rehearsing::{Rehearsal, rehearse};
 pub use runs::{
     Answer, BlockSource, Counted, CountedSink, Crew, Cut, DayFault, DayFile, DeviceFailed,
     Division, FileBlocks, FreeGate, Gate, LONGEST_FILE, OutOfMemory, Query, QueryFault, ReadsAt,

@@ -1,1 +1,3 @@
+pub mod FilteredOrders
 mod SearchedRows
+mod SetBits

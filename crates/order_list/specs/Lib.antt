@@ -1,2 +1,4 @@
-pub mod ShortRows
+pub mod Bits
+pub mod Filters
 pub mod SameOrders
+pub mod ShortRows

@@ -1,10 +1,17 @@
-//! Order rows in little memory.
+//! Order rows in little memory, and which of them are needed.
 //!
 //! As long as places and references lie close together, as in a morsel of a day, a row takes 12 bytes. Rows whose
 //! references rise are searched where they lie.
+//!
+//! A table of orders that lie in no order needs those alone whose references executions have, and those that may repeat
+//! one: most orders of a day are never executed, and hardly any repeats a reference. A bitmap filter finds these
+//! without a sort: a semi-join of orders with executions, with bits that references share, so that some rows are kept
+//! for nothing and none is lost.
 #![tactic(auto)]
 
 mod behind;
+mod bits;
+mod filter;
 mod lean;
 mod narrow;
 mod offsets;
@@ -15,6 +22,7 @@ mod rising_rows;
 mod same;
 mod short;
 
+pub use filter::OrderFilter;
 pub use lists::OutOfMemory;
 pub use order_rows::OrderRows;
 pub use orders::OrderList;

@@ -1,7 +1,7 @@
 -- Of works and a link that are functions there is one outcome. For who runs such a pair.
 use Rattle.std.proofs.Common.{◌≡◌, List, ap, ◌∙◌}
-use Rattle.links.specs.declared.linked.Linked.{Linked}
-use Rattle.links.specs.declared.linked.Linked.TheVariants.{Next, Halt}
+use Rattle.gathering.specs.declared.linked.Linked.{Linked}
+use Rattle.gathering.specs.declared.linked.Linked.TheVariants.{Next, Halt}
 use Rattle.pipelines.specs.Outcomes.{IsOutcome, outcome_of}
 use Rattle.pipelines.specs.declared.outcome.Outcome.{Outcome}
 use Rattle.pipelines.specs.declared.outcome.Outcome.TheVariants.{Finished, Stopped}

@@ -1,8 +1,8 @@
 -- What a pair of pipelines gives.
 -- To be believed of a crate used by itself.
 use Rattle.std.specs.Prelude.{List}
-use Rattle.links.specs.declared.linked.Linked.{Linked}
-use Rattle.links.specs.declared.linked.Linked.TheVariants.{Next, Halt}
+use Rattle.gathering.specs.declared.linked.Linked.{Linked}
+use Rattle.gathering.specs.declared.linked.Linked.TheVariants.{Next, Halt}
 use Rattle.pipelines.specs.declared.outcome.Outcome.{Outcome}
 use Rattle.pipelines.specs.declared.outcome.Outcome.TheVariants.{Finished, Stopped}
 

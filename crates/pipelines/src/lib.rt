@@ -11,7 +11,6 @@ mod pair;
 
 pub use crew_threads::{Crew, FreeGate, Gate, Port, work};
 pub use dispatcher::{Dispatcher, Seat};
-pub use gathering::{Gathering, Inputs, OutOfMemory, Piece, Work};
-pub use links::{Link, Linked};
+pub use gathering::{Gathering, Inputs, Link, Linked, OutOfMemory, Piece, Work};
 pub use outcome::Outcome;
 pub use pair::{run_both, run_first, run_pair, run_second};

@@ -1,11 +1,10 @@
 //! A law of outcomes. It is the contract of a function that does nothing.
 ghost use Rattle.std.specs.Prelude.{◌≡◌, List};
-ghost use Rattle.links.specs.declared.linked.Linked.{Linked as TheLinked};
+ghost use Rattle.gathering.specs.declared.linked.Linked.{Linked as TheLinked};
 ghost use Rattle.pipelines.specs.Outcomes.{IsOutcome, outcome_of};
 ghost use Rattle.pipelines.specs.declared.outcome.Outcome.{Outcome as TheOutcome};
 
-use gathering::Work;
-use links::Link;
+use gathering::{Link, Work};
 
 /// If each list of inputs has one total and each total is linked to one thing, there is one outcome.
 pub fn functions_have_one_outcome<A: Work, B: Work, L: Link<A, B>>()

@@ -1,13 +1,12 @@
 //! Two pipelines on threads, and each of them alone.
 ghost use Rattle.std.specs.Prelude.{◌≡◌, IfOk, OnOk};
 ghost use Rattle.std.specs.Arc.{arc_value};
-ghost use Rattle.links.specs.Totals.{IsTotal};
+ghost use Rattle.gathering.specs.Totals.{IsTotal};
 ghost use Rattle.pipelines.specs.Outcomes.{IsOutcome};
 
 use crate::outcome::Outcome;
 use crew_threads::{Crew, Gate, run_pipeline};
-use gathering::{Inputs, OutOfMemory, Work};
-use links::{Link, Linked};
+use gathering::{Inputs, Link, Linked, OutOfMemory, Work};
 use std::alloc::Global;
 use std::sync::{Arc, Wait};
 use std::thread::{self, Scope, Threads};

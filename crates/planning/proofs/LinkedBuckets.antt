@@ -27,8 +27,8 @@ use Rattle.morsel_rows.proofs.JoinedPartitions.{partition_past}
 use Rattle.morsel_rows.proofs.MessagesOfPartition.{no_rows_by_place, partition_by_place}
 use Rattle.scanning.specs.Scans.{AreOfOneCut, ScanTotalView, total_of}
 use Rattle.scanning.specs.declared.wrong.WrongLength.{WrongLength}
-use Rattle.links.specs.Totals.{IsTotal}
-use Rattle.links.specs.declared.linked.Linked.TheVariants.{Next, Halt}
+use Rattle.gathering.specs.Totals.{IsTotal}
+use Rattle.gathering.specs.declared.linked.Linked.TheVariants.{Next, Halt}
 use Rattle.buckets.specs.BucketRows.{BucketView, bucket_of, planned_rows}
 use Rattle.buckets.specs.Buckets.{AreNumbered}
 use Rattle.buckets.specs.declared.plan.Plan.{Plan}

@@ -6,8 +6,8 @@ use Rattle.lists.specs.Least.{numbers_below}
 use Rattle.row_types.specs.declared.directory.DirectoryRow.{DirectoryRow}
 use Rattle.meaning.specs.Meaning.{Meaning}
 use Rattle.day_rows.specs.DayRows.{DayRows}
-use Rattle.links.specs.declared.linked.Linked.{Linked}
-use Rattle.links.specs.declared.linked.Linked.TheVariants.{Next, Halt}
+use Rattle.gathering.specs.declared.linked.Linked.{Linked}
+use Rattle.gathering.specs.declared.linked.Linked.TheVariants.{Next, Halt}
 use Rattle.morsel_rows.specs.Partitions.{MorselRowsView, in_partitions, partition_at}
 use Rattle.scanning.specs.Scans.{ScanTotalView}
 use Rattle.scanning.specs.declared.wrong.WrongLength.{WrongLength}

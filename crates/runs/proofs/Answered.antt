@@ -6,7 +6,7 @@ use Rattle.meaning.specs.Meaning.{Meaning}
 use Rattle.outcomes.specs.declared.day_fault.DayFault.{DayFault}
 use Rattle.answers.specs.Answers.{IsAnswer, IsAnswerToMessages}
 use Rattle.day_rows.specs.Messages.{Placed}
-use Rattle.links.specs.declared.linked.Linked.TheVariants.{Next, Halt}
+use Rattle.gathering.specs.declared.linked.Linked.TheVariants.{Next, Halt}
 use Rattle.pipelines.specs.Outcomes.{IsOutcome}
 use Rattle.pipelines.specs.declared.outcome.Outcome.{Outcome}
 use Rattle.pipelines.specs.declared.outcome.Outcome.TheVariants.{Finished, Stopped}

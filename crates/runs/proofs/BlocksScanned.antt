@@ -6,7 +6,7 @@ use Rattle.meaning.specs.Meaning.{Meaning}
 use Rattle.pipelines.specs.Outcomes.{IsOutcome}
 use Rattle.pipelines.specs.declared.outcome.Outcome.{Outcome}
 use Rattle.pipelines.specs.declared.outcome.Outcome.TheVariants.{Finished, Stopped}
-use Rattle.links.specs.Totals.{IsTotal}
+use Rattle.gathering.specs.Totals.{IsTotal}
 use Rattle.scanning.specs.Scans.{AreOfOneCut, ScanTotalView, inputs_of, total_of}
 use Rattle.scanning.specs.declared.wrong.WrongLength.{WrongLength}
 use Rattle.buckets.specs.Buckets.{total_found}

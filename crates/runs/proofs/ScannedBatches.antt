@@ -6,8 +6,8 @@ use Rattle.std.proofs.lemmas.List.Elements.{All-append}
 use Rattle.lists.specs.declared.limits.TheConstants.{LONGEST_FILE}
 use Rattle.lists.specs.Among.{AreBytes}
 use Rattle.day_file.specs.Cuts.{IsCutBy, IsRun}
-use Rattle.day_file.specs.Given.{GaveAll, GaveSome}
-use Rattle.day_file.specs.declared.source.Source.{Ghosts as SourceOf}
+use Rattle.sources.specs.Given.{GaveAll, GaveSome}
+use Rattle.sources.specs.declared.source.Source.{Ghosts as SourceOf}
 use Rattle.scanning.specs.Scans.{ScanTotalView, inputs_from, inputs_of, total_of, with_scans}
 use Rattle.scanning.proofs.TotalOfScans.{total_joined}
 use Rattle.streaming.specs.Batches.{IsNextBatch, IsReadTo, ReaderView, read_length}

@@ -4,11 +4,11 @@ use Rattle.std.specs.Prelude.{◌≡◌, ℕ, ◌<◌, ◌↔◌, List, Option, 
 use Rattle.std.specs.List.{concat}
 use Rattle.outcomes.specs.declared.run_fault.RunFault.{RunFault}
 use Rattle.outcomes.specs.declared.run_fault.RunFault.TheVariants as fault
-use Rattle.links.specs.declared.linked.Linked.{Linked}
-use Rattle.links.specs.declared.linked.Linked.TheVariants.{Next, Halt}
+use Rattle.gathering.specs.declared.linked.Linked.{Linked}
+use Rattle.gathering.specs.declared.linked.Linked.TheVariants.{Next, Halt}
 use Rattle.pipelines.specs.Outcomes.{IsOutcome}
 use Rattle.pipelines.specs.declared.outcome.Outcome.{Outcome}
-use Rattle.day_file.specs.declared.source.Source.{Ghosts as SourceOf}
+use Rattle.sources.specs.declared.source.Source.{Ghosts as SourceOf}
 use Rattle.streaming.specs.Batches.{IsNextBatch, IsReadTo, ReaderView}
 use Rattle.streaming.specs.Readings.{IsSourceFault, Reading, of_stream}
 use Rattle.streaming.specs.declared.batch.Batch.{Batch}

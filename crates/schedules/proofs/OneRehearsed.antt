@@ -1,8 +1,8 @@
 -- Of works and a link that are functions two schedules have one answer. For who rehearses such a pair.
 use Rattle.std.proofs.Common.{◌≡◌, ℕ, List, inl, inr, sym, ap, ◌∙◌}
 use Rattle.std.specs.Option.{option_map_or}
-use Rattle.links.specs.declared.linked.Linked.{Linked}
-use Rattle.links.specs.declared.linked.Linked.TheVariants.{Next, Halt}
+use Rattle.gathering.specs.declared.linked.Linked.{Linked}
+use Rattle.gathering.specs.declared.linked.Linked.TheVariants.{Next, Halt}
 use Rattle.schedules.specs.Rehearsals.{IsRehearsed, after_link}
 use Rattle.schedules.specs.Schedules.{Event, first_left}
 use Rattle.schedules.specs.declared.rehearsed.Rehearsed.{Rehearsed}

@@ -5,11 +5,11 @@ ghost use Rattle.gathering.specs.Views.{merged};
 ghost use Rattle.schedules.specs.Schedules.{AreOver, after, covered_sets};
 ghost use Rattle.schedules.specs.declared.event.Event.TheVariants.{Merge};
 
-use crew_threads::run_task;
 use gathering::{Gathering, Inputs, OutOfMemory, Work};
 use std::alloc::{Allocator, Global};
 use std::mem;
 use std::sync::Arc;
+use workers::run_task;
 
 /// One event of a schedule. Gatherers and tasks are numbered from 0. An event changes nothing if it names one that
 /// doesn't exist.

@@ -8,8 +8,7 @@ ghost use Rattle.schedules.specs.Schedules.{covered_sets, first_left, has_arrive
 
 use crate::event::{apply_all, unite};
 use crate::{Event, Rehearsed};
-use gathering::{Gathering, Inputs, OutOfMemory, TotalRefused, Work};
-use links::{Link, Linked};
+use gathering::{Gathering, Inputs, Link, Linked, OutOfMemory, TotalRefused, Work};
 use std::alloc::{AllocError, Allocator, Global};
 use std::sync::Arc;
 

@@ -2,15 +2,14 @@
 ghost use Rattle.std.specs.Prelude.{◌≡◌, ℕ, ◌&&◌, nat_lt, List, fold, length, replicate};
 ghost use Rattle.std.specs.FinSet.{empty};
 ghost use Rattle.std.specs.Option.{option_map_or};
-ghost use Rattle.links.specs.declared.linked.Linked.{Linked as TheLinked};
+ghost use Rattle.gathering.specs.declared.linked.Linked.{Linked as TheLinked};
 ghost use Rattle.schedules.specs.Rehearsals.{IsRehearsed, after_link};
 ghost use Rattle.schedules.specs.Schedules.{after, first_left, has_arrived, some_covers};
 ghost use Rattle.schedules.specs.declared.event.Event.{Event};
 ghost use Rattle.schedules.specs.declared.rehearsed.Rehearsed.{Rehearsed as TheRehearsed};
 ghost use Rattle.schedules.specs.declared.rehearsed.Rehearsed.TheVariants.{Missing};
 
-use gathering::Work;
-use links::Link;
+use gathering::{Link, Work};
 
 /// The tasks that have arrived are always those that some gatherer covers, from empty gatherers on.
 #[tactic(auto, using(crate::proofs::Schedules::arrived_covers))]

@@ -3,7 +3,7 @@ ghost use Rattle.std.specs.Prelude.{◌≡◌, false};
 ghost use Rattle.std.specs.Io.KnownBytes.{Appends};
 
 use crate::sink::Sink;
-use day_file::DeviceFailed;
+use sources::DeviceFailed;
 use std::io::Write;
 
 /// The sink over any writer. Any error of the writer, an interruption too, and a write of no byte of a slice that is

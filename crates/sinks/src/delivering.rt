@@ -3,7 +3,7 @@ ghost use Rattle.std.specs.Prelude.{◌≡◌, ◌<◌, ◌^◌, false, length, 
 ghost use Rattle.sinks.specs.Written.{IsWritten, text_of};
 
 use crate::sink::Sink;
-use day_file::DeviceFailed;
+use sources::DeviceFailed;
 use std::alloc::Allocator;
 
 /// A sink failed, and had taken the first `written` bytes of the text.

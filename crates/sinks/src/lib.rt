@@ -6,6 +6,6 @@ mod delivering;
 mod sink;
 
 pub use counted_sink::CountedSink;
-pub use day_file::DeviceFailed;
 pub use delivering::{WriteFailed, deliver, deliver_pieces};
 pub use sink::Sink;
+pub use sources::DeviceFailed;

@@ -1,7 +1,7 @@
 //! What takes a text.
 ghost use Rattle.std.specs.Prelude.{◌≡◌, ◌<◌, ◌≤◌, ℕ, Bool, false, List, [], ◌++◌, length, take, is_err, IfOk, OnOk, MatchResult};
 
-use day_file::DeviceFailed;
+use sources::DeviceFailed;
 
 /// A device that takes bytes.
 pub trait Sink {

@@ -7,8 +7,8 @@ use Rattle.std.proofs.lemmas.List.Elements.{All-append}
 use Rattle.day_file.specs.Cuts.{IsCutBy}
 use Rattle.day_file.specs.Feeding.{CutterView, HasFed, IsFullRun, fed_length}
 use Rattle.day_file.specs.Frames.{IsTruncatedAt}
-use Rattle.day_file.specs.Given.{GaveAll}
-use Rattle.day_file.specs.declared.source.Source.{Ghosts as SourceOf}
+use Rattle.sources.specs.Given.{GaveAll}
+use Rattle.sources.specs.declared.source.Source.{Ghosts as SourceOf}
 use Rattle.day_file.proofs.Fed.{fed_length_is, truncated_after_full}
 use Rattle.day_file.proofs.CutsBy.{cut_after}
 use Rattle.streaming.specs.Batches.{HasRead, IsLastFault, IsReadTo, IsReading, ReaderView, read_length}

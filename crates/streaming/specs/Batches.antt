@@ -6,8 +6,8 @@ use Rattle.lists.specs.declared.limits.TheConstants.{LONGEST_FILE, MOST_MORSELS}
 use Rattle.day_file.specs.Cuts.{IsCutBy}
 use Rattle.day_file.specs.Feeding.{CutterView, HasFed, IsFullRun, fed_length}
 use Rattle.day_file.specs.Frames.{IsTruncatedAt}
-use Rattle.day_file.specs.Given.{GaveAll}
-use Rattle.day_file.specs.declared.source.Source.{Ghosts as SourceOf}
+use Rattle.sources.specs.Given.{GaveAll}
+use Rattle.sources.specs.declared.source.Source.{Ghosts as SourceOf}
 use Rattle.streaming.specs.declared.batch.Batch.{Batch}
 use Rattle.streaming.specs.declared.fault.SourceFault.{SourceFault}
 use Rattle.streaming.specs.declared.fault.SourceFault.TheVariants as fault

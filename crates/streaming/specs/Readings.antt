@@ -4,8 +4,8 @@ use Rattle.std.specs.Prelude.{◌≡◌, ℕ, ◌<◌, ◌≤◌, ◌⊎◌, Lis
 use Rattle.lists.specs.declared.limits.TheConstants.{MOST_MORSELS}
 use Rattle.day_file.specs.Cuts.{IsCutBy}
 use Rattle.day_file.specs.Frames.{IsTruncatedAt}
-use Rattle.day_file.specs.Given.{GaveAll, GaveMore, GaveSome}
-use Rattle.day_file.specs.declared.source.Source.{Ghosts as SourceOf}
+use Rattle.sources.specs.Given.{GaveAll, GaveMore, GaveSome}
+use Rattle.sources.specs.declared.source.Source.{Ghosts as SourceOf}
 use Rattle.streaming.specs.declared.fault.SourceFault.{SourceFault}
 use Rattle.streaming.specs.declared.fault.SourceFault.TheVariants as fault
 

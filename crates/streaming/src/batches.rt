@@ -164,7 +164,7 @@ fn keep_what_is_freed(alloc: Global, target: u64) {
 
 // Feeds the cutter what one call of the source gives, at most what has room in `piece`, and says how many bytes those
 // are. No more than `left` and one more are asked for.
-#[tactic(auto, using(day_file::proofs::Given::some_given))]
+#[tactic(auto, using(sources::proofs::Given::some_given))]
 fn feed_next<S: Source>(
     source: &mut S,
     cutter: &mut Cutter,

@@ -12,8 +12,8 @@ use std::process::Abort;
 use std::sync::Wait;
 use std::test::Fail;
 use std::thread::Threads;
-use tests_gates::Counter;
 use tests_support::Form;
+use tests_works::Counter;
 
 /// How many orders the day has: a partition of fewer isn't divided.
 const ORDERS: u64 = 66_000;

@@ -5,7 +5,7 @@ ghost use Rattle.std.specs.Cmp.Rules.{comparing};
 ghost use Rattle.std.proofs.Common.{rules, ◌∙◌, ap, sym};
 ghost use Rattle.std.proofs.lemmas.Bool.{eqb-true};
 ghost use Rattle.lists.specs.declared.limits.TheConstants.{MOST_TASKS};
-ghost use Rattle.links.specs.declared.linked.Linked.TheVariants.{Halt};
+ghost use Rattle.gathering.specs.declared.linked.Linked.TheVariants.{Halt};
 
 use crate::gatherers::{OVERLAP, Order, TWO_AND_TWO};
 use pipelines::{Inputs, Link, Linked, OutOfMemory, Outcome, Work, run_pair};

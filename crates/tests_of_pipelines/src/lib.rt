@@ -26,4 +26,4 @@ mod refused_growths;
 #[cfg(test)]
 mod threads;
 #[cfg(test)]
-mod workers;
+mod worker_runs;

@@ -1,6 +1,6 @@
 //! A link between two pipelines that add numbers.
 ghost use Rattle.std.specs.Prelude.{◌≡◌, ◌∷◌, [], if◌then◌else◌};
-ghost use Rattle.links.specs.declared.linked.Linked.TheVariants.{Next, Halt};
+ghost use Rattle.gathering.specs.declared.linked.Linked.TheVariants.{Next, Halt};
 
 use pipelines::{Inputs, Link, Linked, OutOfMemory};
 use std::alloc::Global;

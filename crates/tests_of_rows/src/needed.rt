@@ -1,5 +1,5 @@
 //! Which order rows are needed.
-use order_filter::{OrderFilter, OutOfMemory};
+use order_list::{OrderFilter, OutOfMemory};
 use std::alloc::Global;
 use std::test::Fail;
 

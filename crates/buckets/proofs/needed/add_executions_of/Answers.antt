@@ -1,6 +1,6 @@
 use Rattle.std.proofs.Common.{subst, arith}
 use Rattle.std.proofs.lemmas.Grind.{common_steps}
-use Rattle.order_filter.specs.Filters.{IsFilterOf}
+use Rattle.order_list.specs.Filters.{IsFilterOf}
 use Rattle.buckets.proofs.needed.add_executions_of.Goals as goal
 
 pub loop-execution-preserved : goal.loop-execution-preserved

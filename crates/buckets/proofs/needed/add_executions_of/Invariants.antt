@@ -1,5 +1,5 @@
 use Rattle.std.proofs.Common.{ℕ, List, ◌++◌, map, take}
-use Rattle.order_filter.specs.Filters.{IsFilterOf}
+use Rattle.order_list.specs.Filters.{IsFilterOf}
 use Rattle.buckets.proofs.needed.add_executions_of.Given as goal
 
 -- with the executions so far

@@ -1,5 +1,5 @@
 use Rattle.std.proofs.Common.{ℕ, List, ◌++◌, take}
-use Rattle.order_filter.specs.Filters.{IsFilterOf}
+use Rattle.order_list.specs.Filters.{IsFilterOf}
 use Rattle.buckets.specs.BucketRows.{ordered_in, rows_of_partitions}
 use Rattle.buckets.proofs.needed.add_orders.Given as goal
 

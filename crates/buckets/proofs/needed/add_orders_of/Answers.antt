@@ -1,5 +1,5 @@
 use Rattle.std.proofs.Common.{[], ◌∷◌, ◌++◌, append_assoc, append-nil, ap, map, subst, sym, ◌∙◌}
-use Rattle.order_filter.specs.Filters.{IsFilterOf}
+use Rattle.order_list.specs.Filters.{IsFilterOf}
 use Rattle.order_table.specs.Orders.{OrderRow}
 use Rattle.buckets.proofs.needed.add_orders_of.Goals as goal
 

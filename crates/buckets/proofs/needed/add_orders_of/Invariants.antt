@@ -1,5 +1,5 @@
 use Rattle.std.proofs.Common.{◌≡◌, ℕ, List, ◌++◌, map}
-use Rattle.order_filter.specs.Filters.{IsFilterOf}
+use Rattle.order_list.specs.Filters.{IsFilterOf}
 use Rattle.buckets.proofs.needed.add_orders_of.Given as goal
 
 -- with those orders that make up all with those of the rows that are left

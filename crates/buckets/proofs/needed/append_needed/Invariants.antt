@@ -1,5 +1,5 @@
 use Rattle.std.proofs.Common.{◌≡◌, ◌++◌, filter}
-use Rattle.order_filter.specs.Filters.{is_needed}
+use Rattle.order_list.specs.Filters.{is_needed}
 use Rattle.buckets.proofs.needed.append_needed.Given as goal
 
 -- with those of the rows that are left, those of all

@@ -1,5 +1,5 @@
 use Rattle.std.proofs.Common.{◌≡◌, filter, take}
-use Rattle.order_filter.specs.Filters.{is_needed}
+use Rattle.order_list.specs.Filters.{is_needed}
 use Rattle.buckets.specs.BucketRows.{rows_of_partitions}
 use Rattle.buckets.proofs.needed.needed_orders.Given as goal
 

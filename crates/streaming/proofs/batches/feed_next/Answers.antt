@@ -2,7 +2,7 @@ use Rattle.std.proofs.Common.{◌++◌, subst, arith, length-take}
 use Rattle.std.proofs.lemmas.Result.{err_from_is_err_and}
 use Rattle.std.proofs.lemmas.List.{length-take-le, take-append-le}
 use Rattle.day_file.specs.Feeding.{HasFed}
-use Rattle.day_file.proofs.Given.{more_given, some_given}
+use Rattle.sources.proofs.Given.{more_given, some_given}
 use Rattle.streaming.proofs.batches.feed_next.Goals as goal
 
 pub returns-then-taken-left-clause-fault : goal.returns-then-taken-left-clause-fault

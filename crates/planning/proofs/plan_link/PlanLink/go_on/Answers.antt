@@ -5,7 +5,7 @@ use Rattle.std.proofs.lemmas.List.FromFn.{length-map-range_with_len}
 use Rattle.std.proofs.lemmas.Nat.{mul-le}
 use Rattle.morsel_rows.specs.Partitions.{AreRowsByPlace, joined_partitions}
 use Rattle.buckets.specs.Buckets.{AreNumbered}
-use Rattle.links.specs.declared.linked.Linked.TheVariants.{Next}
+use Rattle.gathering.specs.declared.linked.Linked.TheVariants.{Next}
 use Rattle.planning.specs.Planned.{LinkView, all_directory, planned_buckets}
 use Rattle.planning.proofs.LinkedBuckets.{IsPlanOf, buckets_are, buckets_numbered, planned_rows_are}
 use Rattle.planning.proofs.plan_link.PlanLink.go_on.Goals as goal

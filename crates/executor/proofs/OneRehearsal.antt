@@ -1,0 +1,39 @@
+-- Rehearsals over one cut, for one query, by the same schedules, tell the same.
+use Rattle.std.proofs.Common.{◌≡◌, ℕ, List, Option, Some, None, MatchOption, length, refl, subst}
+use Rattle.std.specs.List.{concat}
+use Rattle.day_file.specs.Frames.{PlacedBody}
+use Rattle.day_file.proofs.Laws.{frames_are_one}
+use Rattle.meaning.specs.Meaning.{Meaning}
+use Rattle.answers.specs.Answers.{told_by}
+use Rattle.day_rows.specs.Messages.{first_wrong}
+use Rattle.answers.proofs.OneAnswer.{answers_are_one}
+use Rattle.schedules.specs.Schedules.{first_left}
+use Rattle.schedules.specs.declared.event.Event.{Event}
+use Rattle.executor.specs.Rehearsals.{IsFinished, IsRehearsed, TellTheSame}
+use Rattle.executor.specs.declared.rehearsing.Rehearsal.{Rehearsal}
+use Rattle.executor.specs.declared.rehearsing.Rehearsal.TheVariants.{Finished, Missing}
+
+one_finished : (file : List ℕ) (query : Meaning) (one other : Rehearsal) → IsFinished file query one → IsFinished file query other → TellTheSame one other
+one_finished file query (Finished one) (Finished other) is is' = answers_are_one file query (told_by one) (told_by other) is is'
+one_finished file query (Finished one) (Missing pipeline task) is is' = absurd is'
+one_finished file query (Missing pipeline task) other is is' = absurd is
+
+pub rehearsals_are_one : (runs : List (List ℕ)) (query : Meaning) (parts gatherers : ℕ) (events1 events2 : List Event) (one other : Rehearsal)
+    → IsRehearsed runs query parts gatherers events1 events2 one → IsRehearsed runs query parts gatherers events1 events2 other → TellTheSame one other
+rehearsals_are_one runs query parts gatherers events1 events2 one other is is' =
+    go (first_left gatherers (length runs) events1) (first_wrong is.frames) (first_left gatherers parts events2) is.is
+    (subst (λ frames. Told (first_left gatherers (length runs) events1) (first_wrong frames) (first_left gatherers parts events2) other)
+    (frames_are_one (concat runs) is'.frames is.frames is'.stand is.stand) is'.is)
+  where
+    Told : Option ℕ → Option PlacedBody → Option ℕ → Rehearsal → Type 0
+    Told first wrong second r =
+        MatchOption first
+        (MatchOption wrong (MatchOption second (IsFinished (concat runs) query r) (λ task. r ≡ Missing 2 task)) (λ w. IsFinished (concat runs) query r))
+        (λ task. r ≡ Missing 1 task)
+
+    go : (first : Option ℕ) (wrong : Option PlacedBody) (second : Option ℕ) → Told first wrong second one → Told first wrong second other
+        → TellTheSame one other
+    go (Some task) wrong second e f = rw (e, f) (refl, refl)
+    go None (Some w) second e f = one_finished (concat runs) query one other e f
+    go None None (Some task) e f = rw (e, f) (refl, refl)
+    go None None None e f = one_finished (concat runs) query one other e f

@@ -1,2 +1,0 @@
-pub mod FilteredOrders
-mod SetBits

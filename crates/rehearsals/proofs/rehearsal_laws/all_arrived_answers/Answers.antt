@@ -1,5 +1,0 @@
-use Rattle.rehearsals.proofs.EachOnce.{all_arrived}
-use Rattle.rehearsals.proofs.rehearsal_laws.all_arrived_answers.Goals as goal
-
-pub returns : goal.returns
-returns c = all_arrived

@@ -1,5 +1,0 @@
-use Rattle.rehearsals.proofs.EachOnce.{once_in_order}
-use Rattle.rehearsals.proofs.rehearsal_laws.each_once_answers.Goals as goal
-
-pub returns : goal.returns
-returns c = once_in_order

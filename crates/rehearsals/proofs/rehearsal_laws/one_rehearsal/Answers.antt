@@ -1,5 +1,0 @@
-use Rattle.rehearsals.proofs.OneRehearsal.{rehearsals_are_one}
-use Rattle.rehearsals.proofs.rehearsal_laws.one_rehearsal.Goals as goal
-
-pub returns : goal.returns
-returns c = rehearsals_are_one

@@ -1,0 +1,86 @@
+//! Workers on the thread of the test.
+ghost use Rattle.std.specs.Prelude.{◌≡◌};
+
+use crew_threads::ChannelPort;
+use dispatcher::Dispatcher;
+use linked_list_allocator::LocalHeap;
+use pipelines::{FreeGate, Piece, Port, work};
+use std::alloc::Global;
+use std::test::Fail;
+use tests_works::{KeepingPort, NUMBERS, Sum, Watch, inputs_of};
+
+/// Keeps pieces, but refuses the first one of a task.
+#[derive(Drop)]
+struct Picky {
+    port: KeepingPort<Piece<Sum>>,
+    refuses: Option<u32>,
+}
+
+impl Port<Piece<Sum>> for Picky {
+    ghost taken = { λ picky. picky.port };
+
+    ghost Tells = { Unit {0} };
+
+    fn send(&mut self, piece: Piece<Sum>) -> Result<(), Piece<Sum>> {
+        if self.refuses == Some(piece.number()) {
+            self.refuses = None;
+            return Err(piece);
+        }
+        self.port.send(piece)
+    }
+}
+
+/// How many pieces a worker that is alone was refused by this port, over eight tasks.
+fn refused_by<P: Port<Piece<Sum>>>(alloc: Global, port: &mut P) -> Result<u32, Fail> {
+    let inputs = inputs_of(alloc, &Watch::shared(alloc)?, &NUMBERS)?;
+    let (dispatcher, mut seats) = Dispatcher::new(alloc, 8, 1)?;
+    let mut seat = seats.pop().unwrap();
+    Ok(work(alloc, &dispatcher, &mut seat, &inputs, port, 1, &FreeGate))
+}
+
+#[test]
+fn a_refused_piece_is_sent_at_the_second_giving(rt: HostRuntime) -> Result<(), Fail> {
+    let alloc = rt.alloc();
+    for (refuses, order) in [
+        (None, [0, 1, 2, 3, 4, 5, 6, 7]),
+        (Some(0), [1, 2, 3, 4, 5, 6, 7, 0]),
+        (Some(1), [0, 2, 3, 4, 5, 6, 7, 1]),
+    ] {
+        let mut picky = Picky {
+            port: KeepingPort::new(alloc),
+            refuses,
+        };
+        assert!(rt; refused_by(alloc, &mut picky)? == u32::from(refuses.is_some()));
+        let sent = picky.port.items().iter().map(|piece| piece.number());
+        assert!(rt; sent.eq(order));
+    }
+    Ok(())
+}
+
+#[test]
+fn a_port_without_memory_refuses_both_givings(rt: HostRuntime) -> Result<(), Fail> {
+    let alloc = rt.alloc();
+    let mut took_all = 0;
+    for units in 1..100 {
+        let heap = LocalHeap::new(alloc, 16 * units)?;
+        let mut port = KeepingPort::new(&heap);
+        let refused = refused_by(alloc, &mut port)?;
+        assert!(rt; refused % 2 == 0);
+        assert!(rt; port.items().len() == 8usize.wrapping_sub(refused as usize / 2));
+        if refused == 0 {
+            took_all = units;
+            break;
+        }
+    }
+    assert!(rt; took_all > 1);
+    Ok(())
+}
+
+#[test]
+fn nobody_receives(rt: HostRuntime) -> Result<(), Fail> {
+    let (to, from) = crossbeam_channel::unbounded::<Piece<Sum>, Global>(rt.alloc())?;
+    drop(from);
+    let mut port = ChannelPort::new(&rt, to);
+    assert!(rt; refused_by(rt.alloc(), &mut port)? == 16);
+    Ok(())
+}

@@ -1,0 +1,2 @@
+-- Lemmas on what a worker's turns leave.
+pub mod Workers
