@@ -1,3 +1,4 @@
+//! How a day file is cut while it comes.
 ghost use Rattle.std.specs.Prelude.{◌≡◌, ◌≤◌, ◌<◌, ◌+◌, ◌++◌, ◌⊎◌, [], ℕ, List, length, IfErr, IfOk, IfSome, IsNone, OnErr, OnOk, All};
 ghost use Rattle.std.specs.List.{concat};
 ghost use Rattle.lists.specs.declared.limits.TheConstants.{MOST_MORSELS};

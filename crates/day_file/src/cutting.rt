@@ -1,3 +1,4 @@
+//! How a day file that is whole in memory is cut, by a target or at given places.
 ghost use Rattle.std.specs.Prelude.{◌≡◌, ◌≤◌, ◌<◌, ◌↔◌, ◌∷◌, [], ℕ, List, length, take, IfOk, IfErr, IfSome, IsNone, IsTrue};
 ghost use Rattle.day_file.specs.Frames.{IsWhole};
 ghost use Rattle.day_file.specs.Cuts.{AreEnds, IsCutAt, IsCutAtFault, IsCutBy, IsCutFault, IsFirstBad};

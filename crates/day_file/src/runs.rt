@@ -1,3 +1,4 @@
+//! Where the runs of frames end of which morsels are made.
 ghost use Rattle.std.specs.Prelude.{◌≡◌, ◌≤◌, ◌<◌, ◌⊎◌, ℕ, List, length, take, drop, IfOk, IfErr};
 ghost use Rattle.day_file.specs.Frames.{IsTruncatedAt, IsWhole};
 ghost use Rattle.day_file.specs.Cuts.{IsCutBy, IsFirstRun};

@@ -24,7 +24,7 @@ IsAnswered reading query answer = (day : List ℕ) × reading.all day × reading
 abbrev pub Answers : Reading → List ℕ → Result (List ℕ) DayFault → Type 0
 Answers reading words answer = (query : Meaning) × Means (words_of words) query × IsAnswered reading query answer
 
--- what is known of a source and a query if this is answered: the answer, or what a refusal says of the source
+-- what a call without a sink gives, as `answer_blocks` does: the answer, or a refusal and what it says of the source
 abbrev pub IsAnsweredOrRefused : {A : Type 0} → Reading → Meaning → ℕ → Result (Answer A) RunFault → Type 0
 IsAnsweredOrRefused reading query limit (Ok answer) = IsAnswered reading query (told_by answer)
 IsAnsweredOrRefused reading query limit (Err fault.ReadFailed) = reading.failed
@@ -48,7 +48,8 @@ module _ {K : Type 0} (sink : SinkOf K) where
   IsHandedOver IsTheAnswer before after (Err (fault.Day f)) = IsTheAnswer (Err f) × (after ≡ before)
   IsHandedOver IsTheAnswer before after (Err _) = ⊥
 
--- `reading` is what is known of the source
+-- `reading` is what is known of the source, `words` are the bytes of the query's text, whose words `words_of` gives,
+-- and `limit` is how many bytes a file may have, the one that `reading` speaks of
 module _ {K : Type 0} (reading : Reading) (sink : SinkOf K) where
   -- what each outcome of a run says: the answer was handed over; or what the refusal says holds, and the sink was left
   -- alone. What a line says of the source is a field of `reading`: `of_stream` says what that means of a stream, and
@@ -71,7 +72,7 @@ module _ {K : Type 0} (reading : Reading) (sink : SinkOf K) where
   Ran words limit before after (Err fault.OutOfMemory) =
       (((lists_symbols (words_of words) ≡ true) × reading.untouched) ⊎ IsQuery words)
       × reading.some × (after ≡ before)
-  -- the others come of an answer: its text was written, or a part of it; or it is a fault of the day
+  -- `Ok`, `WriteFailed` and `Day` come of an answer: its text was written, or a part of it; or it is a fault of the day
   Ran words limit before after handed = IsHandedOver sink (Answers reading words) before after handed
 
 -- the result says that the sink failed
