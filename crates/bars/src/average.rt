@@ -4,7 +4,7 @@ ghost use Rattle.std.specs.Prelude.{◌≡◌, ◌<◌, ◌^◌, ◌/◌, ◌%�
 use crate::bar::Bar;
 
 /// An average price, exact: it is this price, and this rest over the volume.
-#[derive(Clone, Copy, Debug)]
+#[derive(Clone, Copy)]
 pub(crate) struct Average {
     /// Rounded down, in ten-thousandths of a dollar.
     pub(crate) price: u32,

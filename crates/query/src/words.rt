@@ -18,7 +18,7 @@ use std::marker::Model;
 pub const SPACE: u8 = b' ';
 
 /// A word, and the number of bytes that come before it in the text.
-#[derive(Clone, Copy, Debug)]
+#[derive(Clone, Copy)]
 pub(crate) struct Word<'a> {
     pub(crate) at: usize,
     pub(crate) bytes: &'a [u8],
