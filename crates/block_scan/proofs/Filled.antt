@@ -9,7 +9,7 @@ use Rattle.lists.specs.Among.{AreBytes}
 use Rattle.day_file.specs.Frames.{PlacedBody, IsStuck, StandsFrom}
 use Rattle.day_file.proofs.Joined.{StandsFrom-append}
 use Rattle.scanning.specs.Scans.{ScanView, scan_of}
-use Rattle.block_scan.specs.declared.block_reading.TheConstants.{LONGEST_FRAME}
+use Rattle.day_file.specs.declared.frame.TheConstants.{LONGEST_FRAME}
 use Rattle.block_scan.specs.Pieces.{IsAskable}
 use Rattle.block_scan.proofs.Walked.{IsWalked, stuck_short}
 use Rattle.block_scan.specs.declared.request.Request.{Request}

@@ -12,7 +12,7 @@ use Rattle.day_file.proofs.Laws.{StandAt-split}
 use Rattle.day_file.proofs.Readings.{AreShort, IsReading}
 use Rattle.day_file.proofs.Walks.{frame_found}
 use Rattle.scanning.specs.Scans.{AreTakenIn, ScanView, TakesIn}
-use Rattle.block_scan.specs.declared.block_reading.TheConstants.{LONGEST_FRAME}
+use Rattle.day_file.specs.declared.frame.TheConstants.{LONGEST_FRAME}
 
 -- what a walk did over bytes that begin at this place: the frames of the first `walked` of them were taken in, and it
 -- ended at the target, or where there is no whole frame

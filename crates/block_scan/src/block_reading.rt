@@ -2,6 +2,7 @@
 ghost use Rattle.std.specs.Prelude.{◌≡◌, ◌≤◌, ◌<◌, ◌+◌, [], length, take, vec_len, IfErr, IfOk};
 ghost use Rattle.lists.specs.declared.limits.TheConstants.{LONGEST_FILE};
 ghost use Rattle.lists.specs.Among.{AreBytes};
+ghost use Rattle.day_file.specs.declared.frame.TheConstants.{LONGEST_FRAME};
 ghost use Rattle.block_scan.specs.Blocks.{IsBlocksFault};
 ghost use Rattle.block_scan.specs.Pieces.{IsAskable, IsPiece, IsTried};
 ghost use Rattle.scanning.specs.Scans.{scan_of};
@@ -12,7 +13,7 @@ use crate::block_source::BlockSource;
 use crate::guessing::guess;
 use crate::request::Request;
 use crate::scanned_block::{ScannedBlock, Tail};
-use day_file::Frames;
+use day_file::{Frames, LONGEST_FRAME};
 use lists::limits::LONGEST_FILE;
 use scanning::OpenScan;
 use std::alloc::Global;
@@ -22,9 +23,6 @@ use streaming::SourceFault;
 /// it of its heap. A larger one would be mapped, and when it is freed lists of its size come of the heap, too, and
 /// leave gaps there.
 const BUFFER: usize = 126_976;
-
-/// The most bytes of a frame: two of its length, and its body.
-pub(crate) const LONGEST_FRAME: usize = 65_537;
 
 const _: () = prove!(LONGEST_FRAME < BUFFER);
 

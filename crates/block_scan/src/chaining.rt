@@ -4,7 +4,7 @@ ghost use Rattle.std.specs.Arc.{arc_value};
 ghost use Rattle.block_scan.specs.Attempts.{AreAttemptsOf, first_fault_of};
 ghost use Rattle.streaming.specs.declared.fault.SourceFault.{SourceFault as TheFault};
 ghost use Rattle.block_scan.specs.Blocks.{IsBlocksFault};
-ghost use Rattle.block_scan.specs.declared.block_reading.TheConstants.{LONGEST_FRAME};
+ghost use Rattle.day_file.specs.declared.frame.TheConstants.{LONGEST_FRAME};
 ghost use Rattle.block_scan.specs.Pieces.{Asked, ChainedView, IsAskable, IsChained, IsGoneOn, IsPiece, IsScannedWhole};
 
 use crate::attempt::{Attempt, Attempts};

@@ -8,6 +8,7 @@ use Rattle.std.proofs.lemmas.List.{take-take, take_more}
 use Rattle.std.proofs.lemmas.List.Elements.{All-cons, All-nil, All-tail, All-take}
 use Rattle.std.proofs.lemmas.Result.{err_from_is_err_and}
 use Rattle.lists.proofs.Lists.{length-concat_push}
+use Rattle.day_file.specs.declared.frame.TheConstants.{LONGEST_FRAME}
 use Rattle.day_file.specs.Frames.{PlacedBody, spelling, IsShort, IsWhole}
 use Rattle.day_file.specs.Cuts.{HasNoShorter, IsCutBy, IsFirstRun, IsRun, but_last}
 use Rattle.day_file.specs.Feeding.{IsFullRun}
@@ -162,7 +163,7 @@ pub ruleset begun = (Begun-none, peeled, length-append, err_from_is_err_and)
 -- ---- how long a run is
 
 run_bound : (target : ℕ) (run : List ℕ) (frames : List PlacedBody) → AreShort frames → run ≡ spelling frames → 0 < length run → HasNoShorter target run
-    → length run < target + 65537
+    → length run < target + LONGEST_FRAME
 run_bound target run [] short e some s = absurd (omega (arith, ap length e, some))
 run_bound target run (x ∷ xs) short e some s =
     let front = take (length xs) (x ∷ xs) in
@@ -177,5 +178,5 @@ run_bound target run (x ∷ xs) short e some s =
     let below = s (length (spelling front)) (omega (arith, n, length-spelling last [])) (rw before whole) in
     omega (arith, below, n, length-spelling last [], short (length xs) x (omega arith))
 
-pub runs_bound : (target : ℕ) (runs : List (List ℕ)) (bytes : List ℕ) → IsCutBy target runs bytes → All (λ run. length run < target + 65537) runs
+pub runs_bound : (target : ℕ) (runs : List (List ℕ)) (bytes : List ℕ) → IsCutBy target runs bytes → All (λ run. length run < target + LONGEST_FRAME) runs
 runs_bound target runs bytes c = λ k d h. let r = c.cut.each k d h in run_bound target _ r.whole.0 r.whole.1.short r.whole.1.whole r.some (c.shortest k d h)

@@ -12,6 +12,9 @@ use std::marker::Model;
 /// The bytes of the length that comes before each body.
 pub const LENGTH_BYTES: usize = 2;
 
+/// The most bytes of a frame: those of its length, and its body.
+pub const LONGEST_FRAME: usize = 65_537;
+
 /// A frame of a day file. Its place is the number of bytes before it, from the file's start.
 #[derive(Clone, Copy, Debug, PartialEq, Eq)]
 pub struct Frame<'a> {

@@ -18,7 +18,7 @@ mod truncated;
 pub use cutter::Cutter;
 pub use cutting::{CutFault, cut, cut_at};
 pub use day::frames;
-pub use frame::{Frame, Frames, LENGTH_BYTES, append_frame};
+pub use frame::{Frame, Frames, LENGTH_BYTES, LONGEST_FRAME, append_frame};
 pub use frame_laws::{one_cut, one_cut_at, one_reading};
 pub use lists::OutOfMemory;
 pub use lists::limits::{LONGEST_FILE, MOST_MORSELS};

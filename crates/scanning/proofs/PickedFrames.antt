@@ -1,6 +1,6 @@
 -- Frames that are read are picked, and what the others give is nothing.
 use Rattle.std.proofs.Common.{◌≡◌, ℕ, ◌+◌, ◌<◌, ◌≤◌, Bool, true, false, cond, is_some, List, [], ◌∷◌, ◌++◌, Option, None, filter, filter_map, length}
-use Rattle.std.proofs.Common.{zero, suc, map, ◌⊎◌, take, drop, set, get_or, Result, Ok, Err, OnErr, refl, sym, ap, ap₂, ◌∙◌, subst, arith, inl, inr}
+use Rattle.std.proofs.Common.{◌-◌, ◌^◌, zero, suc, map, ◌⊎◌, take, drop, set, get_or, Result, Ok, Err, OnErr, refl, sym, ap, ap₂, ◌∙◌, subst, arith, inl, inr}
 use mir.Val.{bool_byte}
 use Rattle.std.proofs.lemmas.List.{append-nil, append_assoc, length-append, length-set, map-append, take-append-drop, take-set, take_at}
 use Rattle.std.proofs.lemmas.List.{take_more, take_more_set}
@@ -184,7 +184,7 @@ module _ {as_of : Option ℕ} {all left : List PlacedBody} {walked count : ℕ} 
 
 -- where all are taken in after none, the scan is of all
 pub scan_of_all : (n : ℕ) (as_of : Option ℕ) (all : List PlacedBody) (walked : ℕ) (old new : ScanView) → 0 < n → n ≤ MOST_PARTITIONS
-    → old ≡ scan_of n as_of [] → AreTakenIn as_of all 18446744073709551615 walked old new → length (spelling all) ≤ LONGEST_FILE → new ≡ scan_of n as_of all
+    → old ≡ scan_of n as_of [] → AreTakenIn as_of all (2 ^ 64 - 1) walked old new → length (spelling all) ≤ LONGEST_FILE → new ≡ scan_of n as_of all
 scan_of_all n as_of all walked old new some most begun taken within =
     let long = ap (λ l. length (spelling l)) taken.split ∙ ap length (spelling-append taken.front taken.rest)
     ∙ length-append (spelling taken.front) (spelling taken.rest) in
