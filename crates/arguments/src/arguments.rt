@@ -28,6 +28,11 @@ const USAGE: &str = "itch_bars [OPTIONS] <FILE> \"<QUERY>\"";
 const WORKERS_HELP: &str =
     "Threads that work, 1 to 64: more take less time, up to\none for each processor";
 
+/// What help says of `--morsel`.
+const MORSEL_HELP: &str =
+    "Least size of the pieces in which standard input is\nheld, 1 to 1073741824; \
+    over 65536 of them are refused.\nA file is held in such pieces only if this option is\ngiven";
+
 /// What help says of `--partitions`.
 const PARTITIONS_HELP: &str =
     "Parts of the orders, 1 to 256, that threads look up one\nby one: with small morsels \
@@ -209,13 +214,7 @@ fn number_option<'a>(
     ensures rule { rule_of result ≡ number_rule name.entry.now (Signed (pos 1) (pos most)) default.entry.now }
     ensures local { result.global ≡ false }
 {
-    Arg::new(alloc, name)
-        .long(name)
-        .value_name("N")
-        .action(ArgAction::Set)
-        .value_parser(number_parser(most))
-        .default_value(default)
-        .help(help)
+    read_option(alloc, name, "N", number_parser(most), default, help)
 }
 
 /// The least size of a morsel.
@@ -223,16 +222,29 @@ fn morsel_option<'a>(alloc: Global) -> Arg<'a>
     ensures rule { rule_of result ≡ morsel_rule }
     ensures local { result.global ≡ false }
 {
-    Arg::new(alloc, "morsel")
-        .long("morsel")
-        .value_name("BYTES")
+    let parser = value_parser!(u64).range(1..=LARGEST_MORSEL as i64);
+    read_option(alloc, "morsel", "BYTES", parser, "1048576", MORSEL_HELP)
+}
+
+/// An option with a value that the parser reads, and the default if it is left out.
+fn read_option<'a>(
+    alloc: Global,
+    name: &'a str,
+    value_name: &'a str,
+    parser: ValueParser<'a>,
+    default: &'a str,
+    help: &'a str,
+) -> Arg<'a>
+    ensures rule { rule_of result ≡ number_rule name.entry.now parser.entry default.entry.now }
+    ensures local { result.global ≡ false }
+{
+    Arg::new(alloc, name)
+        .long(name)
+        .value_name(value_name)
         .action(ArgAction::Set)
-        .value_parser(value_parser!(u64).range(1..=LARGEST_MORSEL as i64))
-        .default_value("1048576")
-        .help(
-            "Least size of the pieces in which standard input is\nheld, 1 to 1073741824; \
-            over 65536 of them are refused.\nA file is held in such pieces only if this option is\ngiven",
-        )
+        .value_parser(parser)
+        .default_value(default)
+        .help(help)
 }
 
 /// The job of what was matched.
