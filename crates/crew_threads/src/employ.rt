@@ -78,7 +78,6 @@ impl<'s, W: Work + 's, G: Gate, R: Threads + Wait + Sync> Pipeline<'s, W, G, R> 
             let (tasks, inputs) = (&*dispatcher, &*inputs);
             work(alloc, tasks, &mut seat, inputs, &mut port, number, gate)
         };
-        let _ = scope.spawn(run);
-        Some(())
+        scope.spawn(run).is_ok().then_some(())
     }
 }

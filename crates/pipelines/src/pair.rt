@@ -9,7 +9,7 @@ use crew_threads::{Crew, Gate, run_pipeline};
 use gathering::{Inputs, Link, Linked, OutOfMemory, Work};
 use std::alloc::Global;
 use std::sync::{Arc, Wait};
-use std::thread::{self, Scope, Threads};
+use std::thread::{self, Threads};
 
 /// Runs the first pipeline, links its total, and runs the second pipeline, each as `run_pipeline` does. It waits for
 /// the pieces, and at the end for all workers. It is refused if memory was refused to the caller's thread.
@@ -45,7 +45,7 @@ pub fn run_both<A: Work, B: Work, L: Link<A, B>, G: Gate, R: Threads + Wait + Sy
                 (IsOutcome (A.IsTotalOf (arc_value inputs)) (L.Links link.entry.now) B.IsTotalOf) }
         {
             let total = run_pipeline(scope, rt, alloc, inputs, crew, gate, 1)?;
-            go_on(scope, rt, alloc, total, link, crew, gate)
+            run_second(rt, alloc, total, link, crew, gate)
         },
     )
 }
@@ -61,17 +61,8 @@ pub fn run_first<W: Work, G: Gate, R: Threads + Wait + Sync>(
     ensures total { IfOk result (λ total. W.IsTotalOf (arc_value inputs.now) total) }
     ensures admissible { OnOk result (W.IsAdmissible (arc_value inputs.now)) }
 {
-    thread::scope(
-        thread::scope_env(),
-        rt,
-        move |scope| -> Result<W::Total, OutOfMemory>
-            ensures total { IfOk result (λ total. W.IsTotalOf (arc_value inputs.entry.now) total) }
-            ensures admissible { OnOk result (W.IsAdmissible (arc_value inputs.entry.now)) }
-        {
-            let inputs = Arc::try_clone(inputs)?;
-            run_pipeline(scope, rt, alloc, inputs, crew, gate, 1)
-        },
-    )
+    let inputs = Arc::try_clone(inputs)?;
+    run_alone(rt, alloc, inputs, crew, gate, 1)
 }
 
 /// Links a total, which some inputs of the first pipeline have, and runs the second pipeline alone, as
@@ -87,35 +78,34 @@ pub fn run_second<A: Work, B: Work, L: Link<A, B>, G: Gate, R: Threads + Wait + 
     requires total { IsTotal A.IsTotalOf A.IsAdmissible total }
     ensures outcome { IfOk result (IsOutcome (λ first. first ≡ total) (L.Links link.now) B.IsTotalOf) }
 {
-    thread::scope(
-        thread::scope_env(),
-        rt,
-        move |scope| -> Result<Outcome<B::Total, L::Kept, L::Stop>, OutOfMemory>
-            requires { IsTotal A.IsTotalOf A.IsAdmissible total }
-            ensures { IfOk result (IsOutcome (λ first. first ≡ total) (L.Links link.entry.now) B.IsTotalOf) }
-        { go_on(scope, rt, alloc, total, link, crew, gate) },
-    )
-}
-
-/// What comes once the first pipeline has its total: the second, or the link's stop.
-fn go_on<'s, E, A: Work, B: Work + 's, L: Link<A, B>, G: Gate, R: Threads + Wait + Sync>(
-    scope: &Scope<'s, E>,
-    rt: &'s R,
-    alloc: Global,
-    total: A::Total,
-    link: &L,
-    crew: Option<Crew>,
-    gate: &'s G,
-) -> Result<Outcome<B::Total, L::Kept, L::Stop>, OutOfMemory>
-    requires { IsTotal A.IsTotalOf A.IsAdmissible total }
-    ensures { IfOk result (IsOutcome (λ first. first ≡ total) (L.Links link.now) B.IsTotalOf) }
-{
     match link.link(alloc, total)? {
         Linked::Halt { stop } => Ok(Outcome::Stopped { stop }),
         Linked::Next { inputs, kept } => {
             let inputs = Arc::new(alloc, inputs)?;
-            let total = run_pipeline(scope, rt, alloc, inputs, crew, gate, 2)?;
+            let total = run_alone(rt, alloc, inputs, crew, gate, 2)?;
             Ok(Outcome::Finished { total, kept })
         }
     }
+}
+
+/// Runs the pipeline of this number alone, and waits at the end for all its workers.
+fn run_alone<W: Work, G: Gate, R: Threads + Wait + Sync>(
+    rt: &R,
+    alloc: Global,
+    inputs: Arc<Inputs<W>, Global>,
+    crew: Option<Crew>,
+    gate: &G,
+    number: u8,
+) -> Result<W::Total, OutOfMemory>
+    ensures total { IfOk result (λ total. W.IsTotalOf (arc_value inputs) total) }
+    ensures admissible { OnOk result (W.IsAdmissible (arc_value inputs)) }
+{
+    thread::scope(
+        thread::scope_env(),
+        rt,
+        move |scope| -> Result<W::Total, OutOfMemory>
+            ensures total { IfOk result (λ total. W.IsTotalOf (arc_value inputs) total) }
+            ensures admissible { OnOk result (W.IsAdmissible (arc_value inputs)) }
+        { run_pipeline(scope, rt, alloc, inputs, crew, gate, number) },
+    )
 }

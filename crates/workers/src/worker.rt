@@ -15,7 +15,6 @@ use std::sync::Arc;
 ///
 /// It answers how many pieces were refused, by memory or by the port: after so many of its claims
 /// the task was left unmarked. It waits for what the gate and the port wait for.
-#[tactic(auto, using(dispatcher::proofs::Rising::falls))]
 pub fn work<W: Work, P: Port<Piece<W>>, G: Gate>(
     alloc: Global,
     dispatcher: &Dispatcher,

@@ -1,6 +1,6 @@
-use Rattle.std.proofs.Common.{rules, ◌≡◌, ◌∙◌, ◌++◌, ◌∷◌, [], ◌*◌, Contains, true, false, sym, subst, arith, append-nil}
+use Rattle.std.proofs.Common.{rules, ◌≡◌, ◌∙◌, ◌++◌, ◌∷◌, [], ◌*◌, ℕ, List, All, ◌<◌, ◌-◌, Contains, true, false, sym, subst, arith, append-nil}
 use Rattle.std.proofs.lemmas.List.Elements.{Contains-push}
-use Rattle.dispatcher.proofs.Rising.{above_le}
+use Rattle.dispatcher.proofs.Rising.{above, above_le, falls}
 use Rattle.dispatcher.specs.Seats.{tasks_of, claims, marked_tasks, seen_tasks}
 use Rattle.workers.proofs.Workers.{took_more, turn_more, no_more, saw_all}
 use Rattle.workers.proofs.worker.work.Goals as goal
@@ -66,3 +66,19 @@ mark-requires-clause-given g c =
       subst (λ w. Contains w c.in-Task.claim) (sym claimed) (Contains-push (claims c.loop-claim.seat) c.in-Task.claim),
       (c.in-Task.ensures.answer.0, sym c.in-Task.ensures.answer.1),
     )
+
+falls_to : (tasks : ℕ) (xs ys : List ℕ) {c : ℕ} → ys ≡ xs ++ c ∷ [] → All (λ x. x < c) xs → c < 2 * tasks
+    → 2 * tasks - above ys < 2 * tasks - above xs
+falls_to tasks xs ys {c} more rises gives = rw more (falls tasks xs c rises gives)
+
+pub loop-claim-smaller : goal.loop-claim-smaller
+loop-claim-smaller g c =
+    falls_to _ _ (claims c.is_marked.new.seat) (search rules) c.in-Task.ensures.rises c.in-Task.ensures.answer.0
+
+pub loop-claim-smaller-in-Some : goal.loop-claim-smaller-in-Some
+loop-claim-smaller-in-Some g c =
+    falls_to _ _ (claims c.mark.new.seat) (search rules) c.in-Task.ensures.rises c.in-Task.ensures.answer.0
+
+pub loop-claim-smaller-in-None : goal.loop-claim-smaller-in-None
+loop-claim-smaller-in-None g c =
+    falls_to _ _ (claims c.is_marked.new.seat) (search rules) c.in-Task.ensures.rises c.in-Task.ensures.answer.0
