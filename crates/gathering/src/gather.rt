@@ -89,7 +89,6 @@ impl<W: Work, A: Allocator> Gathering<W, A> {
     ///
     /// The room for the pieces is taken of `memory`, and the work's own growths of `alloc`. It is refused if `memory`
     /// has no room for a place for each task.
-    #[tactic(auto, using(crate::proofs::CoveredTasks::gathered))]
     pub fn new_in(
         alloc: Global,
         memory: A,

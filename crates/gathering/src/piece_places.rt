@@ -32,7 +32,14 @@ pub(crate) fn merge_places<T: Drop, A: Allocator>(
 {
     while let Some(other) = others.pop() {
         let at = others.len();
-        let kept = own[at].take().or(other);
-        own[at] = if at < from as usize { None } else { kept };
+        merge_place(&mut own[at], other, at < from as usize);
     }
+}
+
+/// Moves what the other holds into an empty place, or empties it.
+fn merge_place<T: Drop>(own: &mut Option<T>, other: Option<T>, emptied: bool)
+    ensures { own.new ≡ (if emptied then None else option_or own.old other) }
+{
+    let kept = own.take().or(other);
+    *own = if emptied { None } else { kept };
 }
