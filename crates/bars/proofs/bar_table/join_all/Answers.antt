@@ -1,4 +1,5 @@
-use Rattle.std.proofs.Common.{Bor, refl}
+use Rattle.std.proofs.Common.{Bor, refl, arith}
+use Rattle.std.proofs.lemmas.Grind.{common_steps}
 use Rattle.bars.specs.Bars.{Bar}
 use Rattle.bars.proofs.LastBar.{next_bar, no_bar}
 use Rattle.bars.proofs.bar_table.join_all.Goals as goal
@@ -16,3 +17,6 @@ pub loop-bar-preserved : goal.loop-bar-preserved
 loop-bar-preserved g c =
     (next_bar (λ (b : Bor Bar). b.now) c.args.sorted.now c.loop-bar.bar-index no_item _ c.loop-bar.bars.items c.requires.rise c.requires.sums
     c.loop-bar-test.true refl c.loop-bar.invariant).1 _ c.in_ok-add.ensures
+
+pub returns : goal.returns
+returns g c = grind (arith, common_steps)

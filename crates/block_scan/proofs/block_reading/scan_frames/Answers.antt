@@ -1,4 +1,5 @@
 use Rattle.std.proofs.Common.{◌≡◌, ◌<◌, ◌+◌, ◌-◌, [], ◌++◌, length, take, arith, ap, ◌∙◌, length-drop, refl, rules}
+use Rattle.std.proofs.lemmas.Grind.{common_steps}
 use Rattle.std.proofs.lemmas.List.{length-append, length-take-le}
 use Rattle.std.proofs.lemmas.List.Elements.{All-append, All-nil}
 use borrow.Rule.Slice.PartMut.{put_mid}
@@ -51,3 +52,12 @@ loop-place-preserved g c =
     (omega (arith, same, into_is, below, i.filled_is, i.room, told.count)) in
     fills_more g.S.BlockSource.GaveAt g.met.S.BlockSource.gave_more count c.requires.request i told.gave all_is n (omega (arith, told.within))
     are w kept (c.copy_within.auto.self ∙ same)
+
+pub copy_within-requires-clause-start_le_end : goal.copy_within-requires-clause-start_le_end
+copy_within-requires-clause-start_le_end g c = grind (arith, common_steps)
+
+pub overflow_sub-filled : goal.overflow_sub-filled
+overflow_sub-filled g c = grind (arith, common_steps)
+
+pub overflow_add-place : goal.overflow_add-place
+overflow_add-place g c = grind (arith, common_steps)

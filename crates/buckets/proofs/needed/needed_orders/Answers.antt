@@ -10,3 +10,6 @@ returns c =
       of = c.add_orders.ensures (executed_in rows) [] (c.add_executions.ensures [] [] (search rules));
       are = grind (arith, common_steps);
     }
+
+pub loop-partition-preserved : goal.loop-partition-preserved
+loop-partition-preserved c = grind (arith, common_steps)

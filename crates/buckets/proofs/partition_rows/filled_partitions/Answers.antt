@@ -1,4 +1,5 @@
 use Rattle.std.proofs.Common.{◌≡◌, ◌∙◌, ◌≤◌, Some, ap, arith, length, subst}
+use Rattle.std.proofs.lemmas.Grind.{common_steps}
 use Rattle.std.specs.Arc.{arc_value}
 use Rattle.std.specs.List.{slice_get}
 use Rattle.morsel_rows.specs.Partitions.{MorselRowsView}
@@ -31,3 +32,6 @@ loop-morsel-preserved c =
           ∙ partition_missing number i morsels d (omega (arith, c.loop-morsel-test.true)) c.loop-morsel.partitions.items c.loop-morsel.invariant
           (subst (λ (m : MorselRowsView). length m.partitions ≤ number) this w.in_default.ensures)
     ]
+
+pub returns : goal.returns
+returns c = grind (arith, common_steps)

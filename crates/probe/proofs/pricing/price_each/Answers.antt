@@ -1,4 +1,5 @@
 use Rattle.std.proofs.Common.{◌∙◌, ◌<◌, ◌++◌, ◌∷◌, [], ap, ap₂, arith, length, option_map, option_to_list, rules, sym}
+use Rattle.std.proofs.lemmas.Grind.{common_steps}
 use Rattle.std.proofs.lemmas.List.Sorted.{answers_always}
 use Rattle.lists.specs.Least.{least_by}
 use Rattle.probe.specs.Pricing.{Sale, Unknown, unknown_of}
@@ -44,3 +45,6 @@ loop-execution-preserved g c =
         capacity = search rules;
       }
     ]
+
+pub returns : goal.returns
+returns g c = grind (arith, common_steps)

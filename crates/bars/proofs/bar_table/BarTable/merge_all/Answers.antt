@@ -28,3 +28,6 @@ invariant_of-result g c = (
   c.in_ok-unite.ensures.rise,
   table_has IsTraded joined_traded _ _ c.in_ok-unite.ensures (rw c.as_slice.ensures.value c.loop-table.invariant.traded),
 )
+
+pub returns-clause-union : goal.returns-clause-union
+returns-clause-union g c = grind (arith, common_steps)

@@ -1,4 +1,5 @@
 use Rattle.std.proofs.Common.{◌≡◌, ◌∙◌, None, ap, arith, subst}
+use Rattle.std.proofs.lemmas.Grind.{common_steps}
 use Rattle.std.proofs.lemmas.List.{take_all}
 use Rattle.order_table.specs.Orders.{first_repeated}
 use Rattle.buckets.specs.BucketRows.{rows_of_partitions}
@@ -11,3 +12,9 @@ returns-clause-repeated c =
     let all = c.loop-partition.invariant.rows
     ∙ ap (λ l. (rows_of_partitions l).orders) (take_all c.loop-partition.partition-index partitions (omega (arith, c.loop-partition-test.false))) in
     subst (λ l. first_repeated l ≡ None) all (none_twice c.loop-partition.lists.items c.loop-partition.invariant.rising)
+
+pub loop-partition-preserved : goal.loop-partition-preserved
+loop-partition-preserved c = grind (arith, common_steps)
+
+pub returns-clause-rows : goal.returns-clause-rows
+returns-clause-rows c = grind (arith, common_steps)

@@ -1,4 +1,5 @@
-use Rattle.std.proofs.Common.{[]}
+use Rattle.std.proofs.Common.{[], arith}
+use Rattle.std.proofs.lemmas.Grind.{common_steps}
 use Rattle.morsel_rows.proofs.JoinedInPartitions.{order_joins}
 use Rattle.morsel_rows.proofs.TakenRows.{not_none, pushed}
 use Rattle.morsel_rows.proofs.rows.MorselRows.push_order.Goals as goal
@@ -13,3 +14,9 @@ returns g c = elim c.match-index_mut.branch [
       rw (w.self-inside-is, w.result-is) (record { added = both.0; unchanged = both.1 })
   | in-None w ↦ absurd (not_none 0 _ _ c.begin.ensures.same [] [] _ c.in_ok-begin.ensures.begun _ c.index_mut.ensures.value w.in-None.is)
 ]
+
+pub returns-in_err-begin-clause-unchanged : goal.returns-in_err-begin-clause-unchanged
+returns-in_err-begin-clause-unchanged g c = grind arith
+
+pub index_mut-requires : goal.index_mut-requires
+index_mut-requires g c = grind (arith, common_steps)

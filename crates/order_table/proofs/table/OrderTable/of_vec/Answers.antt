@@ -1,4 +1,5 @@
-use Rattle.std.proofs.Common.{◌≡◌, ◌<◌, ◌∙◌, ap, eqb, option_map, rules, subst, sym, AllPairs, find}
+use Rattle.std.proofs.Common.{◌≡◌, ◌<◌, ◌∙◌, ap, eqb, option_map, rules, subst, sym, AllPairs, find, arith}
+use Rattle.std.proofs.lemmas.Grind.{common_steps}
 use Rattle.order_table.specs.Orders.{OrderRow, first_repeated, repeated_of}
 use Rattle.order_table.proofs.Repeats.{distinct_as_given, none_repeated, repeated_as_given}
 use Rattle.order_table.proofs.RowsInOrder.{first_as_given, first_is_least, in_order_from_rising}
@@ -28,3 +29,6 @@ returns-clause-repeated g c =
     let told : c.map-repeated.result ≡ option_map repeated_of c.first_repeated.result = search rules in
     told ∙ ap (option_map repeated_of) (c.first_repeated.ensures ∙ ap first_repeated c.deref-2.ensures.value
     ∙ repeated_as_given c.args.rows.items c.put_in_order.new.rows.items c.requires c.put_in_order.ensures.permutation)
+
+pub first_repeated-requires-clause-in_order : goal.first_repeated-requires-clause-in_order
+first_repeated-requires-clause-in_order g c = grind (arith, common_steps)
