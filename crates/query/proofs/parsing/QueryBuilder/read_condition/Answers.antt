@@ -40,7 +40,7 @@ refused_after (Err fault) next then_next ws rest e listed first memory = record 
 
 pub returns-then-is_some-clause-err : goal.returns-then-is_some-clause-err
 returns-then-is_some-clause-err g c =
-    let e = symbol_leads c.args.self.now _ _ _ c.in_ok-word.ensures.ok true c.if-is.ensures (c.if-is_some.ensures ∙ ap (λ s. is_some s.symbols) c.self.view_is) in
+    let e = symbol_leads _ _ _ _ c.in_ok-word.ensures.ok true c.if-is.ensures (c.if-is_some.ensures ∙ ap (λ s. is_some s.symbols) c.self.view_is) in
     refused_here _ _ _ (λ is. absurd (cc)) (e ∙ stays _ _)
 
 pub returns-then-is_some-2-clause-err : goal.returns-then-is_some-2-clause-err
