@@ -9,7 +9,6 @@ use Rattle.std.specs.Slice.Iter.{iter_rest, iter_steps}
 use Rattle.std.specs.Vec.Iter.{into_iter_items, into_iter_len, into_iter_steps}
 use Rattle.std.specs.declared.vec.IntoIter.{IntoIter}
 use Rattle.std.proofs.lemmas.Bool.Decides.{nat_tests}
-use Rattle.std.proofs.lemmas.Grind.{common_steps}
 use Rattle.std.proofs.lemmas.List.{map_push, nil_from_length}
 use Rattle.std.proofs.lemmas.List.Elements.{All-map, All-weaker}
 use Rattle.std.proofs.lemmas.List.Folds.{flat_map-map}
@@ -76,5 +75,3 @@ none_left j e = nil_from_length (into_iter_items j) (omega (arith, j.rest.ok, e)
 pub joined_parts : {Z : Type 0} (parts : List (Vec Sale Z)) (rest all : List (List Sale)) → items_of parts ++ rest ≡ all → rest ≡ []
     → all_sales all ≡ all_items parts
 joined_parts {Z} parts rest all told none = rw (← told, none, append-nil) (flat_map-map (λ (l : List Sale). l) (λ (p : Vec Sale Z). p.items) parts)
-
-pub ruleset merging = (common_steps, joined_parts, none_left)

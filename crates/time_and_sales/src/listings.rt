@@ -67,7 +67,6 @@ impl<A: Allocator> Listing<A> {
     }
 
     /// The listing of the sales of all listings, in memory of `alloc`: one merge of all of them.
-    #[tactic(auto, using(crate::proofs::MergedListings::merging))]
     pub fn merge_all(alloc: A, listings: Vec<Listing<A>, A>) -> Result<Listing<A>, OutOfMemory>
     where
         A: Clone,

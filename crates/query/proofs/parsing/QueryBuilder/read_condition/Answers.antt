@@ -38,6 +38,11 @@ refused_after : (r : Result (Unit {0}) QueryFault) (next then_next : Next) (ws r
 refused_after (Ok done) next then_next ws rest e listed first memory = tt
 refused_after (Err fault) next then_next ws rest e listed first memory = record { first = λ o. e ∙ first o; memory = λ is. listed (memory is) }
 
+pub returns-then-is_some-clause-err : goal.returns-then-is_some-clause-err
+returns-then-is_some-clause-err g c =
+    let e = symbol_leads _ _ _ _ c.in_ok-word.ensures.ok true c.if-is.ensures (c.if-is_some.ensures ∙ ap (λ s. is_some s.symbols) c.self.view_is) in
+    refused_here _ _ _ (λ is. absurd (cc)) (e ∙ stays _ _)
+
 pub returns-then-is_some-2-clause-err : goal.returns-then-is_some-2-clause-err
 returns-then-is_some-2-clause-err g c =
     refused_here _ _ _ (λ is. absurd (cc)) (time_leads _ _ _ _ c.in_ok-word.ensures.ok true c.if-is.ensures c.if-is-2.ensures

@@ -1,4 +1,4 @@
-use Rattle.std.proofs.Common.{refl, sym, ap₂, ap, ◌∙◌, arith, length, option_map}
+use Rattle.std.proofs.Common.{refl, sym, ap₂, ap, ◌∙◌, arith, length}
 use Rattle.std.proofs.lemmas.Bool.{both_ways}
 use Rattle.time_and_sales.specs.Names.{last_of_two, last_row}
 use Rattle.time_and_sales.proofs.LastRows.{row_at, rows_of, with_one_more, all_read, last_row_is, no_entries, rows_joined}
