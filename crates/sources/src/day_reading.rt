@@ -39,6 +39,7 @@ impl From<DeviceFailed> for ReadFault {
 }
 
 // Appends what one call of the source gives, at most this many bytes, and says how many those are.
+#[tactic(auto, using(crate::proofs::Given::some_given))]
 fn read_piece<S: Source, A: Allocator>(
     source: &mut S,
     bytes: &mut Vec<u8, A>,

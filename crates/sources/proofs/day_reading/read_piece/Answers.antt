@@ -1,6 +1,4 @@
 use Rattle.std.proofs.Common.{take, length-take, arith}
-use Rattle.std.proofs.lemmas.Result.{err_from_is_err_and}
-use Rattle.sources.proofs.Given.{some_given}
 use Rattle.sources.proofs.Pieces.{piece_stands}
 use Rattle.sources.proofs.day_reading.read_piece.Goals as goal
 
@@ -16,14 +14,3 @@ returns-clause-piece g c =
           (omega (arith, c.take.auto.into, c.in_ok-resize.ensures.len, count, c.deref_mut.ensures.len)) c.truncate.ensures.items,
       omega (arith, length-take taken into, count),
     )
-
-pub returns-in_err-resize-clause-fault : goal.returns-in_err-resize-clause-fault
-returns-in_err-resize-clause-fault g c = let p = err_from_is_err_and c.from_residual.result c.from_residual.ensures.1 in
-    rw (p.1, p.2) (λ before limit some. (some, c.requires.whole))
-
-pub returns-in_err-taken-clause-fault : goal.returns-in_err-taken-clause-fault
-returns-in_err-taken-clause-fault g c = let p = err_from_is_err_and c.from_residual-in_err-taken.result c.from_residual-in_err-taken.ensures.1 in
-    rw (p.1, p.2) (λ before limit some. (
-      some_given g.S.Source g.met.S.Source.gave_more some.gave c.in_err-taken.ensures.gave (omega (arith, some.within)),
-      c.in_err-taken.ensures.failed,
-    ))
