@@ -4,8 +4,10 @@
 
 pub mod limits;
 mod places;
+mod pushing;
 
 pub use places::earlier;
+pub use pushing::push;
 
 /// Why a call refused: a growth found no memory.
 pub type OutOfMemory = std::alloc::AllocError;

@@ -6,7 +6,8 @@ ghost use Rattle.morsel_rows.specs.Partitions.{no_rows_in};
 ghost use Rattle.morsel_rows.specs.SameRows.{is_same_partition, partition_equiv};
 
 use crate::OutOfMemory;
-use order_list::{OrderList, push};
+use lists::push;
+use order_list::OrderList;
 use row_types::{Execution, OrderRow, Sale};
 use std::alloc::{Allocator, Global};
 use std::marker::Model;

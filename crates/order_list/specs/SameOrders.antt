@@ -1,6 +1,6 @@
 -- Order rows as `==` compares them.
 -- To be believed of a crate used by itself: equality of inputs, by which no answer is defined.
-use Rattle.std.specs.Prelude.{◌≡◌, Bool, true, List}
+use Rattle.std.specs.Prelude.{Bool, List}
 use Rattle.std.specs.Cmp.{IsEquivalence}
 use Rattle.std.specs.Cmp.Lexicographic.{pointwise}
 use Rattle.std.proofs.Common.{arith}
@@ -17,9 +17,6 @@ are_same_orders = pointwise (order_eq.ghosts).eq
 
 pub exact_orders : IsExact are_same_orders
 exact_orders = exact_list (record { itself = λ a. grind (arith, nat_tests); one = λ a b h. grind (arith, nat_tests) })
-
-pub orders_equal_themselves : (rows : List OrderRow) → are_same_orders rows rows ≡ true
-orders_equal_themselves = exact_orders.itself
 
 pub orders_equiv : IsEquivalence are_same_orders
 orders_equiv = exact_equiv exact_orders

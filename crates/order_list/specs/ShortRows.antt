@@ -1,10 +1,11 @@
--- An order row in fewer bytes.
+-- Order rows in fewer bytes.
 -- Derived: callers see a list of order rows.
-use Rattle.std.specs.Prelude.{◌+◌, ◌^◌, ◌≤◌, List, [], Option, None, Some, Box}
+use Rattle.std.specs.Prelude.{ℕ, ◌+◌, ◌*◌, ◌^◌, ◌≤◌}
 use Rattle.row_types.specs.declared.order.OrderRow.{OrderRow}
 use Rattle.order_list.specs.declared.lean.Lean.{Lean}
-use Rattle.order_list.specs.declared.narrow.Narrow.{Narrow}
 use Rattle.order_list.specs.declared.offsets.Origin.{Origin}
+use Rattle.order_list.specs.declared.wide.Halves.{Halves}
+use Rattle.order_list.specs.declared.wide.Wide.{Wide}
 
 -- no number of 32 bits that counts from it goes past the last number of 64 bits
 abbrev pub IsOrigin : Origin → Type 0
@@ -18,11 +19,10 @@ row_of_lean origin row = record {
   price = row.price;
 }
 
--- the row with its place
-abbrev pub row_of_narrow : Origin → Narrow → OrderRow
-row_of_narrow origin row = record { place = origin.place + row.offset; order_no = row.order_no; price = row.price }
+-- the number of which these are the halves
+abbrev pub number_of : Halves → ℕ
+number_of halves = halves.high * 2 ^ 32 + halves.low
 
--- the rows behind the lean ones, if there are some
-abbrev pub rows_behind : {Z : Type 0} → Option (Box (List OrderRow) Z) → List OrderRow
-rows_behind None = []
-rows_behind (Some behind) = behind.value
+-- the row with its numbers whole
+abbrev pub row_of_wide : Wide → OrderRow
+row_of_wide row = record { place = number_of row.place; order_no = number_of row.order_no; price = row.price }

@@ -9,22 +9,17 @@
 //! for nothing and none is lost.
 #![tactic(auto)]
 
-mod behind;
 mod bits;
 mod filter;
 mod lean;
-mod narrow;
 mod offsets;
 mod order_rows;
 mod orders;
-mod pushing;
 mod rising_rows;
-mod same;
-mod short;
+mod wide;
 
 pub use filter::OrderFilter;
 pub use lists::OutOfMemory;
 pub use order_rows::OrderRows;
 pub use orders::OrderList;
-pub use pushing::push;
 pub use rising_rows::RisingRows;

@@ -1,15 +1,16 @@
 //! Order rows in little memory.
-ghost use Rattle.std.specs.Prelude.{◌≡◌, ◌<◌, [], ◌∷◌, ◌++◌, length, IfOk, IsTrue, OnErr, OnOk, slice_index_or};
+ghost use Rattle.std.specs.Prelude.{◌≡◌, ◌<◌, [], ◌∷◌, ◌++◌, length, IfOk, OnErr, OnOk, slice_index_or};
 ghost use Rattle.std.specs.Cmp.{partial_equiv_from_equiv};
 ghost use Rattle.std.specs.List.{AllPairs};
 ghost use Rattle.std.specs.Option.{IfSome};
 ghost use Rattle.order_list.specs.SameOrders.{are_same_orders, orders_equiv};
 
 use crate::OutOfMemory;
-use crate::behind::RowsBehind;
 use crate::lean::LeanRows;
 use crate::order_rows::OrderRows;
 use crate::rising_rows::RisingRows;
+use crate::wide::Wide;
+use lists::push;
 use row_types::OrderRow;
 use std::alloc::{Allocator, Global};
 use std::marker::Model;
@@ -18,23 +19,22 @@ use std::marker::Model;
 ///
 /// A row takes 12 bytes as long as each is near the first one: its place less than 4 GiB past the first one's,
 /// which is so in a morsel, and its reference less than 2^31 from the first one's, which is so on a day whose
-/// references rise. The first row that isn't near, and all that follow, take 16 bytes, as long as their places
-/// are near that of the first of them. The first one whose place isn't, and all that follow, take 24.
+/// references rise. The first row that isn't near, and all that follow, take 20.
 #[derive(Drop)]
 pub struct OrderList<A: Allocator = Global> {
     lean: LeanRows<A>,
     /// The first row that isn't lean, and all that follow it. If only one is before it, that is here, too.
-    behind: Option<Box<RowsBehind<A>, A>>,
+    wide: Vec<Wide, A>,
 }
 
 impl<A: Allocator> Model for OrderList<A> {
-    ghost use Rattle.std.specs.Prelude.{List, ◌++◌};
+    ghost use Rattle.std.specs.Prelude.{List, ◌++◌, map};
     ghost use Rattle.row_types.specs.declared.order.OrderRow.{OrderRow};
-    ghost use Rattle.order_list.specs.ShortRows.{rows_behind};
+    ghost use Rattle.order_list.specs.ShortRows.{row_of_wide};
 
     ghost Value = { List OrderRow };
 
-    ghost view = { λ list. list.lean ++ rows_behind list.behind };
+    ghost view = { λ list. list.lean ++ map row_of_wide list.wide.items };
 }
 
 impl<A: Allocator + Copy> OrderList<A> {
@@ -44,7 +44,7 @@ impl<A: Allocator + Copy> OrderList<A> {
     {
         OrderList {
             lean: LeanRows::new(alloc),
-            behind: None,
+            wide: Vec::new(alloc),
         }
     }
 
@@ -52,37 +52,54 @@ impl<A: Allocator + Copy> OrderList<A> {
     pub fn with_room(alloc: A, rows: usize) -> Result<Self, OutOfMemory>
         ensures { IfOk result (λ list. list ≡ []) }
     {
-        let mut lean = LeanRows::new(alloc);
-        lean.reserve(rows)?;
-        Ok(OrderList { lean, behind: None })
+        let mut list = OrderList::new(alloc);
+        list.lean.reserve(rows)?;
+        Ok(list)
     }
+}
 
+impl<A: Allocator> OrderList<A> {
     /// Adds a row at the end. If there is no memory for it, the list stays as it was.
     #[inline(always)]
     pub fn push(&mut self, row: OrderRow) -> Result<(), OutOfMemory>
         ensures added { OnOk result (self.new ≡ self.old ++ row ∷ []) }
         ensures unchanged { OnErr result (self.new ≡ self.old) }
     {
-        if let Some(behind) = &mut self.behind {
-            return behind.push(row);
+        if self.wide.is_empty() {
+            if self.lean.push_near(row)? {
+                return Ok(());
+            }
+            self.begin_wide()?;
         }
-        if self.lean.push_near(row)? {
+        push(&mut self.wide, Wide::of(row))
+    }
+
+    /// Takes room for wide rows, in place of what lean ones leave. If there is but one lean row, as where references are
+    /// any numbers, it is made wide, so that no memory of lean rows is left between that of others.
+    #[cold]
+    #[inline(never)]
+    fn begin_wide(&mut self) -> Result<(), OutOfMemory>
+        ensures { self.new ≡ self.old }
+    {
+        let room = self.lean.room();
+        if self.lean.len() == 1 && self.wide.is_empty() {
+            self.wide.reserve_exact(room)?;
+            push(&mut self.wide, Wide::of(self.lean.at(0)))?;
+            self.lean.clear();
             return Ok(());
         }
-        self.behind = Some(begin_behind(&mut self.lean, row)?);
+        self.wide
+            .reserve_exact(room.saturating_sub(self.lean.len()))?;
+        self.lean.shrink_to_fit();
         Ok(())
     }
-}
 
-impl<A: Allocator> OrderList<A> {
     /// Gives memory back that is taken for further rows.
     pub fn shrink_to_fit(&mut self)
         ensures { self.new ≡ self.old }
     {
         self.lean.shrink_to_fit();
-        if let Some(behind) = &mut self.behind {
-            behind.shrink_to_fit();
-        }
+        self.wide.shrink_to_fit();
     }
 
     /// How many rows there are.
@@ -90,10 +107,7 @@ impl<A: Allocator> OrderList<A> {
     pub fn len(&self) -> usize
         ensures { result ≡ length self.now }
     {
-        match &self.behind {
-            Some(behind) => self.lean.len() + behind.len(),
-            None => self.lean.len(),
-        }
+        self.lean.len() + self.wide.len()
     }
 
     /// The rows, in the order in which they were pushed.
@@ -101,9 +115,10 @@ impl<A: Allocator> OrderList<A> {
     pub fn iter(&self) -> OrderRows<'_>
         ensures { result ≡ self.now }
     {
-        match &self.behind {
-            Some(behind) => behind.iter_after(&self.lean),
-            None => self.lean.iter(),
+        OrderRows {
+            origin: self.lean.origin,
+            lean: self.lean.rows.as_slice(),
+            wide: self.wide.as_slice(),
         }
     }
 
@@ -113,9 +128,10 @@ impl<A: Allocator> OrderList<A> {
         ensures rows { IfSome result (λ rising. rising ≡ self.now) }
         ensures rise { IfSome result (λ rising. AllPairs (λ x y. x.order_no < y.order_no) rising) }
     {
-        match &self.behind {
-            Some(_) => None,
-            None => self.lean.rising(),
+        if self.wide.is_empty() {
+            self.lean.rising()
+        } else {
+            None
         }
     }
 
@@ -125,25 +141,10 @@ impl<A: Allocator> OrderList<A> {
         ensures unchanged { OnErr result (out.new.items ≡ out.old.items) }
     {
         out.try_reserve(self.len())?;
-        self.lean.append_reserved(out);
-        if let Some(behind) = &self.behind {
-            behind.append_reserved(out);
+        for index in 0..self.len() {
+            out.push_reserved(self.at(index));
         }
         Ok(())
-    }
-
-    /// Whether the rows are the same and lie alike, lean, narrow or wide, as those of one list do.
-    fn lies_alike(&self, other: &OrderList<A>) -> bool
-        ensures { IsTrue result → self.now ≡ other.now }
-    {
-        if !self.lean.lies_as(&other.lean) {
-            return false;
-        }
-        match (&self.behind, &other.behind) {
-            (None, None) => true,
-            (Some(one), Some(another)) => one.lies_as(another),
-            _ => false,
-        }
     }
 
     /// The row at this index.
@@ -152,35 +153,12 @@ impl<A: Allocator> OrderList<A> {
         requires { index < length self.now }
         ensures { result ≡ slice_index_or self.now index result }
     {
-        match &self.behind {
-            Some(behind) if index >= self.lean.len() => behind.at(index - self.lean.len()),
-            _ => self.lean.at(index),
+        if index < self.lean.len() {
+            self.lean.at(index)
+        } else {
+            self.wide[index - self.lean.len()].row()
         }
     }
-}
-
-/// The rows from the first that isn't lean on, in the room that was taken for lean ones. If it is the second row, as
-/// where references are any numbers, the first is made narrow, too, so that no memory of lean rows is left
-/// between that of others.
-#[cold]
-#[inline(never)]
-fn begin_behind<A: Allocator + Copy>(
-    lean: &mut LeanRows<A>,
-    row: OrderRow,
-) -> Result<Box<RowsBehind<A>, A>, OutOfMemory>
-    ensures added { IfOk result (λ behind. lean.new ++ behind.value ≡ lean.old ++ row ∷ []) }
-    ensures unchanged { OnErr result (lean.new ≡ lean.old) }
-{
-    let alloc = lean.allocator();
-    let room = lean.room();
-    if lean.len() == 1 {
-        let behind = RowsBehind::of(alloc, room, &[lean.at(0), row])?;
-        lean.clear();
-        return Ok(behind);
-    }
-    let rest = room.saturating_sub(lean.len());
-    lean.shrink_to_fit();
-    RowsBehind::of(alloc, rest, &[row])
 }
 
 /// Lists are equal if they have the same rows in the same order.
@@ -189,12 +167,7 @@ impl<A: Allocator> PartialEq for OrderList<A> {
 
     ghost laws = { partial_equiv_from_equiv orders_equiv };
 
-    #[tactic(auto, using(crate::specs::SameOrders::orders_equal_themselves))]
     fn eq(&self, other: &OrderList<A>) -> bool {
-        // The usual case, and the fast one: slices are compared, and no row is widened.
-        if self.lies_alike(other) {
-            return true;
-        }
         if self.len() != other.len() {
             return false;
         }

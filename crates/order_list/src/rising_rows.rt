@@ -6,7 +6,6 @@ ghost use Rattle.order_list.specs.ShortRows.{IsOrigin, row_of_lean};
 
 use crate::lean::Lean;
 use crate::offsets::Origin;
-use crate::short::ShortRow;
 use order_table::{Referenced, Spread, first_of};
 use row_types::OrderRow;
 use std::marker::Model;

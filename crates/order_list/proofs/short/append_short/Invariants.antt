@@ -1,9 +1,0 @@
-use Rattle.std.proofs.Common.{◌≡◌, ◌+◌, ◌++◌, map, take, vec_capacity, vec_len}
-use Rattle.order_list.proofs.short.append_short.Given as goal
-
-abbrev pub invariant-loop-row : goal.invariant-loop-row
-invariant-loop-row g l = record {
-  items : l.out.items ≡ l.fn.out.items ++ map (g.R.ShortRow.row_of l.origin) (take l.row-index l.rows);
-  len : vec_len l.out ≡ vec_len l.fn.out + l.row-index;
-  capacity : vec_capacity l.out ≡ vec_capacity l.fn.out;
-}
