@@ -1,4 +1,4 @@
-//! Lists of order rows: lean, narrow and wide ones, and the memory that they take.
+//! Lists of order rows: lean and wide ones, and the memory that they take.
 use crate::rows::{bounds_of, list_of, order, place_of, push_each, rises};
 use linked_list_allocator::LocalHeap;
 use morsel_rows::{OrderList, OutOfMemory};
@@ -9,7 +9,7 @@ use std::test::Fail;
 /// Farther than a place or a reference may be from that of the first row.
 const FAR: u64 = 1 << 33;
 
-/// References and places of lists: of no rows, of lean ones, and of some that the later rows make narrow, or wide.
+/// References and places of lists: of no rows, of lean ones, and of some that aren't near the first row.
 const LISTS: [&[(u64, u64)]; 9] = [
     &[],
     &[(3, 100), (4, 140), (2, 180)],
@@ -133,7 +133,7 @@ const NEAR: [(u64, u64); 6] = [
     (u64::MAX, u64::MAX - u32::MAX as u64),
 ];
 
-/// A row takes 12 bytes if it is near the first one, and otherwise 16, and those 64 once. The room is that of one list.
+/// A row takes 12 bytes if it is near the first one, and otherwise 20.
 #[test]
 fn rows_near_the_first_take_twelve_bytes(rt: HostRuntime) -> Result<(), Fail> {
     for (first, lowest) in NEAR {
@@ -143,10 +143,7 @@ fn rows_near_the_first_take_twelve_bytes(rt: HostRuntime) -> Result<(), Fail> {
         }
         for far in [lowest.wrapping_sub(1), lowest.wrapping_add(1 << 32)] {
             let used = bytes_of_nine(rt.alloc(), first, far)?;
-            assert!(rt;
-                used >= 9 * 16 && used <= 10 * 16 + 64,
-                "{first} {far}: {used}"
-            );
+            assert!(rt; used >= 9 * 20 && used < 10 * 20, "{first} {far}: {used}");
         }
     }
     Ok(())
@@ -207,19 +204,19 @@ fn a_row_that_is_refused_leaves_the_list(rt: HostRuntime) -> Result<(), Fail> {
     Ok(())
 }
 
-/// How many bytes of the heap a list of a hundred rows takes with no row, with so many lean ones, with a narrow one
-/// more, and with all rows.
+/// How many bytes of the heap a list of a hundred rows takes with no row, with so many lean ones, with a wide one more,
+/// and with all rows.
 fn used_by_rows(heap: &LocalHeap, lean: u64) -> Result<[usize; 4], OutOfMemory> {
     let mut list = OrderList::with_room(heap, 100)?;
     let room = heap.used();
     push_each(&mut list, lean, (0, 100), (1, 0))?;
     let with_lean = heap.used();
     push_each(&mut list, 1, (FAR, 100), (0, 0))?;
-    let narrow = heap.used();
+    let with_wide = heap.used();
     let (next, rest) = (lean.saturating_add(1), 99u64.saturating_sub(lean));
     push_each(&mut list, rest, (next.wrapping_mul(FAR), 100), (FAR, 0))?;
     let all = if list.len() == 100 { heap.used() } else { 0 };
-    Ok([room, with_lean, narrow, all])
+    Ok([room, with_lean, with_wide, all])
 }
 
 /// How many bytes such a list takes.
@@ -228,15 +225,15 @@ fn bytes_by_rows(alloc: Global, lean: u64) -> Result<[usize; 4], OutOfMemory> {
     used_by_rows(&heap, lean)
 }
 
-/// A list that turns out narrow has no room for lean rows beside that for narrow ones.
+/// A list that turns out wide has no room for lean rows beside that for wide ones.
 #[test]
-fn room_is_given_back_where_rows_turn_out_narrow(rt: HostRuntime) -> Result<(), Fail> {
+fn room_is_given_back_where_rows_turn_out_wide(rt: HostRuntime) -> Result<(), Fail> {
     for lean in [1, 2, 50] {
-        let [room, with_lean, narrow, all] = bytes_by_rows(rt.alloc(), lean)?;
+        let [room, with_lean, with_wide, all] = bytes_by_rows(rt.alloc(), lean)?;
         assert!(rt; room >= 100 * 12 && room < 102 * 12, "{room}");
         assert!(rt; with_lean == room, "{lean}");
-        assert!(rt; narrow <= 102 * 16 + 64, "{lean}: {narrow}");
-        assert!(rt; all == narrow, "{lean}");
+        assert!(rt; with_wide < 102 * 20, "{lean}: {with_wide}");
+        assert!(rt; all == with_wide, "{lean}");
     }
     Ok(())
 }
