@@ -44,14 +44,15 @@ impl<A: Allocator + Copy> Partition<A> {
         }
     }
 
-    /// No rows, and room for `orders` order rows, which is taken at once. It is refused if there is no memory for them.
+    /// No rows, and room for `orders` order rows, and for as many trades as a day has with them: an execution to ten, a
+    /// trade with a price of its own to forty. It is taken at once, and refused if there is no memory for it.
     pub(crate) fn with_room(alloc: A, orders: usize) -> Result<Self, OutOfMemory>
         ensures { IfOk result (λ partition. partition ≡ no_rows_in) }
     {
         Ok(Partition {
             orders: OrderList::with_room(alloc, orders)?,
-            executions: Vec::new(alloc),
-            own_priced: Vec::new(alloc),
+            executions: Vec::with_capacity(alloc, orders / 10)?,
+            own_priced: Vec::with_capacity(alloc, orders / 40)?,
         })
     }
 
