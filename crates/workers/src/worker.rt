@@ -1,5 +1,5 @@
 //! A worker's whole run.
-ghost use Rattle.std.specs.Prelude.{◌≡◌, ◌<◌, ℕ, [], ◌∷◌, length, Contains, MatchOption};
+ghost use Rattle.std.specs.Prelude.{◌≡◌, ◌<◌, ℕ, ◌++◌, [], ◌∷◌, length, Contains, IsFalse, MatchBool, MatchOption};
 ghost use Rattle.dispatcher.specs.Seats.{tasks_of, claims, marked_tasks, seen_tasks, IsSeatOf, IsSameSeat, WasGiven};
 ghost use Rattle.workers.specs.Workers.{IsDone, TookPieces};
 
@@ -9,6 +9,11 @@ use dispatcher::{Claim, Dispatcher, Seat};
 use gathering::{Inputs, Piece, Work};
 use std::alloc::Global;
 use std::sync::Arc;
+use std::thread::yield_now;
+
+/// How often a worker looks for the mark of a task that it is given again: for some milliseconds. Whoever runs the task
+/// has mostly ended by then, and if not, it is run a second time, so that nothing waits for ever.
+const LOOKS: u32 = 1 << 14;
 
 /// Claims until no task is left, and runs each task that is not marked yet: it calls the gate,
 /// makes the task's piece, sends it, and marks the task once the port took it.
@@ -38,8 +43,8 @@ pub fn work<W: Work, P: Port<Piece<W>>, G: Gate>(
     let tasks = u64::from(inputs.count());
     let mut refused = 0;
     while let Claim::Task { claim, task } = dispatcher.claim(seat) {
-        if !dispatcher.is_marked(seat, task) {
-            let round = if claim < tasks { 0 } else { 1 };
+        let round = if claim < tasks { 0 } else { 1 };
+        if !is_done(dispatcher, seat, task, round) {
             gate.before(pipeline, task, round);
             match serve(alloc, inputs, port, task) {
                 Some(()) => dispatcher.mark(seat, task),
@@ -48,6 +53,27 @@ pub fn work<W: Work, P: Port<Piece<W>>, G: Gate>(
         }
     }
     refused
+}
+
+/// Whether the task is marked. In the second round it is looked at for a while: mostly its first run is about to end.
+fn is_done(dispatcher: &Dispatcher, seat: &mut Seat, task: u32, round: u8) -> bool
+    requires own { IsSeatOf dispatcher.now seat.old }
+    requires task { task < tasks_of dispatcher.now }
+    ensures same { IsSameSeat seat.old seat.new }
+    ensures claims { claims seat.new ≡ claims seat.old }
+    ensures marked { marked_tasks seat.new ≡ marked_tasks seat.old }
+    ensures seen { MatchBool result
+        (seen_tasks seat.new ≡ seen_tasks seat.old ++ task ∷ [])
+        (seen_tasks seat.new ≡ seen_tasks seat.old) }
+{
+    let again = if round == 0 { 0 } else { LOOKS };
+    for _ in 0..again {
+        if dispatcher.is_marked(seat, task) {
+            return true;
+        }
+        yield_now();
+    }
+    dispatcher.is_marked(seat, task)
 }
 
 /// Makes the task's piece and sends it, if there is memory for it and the port takes it.

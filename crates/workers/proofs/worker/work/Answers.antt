@@ -39,7 +39,7 @@ loop-claim-preserved-in-None g c =
 pub loop-claim-preserved : goal.loop-claim-preserved
 loop-claim-preserved g c =
     let before = c.loop-claim.invariant in
-    let seen : seen_tasks c.is_marked.new.seat ≡ seen_tasks c.loop-claim.seat ++ c.in-Task.task ∷ [] = search rules in record {
+    let seen : seen_tasks c.is_done.new.seat ≡ seen_tasks c.loop-claim.seat ++ c.in-Task.task ∷ [] = search rules in record {
       working = turn_more before.working c.in-Task.claim (search rules) (search rules) c.in-Task.ensures.rises c.in-Task.ensures.answer.0 true _
           (rw (← c.in-Task.ensures.answer.1) seen) (omega arith) (omega arith);
       sent = λ t. let took = before.sent t in record {
@@ -61,7 +61,7 @@ returns-clause-done g c =
 
 pub mark-requires-clause-given : goal.mark-requires-clause-given
 mark-requires-clause-given g c =
-    let claimed : claims c.is_marked.new.seat ≡ claims c.loop-claim.seat ++ c.in-Task.claim ∷ [] = search rules in (
+    let claimed : claims c.is_done.new.seat ≡ claims c.loop-claim.seat ++ c.in-Task.claim ∷ [] = search rules in (
       c.in-Task.claim,
       subst (λ w. Contains w c.in-Task.claim) (sym claimed) (Contains-push (claims c.loop-claim.seat) c.in-Task.claim),
       (c.in-Task.ensures.answer.0, sym c.in-Task.ensures.answer.1),
@@ -73,7 +73,7 @@ falls_to tasks xs ys {c} more rises gives = rw more (falls tasks xs c rises give
 
 pub loop-claim-smaller : goal.loop-claim-smaller
 loop-claim-smaller g c =
-    falls_to _ _ (claims c.is_marked.new.seat) (search rules) c.in-Task.ensures.rises c.in-Task.ensures.answer.0
+    falls_to _ _ (claims c.is_done.new.seat) (search rules) c.in-Task.ensures.rises c.in-Task.ensures.answer.0
 
 pub loop-claim-smaller-in-Some : goal.loop-claim-smaller-in-Some
 loop-claim-smaller-in-Some g c =
@@ -81,4 +81,4 @@ loop-claim-smaller-in-Some g c =
 
 pub loop-claim-smaller-in-None : goal.loop-claim-smaller-in-None
 loop-claim-smaller-in-None g c =
-    falls_to _ _ (claims c.is_marked.new.seat) (search rules) c.in-Task.ensures.rises c.in-Task.ensures.answer.0
+    falls_to _ _ (claims c.is_done.new.seat) (search rules) c.in-Task.ensures.rises c.in-Task.ensures.answer.0
