@@ -12,6 +12,10 @@ use row_types::Sale;
 use std::alloc::Global;
 use std::marker::Model;
 
+/// As many sales as a bar has at least, on average, where bars are made. They are made while the sales are still there, so
+/// of two sales a bar both together would take more than twice what the sales take.
+const SALES_A_BAR: usize = 3;
+
 /// The bars of some sales, in the form that takes less: where the sales of one key are in many
 /// tables, each has nearly a bar a sale, and a sale has less than half the bytes of a bar.
 #[derive(Drop)]
@@ -33,7 +37,7 @@ impl Model for BucketBars {
 
 impl BucketBars {
     /// The bars of the sales, in whatever order they are, at a width in seconds. They are made where
-    /// there are two sales a bar or more, and memory for them; otherwise the sales are kept, which
+    /// there are three sales a bar or more, and memory for them; otherwise the sales are kept, which
     /// are put in order in place and have no more room than they need.
     #[tactic(auto, using(std::proofs::lemmas::List::Sorted::length_permutation))]
     pub fn of_vec(mut sales: Vec<Sale>, width: u32) -> BucketBars
@@ -46,7 +50,7 @@ impl BucketBars {
     {
         let count = put_in_order(&mut sales, width);
         sales.shrink_to_fit();
-        if count <= sales.len() / 2 {
+        if count <= sales.len() / SALES_A_BAR {
             let alloc = *sales.allocator();
             if let Ok(bars) = BarTable::of_sorted(alloc, sales.as_slice(), width, count) {
                 return BucketBars {

@@ -9,9 +9,13 @@ ghost use Rattle.buckets.specs.RisingLists.{AreRising, IsAbove, rows_of_lists};
 
 use crate::OutOfMemory;
 use morsel_rows::{OrderList, Partition, RisingRows};
-use order_table::{OrderRow, PricesExecutions};
+use order_table::{OrderRow, PricesExecutions, Referenced, Spread, point_of};
 use std::alloc::Global;
 use std::marker::Model;
+
+/// How many lists to either side of the one where a reference is expected are looked at first: lists have nearly as many
+/// rows each.
+const NEAR: usize = 1;
 
 /// The rows of one list, one or more, and the reference of the last, which is the greatest.
 #[derive(Drop)]
@@ -20,10 +24,20 @@ struct RisingList<'a> {
     rows: RisingRows<'a>,
 }
 
+impl<'a> Referenced for RisingList<'a> {
+    ghost reference_of = { λ list. list.last };
+
+    #[inline(always)]
+    fn reference(&self) -> u64 {
+        self.last
+    }
+}
+
 /// The order rows of partitions, in lists whose references rise, each list above those before it.
 #[derive(Drop)]
 pub(crate) struct RisingOrders<'a> {
     lists: Vec<RisingList<'a>>,
+    spread: Spread,
 }
 
 impl<'a> Model for RisingOrders<'a> {
@@ -51,7 +65,8 @@ impl<'a> RisingOrders<'a> {
                 return Ok(None);
             }
         }
-        Ok(Some(RisingOrders { lists }))
+        let spread = spread_of(lists.as_slice());
+        Ok(Some(RisingOrders { lists, spread }))
     }
 
     /// The row that gives the reference.
@@ -59,7 +74,7 @@ impl<'a> RisingOrders<'a> {
     fn first(&self, order_no: u64) -> Option<OrderRow>
         ensures { result ≡ first_row self.now order_no }
     {
-        let at = self.lists.partition_point(|list| list.last < order_no);
+        let at = point_of(self.lists.as_slice(), self.spread, NEAR, order_no);
         match self.lists.get(at) {
             Some(list) => list.rows.first(order_no),
             None => None,
@@ -106,4 +121,12 @@ fn are_below(lists: &[RisingList<'_>], order_no: u64) -> bool
     ensures { IsTrue result → All (λ list. list.last < order_no) lists.now }
 {
     lists.is_empty() || lists[lists.len() - 1].last < order_no
+}
+
+/// How many lists there are to a reference.
+fn spread_of(lists: &[RisingList<'_>]) -> Spread {
+    match (lists.first(), lists.last()) {
+        (Some(first), Some(last)) => Spread::of(lists.len(), first.last, last.last),
+        _ => Spread::of(0, 0, 0),
+    }
 }

@@ -1,13 +1,14 @@
 -- Lean rows whose references rise, and the rows that they stand for: what a search in them finds.
-use Rattle.std.proofs.Common.{◌≡◌, ℕ, zero, suc, ◌+◌, ◌-◌, ◌<◌, ◌≤◌, eqb, List, [], ◌∷◌, length, get_or, map, arith, refl, subst}
+use Rattle.std.proofs.Common.{◌≡◌, ℕ, zero, suc, ◌+◌, ◌-◌, ◌<◌, ◌≤◌, eqb, List, [], ◌∷◌, ◌++◌, ap, length, get_or, map, arith, refl, subst}
 use Rattle.std.proofs.Common.{None, Some, inl, inr, option_map}
 use Rattle.std.specs.List.{All, AllPairs, find}
 use Rattle.std.proofs.lemmas.Bool.{cases_Bool, cond_both, eqb-true}
 use Rattle.std.proofs.lemmas.Bool.Decides.{nat_tests}
-use Rattle.std.proofs.lemmas.List.{length-map}
+use Rattle.std.proofs.lemmas.List.{get_or_default, length-map}
+use Rattle.std.proofs.lemmas.List.Quantifiers.{all_pairs_push}
 use Rattle.row_types.specs.declared.order.OrderRow.{OrderRow}
 use Rattle.order_table.proofs.RowsInOrder.{rising_does_not_fall}
-use Rattle.order_list.specs.ShortRows.{row_of_lean}
+use Rattle.order_list.specs.ShortRows.{Rise, row_of_lean}
 use Rattle.order_list.specs.declared.lean.Lean.{Lean}
 use Rattle.order_list.specs.declared.offsets.Origin.{Origin}
 
@@ -72,3 +73,12 @@ module _ (origin : Origin) (rows : List Lean) (up : AllPairs (λ x y. x.referenc
         same_number origin rows i e d (within i l),
         not_falling i (length rows - 1) d (omega (arith, within i l)) (omega (arith, some)),
       )
+
+-- what is above the last row is above all
+pub rise_more : (rows : List Lean) (row d : Lean) → Rise rows → (0 < length rows → (get_or rows (length rows - 1) d).reference < row.reference)
+    → Rise (rows ++ row ∷ [])
+rise_more rows row d up above =
+    all_pairs_push (λ x y. x.reference < y.reference) rows row up (λ k e l.
+    let below = rising_does_not_fall (λ (x : Lean). x.reference) rows up k (length rows - 1) e (omega (arith, l)) (omega (arith, l)) in
+    let same = ap (λ (x : Lean). x.reference) (get_or_default rows (length rows - 1) e d (omega (arith, l))) in
+    omega (arith, below, same, above (omega (arith, l))))

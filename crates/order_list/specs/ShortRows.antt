@@ -1,6 +1,7 @@
 -- Order rows in fewer bytes.
 -- Derived: callers see a list of order rows.
-use Rattle.std.specs.Prelude.{ℕ, ◌+◌, ◌*◌, ◌^◌, ◌≤◌}
+use Rattle.std.specs.Prelude.{ℕ, ◌+◌, ◌*◌, ◌^◌, ◌<◌, ◌≤◌, List}
+use Rattle.std.specs.List.{AllPairs}
 use Rattle.row_types.specs.declared.order.OrderRow.{OrderRow}
 use Rattle.order_list.specs.declared.lean.Lean.{Lean}
 use Rattle.order_list.specs.declared.offsets.Origin.{Origin}
@@ -18,6 +19,10 @@ row_of_lean origin row = record {
   order_no = origin.order_no + row.reference;
   price = row.price;
 }
+
+-- each reference is above those before it
+abbrev pub Rise : List Lean → Type 0
+Rise = AllPairs (λ x y. x.reference < y.reference)
 
 -- the number of which these are the halves
 abbrev pub number_of : Halves → ℕ

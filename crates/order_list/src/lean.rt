@@ -1,9 +1,9 @@
 //! Order rows in 12 bytes each.
 ghost use Rattle.std.specs.Prelude.{◌≡◌, ◌^◌, ◌<◌, [], ◌∷◌, ◌++◌, if◌then◌else◌, length};
-ghost use Rattle.std.specs.Prelude.{IfOk, OnErr, slice_index_or};
+ghost use Rattle.std.specs.Prelude.{IfOk, IsTrue, OnErr, slice_index_or};
 ghost use Rattle.std.specs.List.{AllPairs};
 ghost use Rattle.std.specs.Option.{IfSome};
-ghost use Rattle.order_list.specs.ShortRows.{IsOrigin, row_of_lean};
+ghost use Rattle.order_list.specs.ShortRows.{IsOrigin, Rise, row_of_lean};
 
 use crate::OutOfMemory;
 use crate::offsets::{LAST_START, Origin, offset_from};
@@ -68,23 +68,33 @@ fn around(row: OrderRow) -> Origin
     }
 }
 
+/// Whether the reference of a row is above that of the last one.
+#[inline(always)]
+fn is_above(rows: &[Lean], lean: Lean) -> bool
+    ensures { IsTrue result → Rise rows.now → Rise (rows.now ++ lean ∷ []) }
+{
+    rows.is_empty() || rows[rows.len() - 1].reference < lean.reference
+}
+
 /// Order rows that are near the first one.
 #[derive(Drop)]
 pub(crate) struct LeanRows<A: Allocator> {
     pub(crate) origin: Origin,
     pub(crate) rows: Vec<Lean, A>,
+    /// Whether each row has a greater reference than the row before it.
+    rises: bool,
 }
 
 impl<A: Allocator> Model for LeanRows<A> {
-    ghost use Rattle.std.specs.Prelude.{List, map};
+    ghost use Rattle.std.specs.Prelude.{List, map, IsTrue};
     ghost use Rattle.row_types.specs.declared.order.OrderRow.{OrderRow as TheRow};
-    ghost use Rattle.order_list.specs.ShortRows.{IsOrigin, row_of_lean};
+    ghost use Rattle.order_list.specs.ShortRows.{IsOrigin, Rise, row_of_lean};
 
     ghost Value = { List TheRow };
 
     ghost view = { λ lean. map (row_of_lean lean.origin) lean.rows.items };
 
-    ghost invariant = { λ lean. IsOrigin lean.origin };
+    ghost invariant = { λ lean. IsOrigin lean.origin × (IsTrue lean.rises → Rise lean.rows.items) };
 }
 
 impl<A: Allocator> LeanRows<A> {
@@ -98,6 +108,7 @@ impl<A: Allocator> LeanRows<A> {
                 order_no: 0,
             },
             rows: Vec::new(alloc),
+            rises: true,
         }
     }
 
@@ -133,7 +144,9 @@ impl<A: Allocator> LeanRows<A> {
         }
         match Lean::of(self.origin, row) {
             Some(lean) => {
+                let rises = self.rises & is_above(self.rows.as_slice(), lean);
                 push(&mut self.rows, lean)?;
+                self.rises = rises;
                 Ok(true)
             }
             None => Ok(false),
@@ -170,6 +183,10 @@ impl<A: Allocator> LeanRows<A> {
         ensures rows { IfSome result (λ rising. rising ≡ self.now) }
         ensures rise { IfSome result (λ rising. AllPairs (λ x y. x.order_no < y.order_no) rising) }
     {
-        RisingRows::of(self.origin, self.rows.as_slice())
+        if self.rises && !self.rows.is_empty() {
+            Some(RisingRows::of(self.origin, self.rows.as_slice()))
+        } else {
+            None
+        }
     }
 }

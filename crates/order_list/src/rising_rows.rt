@@ -1,8 +1,7 @@
 //! Order rows whose references rise, searched where they lie.
-ghost use Rattle.std.specs.Prelude.{◌≡◌, ◌==◌, ◌<◌, ◌≤◌, All, IsTrue, length, map};
+ghost use Rattle.std.specs.Prelude.{◌≡◌, ◌==◌, ◌<◌, ◌≤◌, All, length, map};
 ghost use Rattle.std.specs.List.{AllPairs, find};
-ghost use Rattle.std.specs.Option.{IfSome};
-ghost use Rattle.order_list.specs.ShortRows.{IsOrigin, row_of_lean};
+ghost use Rattle.order_list.specs.ShortRows.{IsOrigin, Rise, row_of_lean};
 
 use crate::lean::Lean;
 use crate::offsets::Origin;
@@ -29,9 +28,8 @@ pub struct RisingRows<'a> {
 
 impl<'a> Model for RisingRows<'a> {
     ghost use Rattle.std.specs.Prelude.{List, ◌+◌, ◌^◌, ◌<◌, ◌≤◌, length, map};
-    ghost use Rattle.std.specs.List.{AllPairs};
     ghost use Rattle.row_types.specs.declared.order.OrderRow.{OrderRow};
-    ghost use Rattle.order_list.specs.ShortRows.{IsOrigin, row_of_lean};
+    ghost use Rattle.order_list.specs.ShortRows.{IsOrigin, Rise, row_of_lean};
 
     ghost Value = { List OrderRow };
 
@@ -39,29 +37,25 @@ impl<'a> Model for RisingRows<'a> {
 
     ghost invariant = { λ rising. IsOrigin rising.origin
         × (0 < length rising.rows.now)
-        × AllPairs (λ x y. x.reference < y.reference) rising.rows.now };
+        × Rise rising.rows.now };
 }
 
 impl<'a> RisingRows<'a> {
-    /// The rows, if there are some and their references rise.
-    pub(crate) fn of(origin: Origin, rows: &'a [Lean]) -> Option<Self>
-        requires { IsOrigin origin }
-        ensures rows { IfSome result (λ rising. rising ≡ map (row_of_lean origin) rows.now) }
-        ensures rise { IfSome result (λ rising. AllPairs (λ x y. x.order_no < y.order_no) rising) }
+    /// The rows, of which there are some, and whose references rise.
+    pub(crate) fn of(origin: Origin, rows: &'a [Lean]) -> Self
+        requires origin { IsOrigin origin }
+        requires some { 0 < length rows.now }
+        requires rise { Rise rows.now }
+        ensures rows { result ≡ map (row_of_lean origin) rows.now }
+        ensures rise { AllPairs (λ x y. x.order_no < y.order_no) result }
     {
-        if rows.is_empty() || !rises(rows) {
-            return None;
-        }
-        let spread = Spread::of(
-            rows.len(),
-            rows[0].reference(),
-            rows[rows.len() - 1].reference(),
-        );
-        Some(RisingRows {
+        let last = rows[rows.len() - 1].reference();
+        let spread = Spread::of(rows.len(), rows[0].reference(), last);
+        RisingRows {
             origin,
             spread,
             rows,
-        })
+        }
     }
 
     /// The reference of the first row.
@@ -93,11 +87,4 @@ impl<'a> RisingRows<'a> {
             None => None,
         }
     }
-}
-
-/// Whether each reference is above those before it.
-fn rises(rows: &[Lean]) -> bool
-    ensures { IsTrue result → AllPairs (λ x y. x.reference < y.reference) rows.now }
-{
-    rows.is_sorted_by(|row, next| row.reference < next.reference)
 }

@@ -16,5 +16,5 @@ pub use lists::OutOfMemory;
 pub use partitions::partition;
 pub use prices::PricesExecutions;
 pub use row_types::OrderRow;
-pub use searching::{Referenced, Spread, first_of};
+pub use searching::{Referenced, Spread, first_of, point_of};
 pub use table::{Built, OrderTable, Repeated};

@@ -4,7 +4,7 @@ ghost use Rattle.std.specs.List.{find};
 ghost use Rattle.std.specs.List.Sorted.{IsNonDecreasingBy, IsPartitionPoint};
 
 /// How many rows to either side of the one where a reference is expected are looked at first.
-const NEAR: usize = 16;
+const NEAR: usize = 8;
 
 /// A row that has a reference, or that stands for one that has.
 pub trait Referenced {
@@ -68,27 +68,38 @@ pub fn first_of<R: Referenced>(rows: &[R], spread: Spread, reference: u64) -> Op
         (find (λ row. R.reference_of row == reference) rows.now ≡ None)
         (λ row. find (λ row. R.reference_of row == reference) rows.now ≡ Some row.now) }
 {
-    if rows.is_empty() {
-        return None;
-    }
-    let at = point(rows, spread.guess(rows, reference), reference);
+    let at = point_of(rows, spread, NEAR, reference);
     match rows.get(at) {
         Some(row) if row.reference() == reference => Some(row),
         _ => None,
     }
 }
 
+/// How many rows have a smaller reference. The search begins at `near` rows to either side of where the reference is
+/// expected.
+#[inline(always)]
+pub fn point_of<R: Referenced>(rows: &[R], spread: Spread, near: usize, reference: u64) -> usize
+    requires { IsNonDecreasingBy R.reference_of rows.now }
+    ensures { IsPartitionPoint (λ row. nat_lt (R.reference_of row) reference ≡ true)
+        (λ row. nat_lt (R.reference_of row) reference ≡ false) rows.now result }
+{
+    if rows.is_empty() {
+        return 0;
+    }
+    point(rows, spread.guess(rows, reference), near, reference)
+}
+
 /// How many rows have a smaller reference, of which this many are a guess: those near it are searched, if the reference
 /// is among them, and else all.
 #[inline(always)]
-fn point<R: Referenced>(rows: &[R], guess: usize, reference: u64) -> usize
+fn point<R: Referenced>(rows: &[R], guess: usize, near: usize, reference: u64) -> usize
     requires guess { guess < length rows.now }
     requires up { IsNonDecreasingBy R.reference_of rows.now }
     ensures { IsPartitionPoint (λ row. nat_lt (R.reference_of row) reference ≡ true)
         (λ row. nat_lt (R.reference_of row) reference ≡ false) rows.now result }
 {
-    let from = guess.saturating_sub(NEAR);
-    let to = guess.saturating_add(NEAR).min(rows.len() - 1);
+    let from = guess.saturating_sub(near);
+    let to = guess.saturating_add(near).min(rows.len() - 1);
     if rows[from].reference() < reference && reference <= rows[to].reference() {
         from + rows[from..to].partition_point(|row| row.reference() < reference)
     } else {

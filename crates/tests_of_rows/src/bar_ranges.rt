@@ -61,7 +61,11 @@ fn tables(alloc: Global) -> Result<(BucketBars, BucketBars, BucketBars), OutOfMe
         sale(80, 9, 5, 31_000),
         sale(81, 12, 6, 10_000),
     ];
-    let third = [sale(6, 7, 10, 22_000), sale(5, 7, 0, 15_000)];
+    let third = [
+        sale(6, 7, 10, 22_000),
+        sale(5, 7, 0, 15_000),
+        sale(7, 7, 12, 20_000),
+    ];
     Ok((
         minutes(alloc, &one)?,
         minutes(alloc, &other)?,
@@ -84,7 +88,7 @@ pub(crate) fn names(alloc: Global) -> Result<Names, OutOfMemory> {
     Names::build(alloc, &rows)
 }
 
-const LINES: &str = "MSFT,09:30:00,1.5000,2.6000,1.5000,2.6000,20,4,2.0750+0/20
+const LINES: &str = "MSFT,09:30:00,1.5000,2.6000,1.5000,2.6000,25,5,2.0600+0/25
 MSFT,09:31:00,2.1000,2.1000,2.1000,2.1000,5,1,2.1000+0/5
 #8,09:30:00,4.0000,4.0000,4.0000,4.0000,5,1,4.0000+0/5
 #9,09:30:00,3.0000,3.1000,3.0000,3.1000,10,2,3.0500+0/10
@@ -112,8 +116,10 @@ pub(crate) fn joined(alloc: Global, pieces: &[Vec<u8>]) -> Result<Vec<u8>, OutOf
 }
 
 #[test]
-fn bars_are_made_where_they_are_half_as_many_as_the_sales(rt: HostRuntime) -> Result<(), Fail> {
+fn bars_are_made_of_three_sales_each(rt: HostRuntime) -> Result<(), Fail> {
     let (one, other, third) = tables(rt.alloc())?;
+    let pair = minutes(rt.alloc(), &[sale(6, 7, 10, 22_000), sale(5, 7, 0, 15_000)])?;
+    assert!(rt; matches!(pair.form(), Form::Sales { .. }));
     assert!(rt; matches!(one.form(), Form::Sales { .. }));
     assert!(rt; matches!(other.form(), Form::Sales { .. }));
     assert!(rt; matches!(third.form(), Form::Bars(_)));
