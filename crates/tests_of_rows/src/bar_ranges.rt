@@ -44,7 +44,7 @@ fn minutes(alloc: Global, sales: &[Sale]) -> Result<BucketBars, OutOfMemory>
 }
 
 /// Tables of four locates, of which 7 has bars in all three, and 9 in two of them. The bar of the
-/// third is made, since it has two sales a bar.
+/// third is made, since it has three sales.
 fn tables(alloc: Global) -> Result<(BucketBars, BucketBars, BucketBars), OutOfMemory>
     ensures sums { IfOk result (λ three. AllSumsFit (all_bars (three.0 ∷ three.1 ∷ three.2 ∷ []))) }
     ensures starts { IfOk result (λ three.
