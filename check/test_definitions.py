@@ -197,6 +197,7 @@ def rows_below(page, heading):
 
 class Pages(unittest.TestCase):
     def test_names_are_there(self):
+        self.assertEqual(sorted(crates()), sorted(page.parent.name for page in READMES), "each crate has a README")
         words = [(str(page), word) for page in OF_CODE for word in words_in(page.read_text())]
         names = [it for it in words if re.fullmatch(r"\w+(::\w+)*", it[1])]
         self.assertEqual([], [it for it in names if {*it[1].split("::")} - KNOWN], "the code has no such names")
