@@ -1,0 +1,262 @@
+"""Reads Rattle as text: the crates, functions with their contracts, definitions with their comments, and edits.
+
+Names are read by their imports, clauses by their braces. Nothing here knows what a contract means.
+"""
+import functools
+import importlib.machinery
+import importlib.util
+import pathlib
+import re
+import subprocess
+import sys
+
+TOP = pathlib.Path(__file__).resolve().parent.parent
+WORD = re.compile(r"[A-Za-z_][\w\-]*")
+# the first line of a definition, or of a law; a name without `abbrev` and its like is a law
+DEFINITION = re.compile(r"^( *)((?:(?:abbrev|unfoldable|opaque|pub|record|data) +)+)([A-Za-z_][\w\-]*)")
+
+
+def crates():
+    """Each crate of crates.txt with those that it stands on."""
+    lines = [line.partition("#")[0].partition(":") for line in (TOP / "crates.txt").read_text().splitlines()]
+    return {name.split()[0]: below.split() for name, colon, below in lines if colon}
+
+
+def is_product(crate):
+    """Whether others may use the crate, or it is the program: not one of tests, of cases or of the example."""
+    return not crate.startswith(("tests", "example")) and not crate.endswith("_cases")
+
+
+def edits_of(crate):
+    folder = TOP / "crates" / crate
+    return sorted([*folder.glob("must-fail/*.edit"), *folder.glob("wrong_bodies/*.edit")], key=lambda edit: edit.name)
+
+
+@functools.lru_cache(maxsize=None)
+def kit():
+    """The kit's own `rt`, which reads, applies and checks an edit as the gate does."""
+    sys.dont_write_bytecode = True
+    page = subprocess.run(["rt", "doc"], capture_output=True, text=True, check=True).stdout.strip()
+    loader = importlib.machinery.SourceFileLoader("rt", str(pathlib.Path(page).parent / "bin/rt"))
+    made = importlib.util.module_from_spec(importlib.util.spec_from_loader("rt", loader))
+    loader.exec_module(made)
+    return made
+
+
+# Functions and their contracts.
+
+
+class Function:
+    """A function: its file and lines, the type or trait that it is of, and its contract. `clauses` are kind, name, text."""
+
+    def __init__(self, lines, name, owner, is_public, signature, clauses):
+        self.lines, self.name, self.is_public, self.clauses = lines, name, is_public, clauses
+        self.owner, self.trait = owner
+        self.parameters, self.result = signature
+        self.path = self.crate = None
+        self.label = f"{self.owner}::{name}" if self.owner else name
+        self.ensures = [text for kind, _, text in clauses if kind == "ensures"]
+
+    def has(self, clause):
+        kind, _, name = clause.rpartition(" ")
+        return any((kind or "ensures", name) == it[:2] for it in self.clauses)
+
+
+def code_of(text):
+    """A text without comments and without what its strings and letters say; each line stays where it is."""
+    said = r"""(?m)//.*$|"(?:\\[\s\S]|[^"\\])*"|'(?:\\.[^']*|[^'\\])'"""
+    return re.sub(said, lambda found: re.sub(r"[^\n]", " ", found[0]), text)
+
+
+def balanced(code, at):
+    """Where what the bracket at this place opens has ended."""
+    depth = 0
+    for place in range(at, len(code)):
+        depth += (code[place] in "([{") - (code[place] in ")]}")
+        if depth == 0:
+            return place + 1
+    return len(code)
+
+
+def parameters_at(code, at):
+    """Where the parameters begin, behind a name and what it is generic over."""
+    depth = 0
+    while code[at] != "(" or depth:
+        depth += (code[at] == "<") - (code[at] == ">" and code[at - 1] != "-")
+        at += 1
+    return at
+
+
+def owner_of(code, at, indent):
+    """Of an indented function the type or trait that it is of, the trait that an `impl` is for, and whether that is public."""
+    owner, trait, is_public = "", "", False
+    for head in re.finditer(r"(?m)^( *)((?:pub )?trait|impl|mod)\b(?:<.*?>(?= [A-Z]))? ([^{]*)\{", code[:at]):
+        if len(head[1]) < indent:
+            words = head[3].replace("->", "").partition(" where ")[0]
+            trait, _, named = words.rpartition(" for ")
+            owner, is_public = re.match(r"\w*", named.strip())[0], head[2] == "pub trait"
+    return (owner, trait), is_public
+
+
+def functions_in(text):
+    """The functions of a source's text."""
+    code, found = code_of(text), []
+    for head in re.finditer(r"(?m)^( *)(pub )?(?:pub\([\w: ]+\) )?(?:const )?fn (\w+)", code):
+        begin = parameters_at(code, head.end())
+        at = end = balanced(code, begin)
+        result, clauses = None, []
+        while True:
+            # what follows the parameters: brackets of types, the clauses, and the body or a semicolon
+            part = re.compile(r"\[|\b(requires|ensures|decreases)\b\s*(\w*)[^{]*\{|\{|;").search(code, at)
+            if part[0] == "[":
+                at = balanced(code, part.start())
+                continue
+            result = code[end : part.start()].strip() if result is None else result
+            if not part[1]:
+                break
+            at = balanced(code, part.end() - 1)
+            clauses.append((part[1], part[2], code[part.start() : at]))
+        last = balanced(code, part.start()) if part[0] == "{" else part.end()
+        owner, in_trait = owner_of(code, head.start(), len(head[1])) if head[1] else (("", ""), False)
+        lines = range(code.count("\n", 0, head.start()) + 1, code.count("\n", 0, last) + 2)
+        # a program's `main` is its public function
+        is_public = bool(head[2]) or in_trait or head[3] == "main"
+        found.append(Function(lines, head[3], owner, is_public, (code[begin:end], result), clauses))
+    return found
+
+
+@functools.lru_cache(maxsize=None)
+def functions_of(crate):
+    """The functions of a crate, each with its file."""
+    found = [(path, function) for path in sources(crate) for function in functions_in(path.read_text())]
+    for path, function in found:
+        function.path, function.crate = path, crate
+    return [function for _, function in found]
+
+
+def without_success(clause):
+    """A clause without what it says of success alone."""
+    while found := re.search(r"\b(?:OnOk|IfOk|IsOk|OnSome|IfSome) *result *\(", clause):
+        clause = clause[: found.start()] + clause[balanced(clause, found.end() - 1) :]
+    return clause
+
+
+def says_what_is_left(clause, name):
+    """Whether a clause says what refusals leave of something borrowed, and not just that one part of it stays."""
+    clause = without_success(clause)
+    part = rf"(length {name}\.new|{name}\.new\.\w+) ≡ (length )?{name}\.old[.\w]*"
+    is_tied = re.search(rf"\bresult\b|\b{name}\.old\b", clause)
+    return bool(re.search(rf"\b{name}\.new\b", clause) and is_tied and not re.search(rf"\{{\s*{part}\s*\}}$", clause))
+
+
+def is_silent_on_refusals(function):
+    """Whether a function can refuse, changes what it borrows, and no clause says what a refusal leaves of that."""
+    borrowed = re.findall(r"(\w+) *: *&(?:'\w+ )?mut\b", function.parameters)
+    borrowed += ["self"] if re.search(r"&(?:'\w+ )?mut self\b", function.parameters) else []
+    can_refuse = re.match(r"-> *(Result|Option<OutOfMemory)\b", function.result)
+    return can_refuse and any(not any(says_what_is_left(it, name) for it in function.ensures) for name in borrowed)
+
+
+def ghost_members(path):
+    """The ghost members of traits and of impls for types: of which, whether it is a public trait, the name, the text, and
+    the comment, or that of the trait."""
+    written, owner, is_trait, about, found = path.read_text().split("\n"), "", False, "", []
+    lines = [re.sub(r"(^|\s)//.*", "", line) for line in written]
+    for at, line in enumerate(lines):
+        if head := re.match(r"(pub )?(trait|impl)\b(?:.* for)? (\S+(?:<.*>)?)", line):
+            owner, is_trait, about = head[3].strip(":"), bool(head[1]), comment_above(written, at, "//+")
+            owner = owner.partition("<")[0] if is_trait else re.match(r"\w+(<\w+>)?", owner)[0]
+        if head := re.match(r" *ghost (?!use)(\w+)", line):
+            end = next(end for end in range(at + 1, len(lines) + 1) if end == len(lines) or re.match(r" *(fn|pub|ghost|\})", lines[end]))
+            found.append((owner, is_trait, head[1], "\n".join(lines[at:end]), comment_above(written, at, "//+") or about))
+    return found
+
+
+def sources(crate):
+    return sorted((TOP / "crates" / crate / "src").rglob("*.rt"))
+
+
+def proved_as(file, function, names):
+    """Which of the names of functions that the prover tells is that of a file's function; None if none is, or more than one."""
+    # a method is named by the module of its type, which may be another than that of its `impl`, and by the words of its
+    # trait, of which those of one letter are parameters
+    of_trait = "".join(re.findall(r"\b[A-Z]\w+", function.trait))
+    above = [function.owner + of_trait] if function.owner else file.removeprefix("src/").removesuffix(".rt").split("/")
+    path = "::".join([*(word for word in above if word != "lib"), function.name])
+    # two `impl` of one type are told apart by a sign that sources don't have, as in `Gathering+W`
+    plain = {name: re.sub(r"\+\w+", "", name) for name in names}
+    found = [name for name in names if plain[name] == path or function.owner and plain[name].endswith("::" + path)]
+    return found[0] if len(found) == 1 else None
+
+
+# Definitions.
+
+
+def imports_of(text):
+    """By each name that a text imports from specs/, the crate, the module and the name of what it is."""
+    found = {}
+    for crate, module, names in re.findall(r"use +Rattle\.(\w+)\.specs\.([\w.]+)\.\{([^}]*)\}", text):
+        for words in (name.split(" as ") for name in names.split(",")):
+            if words[0].strip():
+                found[words[-1].strip()] = (crate, module, words[0].strip())
+    return found
+
+
+def comment_above(lines, at, sign="--"):
+    """The words of the comment right above a line, as one line."""
+    first = at
+    while first and re.match(rf" *{sign}(?! ----)", lines[first - 1]):
+        first -= 1
+    words = " ".join(re.sub(rf"^ *{sign} ?", "", line).strip() for line in lines[first:at])
+    return re.sub(r"\.$", "", words)
+
+
+@functools.lru_cache(maxsize=None)
+def definitions():
+    """Of each definition of specs/ its text and its comment, by crate, module and name; each module's imports and second line."""
+    bodies, comments, imports, seconds = {}, {}, {}, {}
+    paths = [path for crate in sorted(filter(is_product, crates())) for path in sorted((TOP / "crates" / crate).glob("specs/*.antt"))]
+    for path in (path for path in paths if path.stem != "Lib"):
+        crate, text = path.relative_to(TOP / "crates").parts[0], path.read_text()
+        written = text.split("\n")
+        lines, heads = [re.sub(r"(^|\s)--.*", "", line) for line in written], []
+        for number, line in enumerate(lines):
+            head = DEFINITION.match(line)
+            # the fields of a record belong to it
+            if head and not re.match(r"\s+pub \w+ :", line) and head[3] not in ("use", "mod"):
+                heads.append((number, head[3], head[2].split() != ["pub"]))
+        for (start, name, is_definition), (end, _, _) in zip(heads, heads[1:] + [(len(lines), "", False)]):
+            if is_definition:
+                bodies[crate, path.stem, name] = "\n".join(lines[start:end])
+                comments[crate, path.stem, name] = comment_above(written, start)
+        imports[crate, path.stem], seconds[crate, path.stem] = imports_of(text), written[1]
+    return bodies, comments, imports, seconds
+
+
+def cited_by(key):
+    """The definitions that the text of one names."""
+    bodies, _, imports, _ = definitions()
+    crate, module, name = key
+    near = [((crate, module, word), imports[crate, module].get(word)) for word in {*WORD.findall(bodies[key])} - {name}]
+    return [next(other for other in found if other in bodies) for found in near if any(other in bodies for other in found)]
+
+
+def named_in(path, code):
+    """The definitions that some code of a source names."""
+    found = imports_of(path.read_text())
+    return {found[word] for word in WORD.findall(code) if found.get(word) in definitions()[0]}
+
+
+def is_derived(key):
+    return definitions()[3][key[:2]].startswith("-- Derived: ")
+
+
+def rested_on(roots):
+    """The definitions that these rest on, themselves among them; what is derived is not gone into."""
+    below, todo = set(), list(roots)
+    while todo:
+        key = todo.pop()
+        if key not in below:
+            below.add(key)
+            todo += [] if is_derived(key) else cited_by(key)
+    return below
