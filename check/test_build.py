@@ -3,26 +3,30 @@ import os
 import pathlib
 import shutil
 import signal
-import subprocess
 import time
-import unittest
 
 from run import comes
 from stand_in import CRATES, LINES, NEEDED, OTHERS, Tree, is_there
 
 MARK = "not yet proved: "
-WAITS = "itch_bars: another call is proving and building the program; this one waits for it\n"
+WAITS = "itch_bars: another call is building the program; this one waits for it\n"
+# What changes of the files, and whether the program is outdated by it.
+CHANGES = [*((True, {name: text + " "}) for name, text in NEEDED.items()), *((False, {name: "another"}) for name in OTHERS)]
+CHANGES += [(True, {name: ""}) for name in ("crates/middle/specs/New.antt", "crates/low/src/more/new.rt")]
+CHANGES += [(True, {"crates/low/src/lib.rt": "lo", "crates/low/src/out/deep.rt": "wdeep"})]
+CHANGES += [(is_outdated, {"crates.txt": CRATES.replace(old, new)}) for is_outdated, old, new in (
+    (True, "middle clap", "middle"), (True, "Threads+Wait", "Threads"), (True, "low:\n", "low: itoa\n"), (False, "beside: low", "beside: middle"),
+    (False, "a comment", "another"), (False, "\n\n", "\n"), (False, "middle clap", "middle  clap "))]
 
 
 class Builds(Tree):
     def test_the_first_call_builds_and_later_ones_do_not(self):
         status, out, errors = self.ends(self.script(self.day, "sales"))
         self.assertEqual((status, out), (0, self.answer()), errors)
-        copy, room = self.stand_in / "copy", pathlib.Path(self.noted("room").strip())
+        self.tells(errors, "there is no program yet, so it is proved and built first, which takes", "3 of 3 crates proved, 0 min 0")
+        copy = self.stand_in / "copy"
         found = {str(it.relative_to(copy)): it.read_text() for it in copy.rglob("*") if it.is_file()}
-        self.assertEqual(found, {**NEEDED, "crates.txt": LINES})
-        self.assertTrue((copy / ".git").is_dir(), "a folder above the room may be taken for its repository")
-        self.assertIn(self.temporary, room.parents)
+        self.assertEqual((found, (copy / ".git").is_dir()), ({**NEEDED, "crates.txt": LINES}, True))
         self.assertTrue(all(int(it) & 1 for it in self.noted("modes").split()), "nobody can't reach the room")
         self.leaves_nothing()
         self.assertEqual(self.ends(self.script(self.day, "sales")), (0, self.answer(), ""))
@@ -34,44 +38,34 @@ class Builds(Tree):
         words = ["sales", "", "-x", "--run", "a  'b' \"c\"", "*", "$HOME", "two\nlines", b"\xff"]
         shown = [it if isinstance(it, str) else os.fsdecode(it) for it in words]
         long = b"a line\n" * 40_000
-        for number in range(2):
-            status, out, errors = self.ends(self.build("--run", "-", *words, input=long))
-            self.assertEqual((status, out), (0, self.answer(shown, long.decode())))
-        self.assertEqual((errors, self.noted("ci_input")), ("", ""))
-        self.files({"crates/low/src/lib.rt": "new"})
         for _ in range(2):
+            ran = self.ends(self.build("--run", "-", *words, input=long))
+            self.assertEqual(ran[:2], (0, self.answer(shown, long.decode())))
+        self.assertEqual((ran[2], self.noted("ci_input")), ("", ""))
+        self.files({"crates/low/src/lib.rt": "new"})
+        for told in ("the sources have changed, so it is proved", ""):
             running = self.script("-", "shows")
-            status, out, _ = self.ends(running)
+            status, out, errors = self.ends(running)
             self.assertEqual((status, out.split()[3]), (0, str(running.pid)), "the program isn't the process that was started")
             self.assertEqual(int(out.split()[-1], 16) & 0x1001000, 0, "it ignores signals that Python does")
+            self.tells(errors, told)
         self.assertEqual(self.ends(self.script("day", "fault"))[::2], (1, "fault: as asked\n"))
 
-    def test_a_link_and_another_folder(self):
+    def test_links_and_files_that_look_like_pythons_own(self):
         (self.here / "one").symlink_to("../top/bin/itch_bars")
         (self.tools / "itch").symlink_to(self.here / "one")
-        for word in ("itch", "./one", "../top/bin/itch_bars"):
-            self.assertEqual(self.ends(self.start(word, "day", "sales"))[:2], (0, self.answer()))
-
-    def test_no_file_of_the_user_is_taken_for_a_part_of_python(self):
         for name in ("hashlib", "subprocess", "sitecustomize"):
             for folder in ("here", "top/bin"):
                 self.file(f"{folder}/{name}.py", b"raise SystemExit(9)\n")
-        self.assertEqual(self.ends(self.script("day", "sales", PYTHONPATH=str(self.here)))[:2], (0, self.answer()))
-
-    def test_other_words(self):
-        for words in (["--sums"], ["--sum", "x"], ["--accept"], ["--check", "x"], ["day", "sales"]):
-            self.is_refused(self.build(*words), "doesn't know these words")
-        self.files({"crates.txt": "low:\n"})
-        self.is_refused(self.build(), "no line of itch_bars")
+        for word in ("itch", "./one", "../top/bin/itch_bars"):
+            self.assertEqual(self.ends(self.start(word, "day", "sales", PYTHONPATH=str(self.here)))[:2], (0, self.answer()))
 
 
 class UpToDate(Tree):
     def setUp(self):
         super().setUp()
         # (so that a test needn't wait 2 s until the quick look is trusted; no disk here counts seconds)
-        text = (self.top / "bin/build").read_text()
-        self.assertEqual(text.count("st_mtime - 2\n"), 1)
-        (self.top / "bin/build").write_text(text.replace("st_mtime - 2\n", "st_mtime - 0.05\n"))
+        self.edit("bin/build", "st_mtime - 2\n", "st_mtime - 0.05\n")
         self.assertEqual(self.ends(self.build())[0], 0)
         self.settle()
 
@@ -90,59 +84,41 @@ class UpToDate(Tree):
         self.assertEqual((why, self.is_up_to_date()), (why, not is_outdated))
 
     def test_each_file_that_the_program_is_built_from(self):
-        for name in NEEDED:
+        before = {**NEEDED, **OTHERS, "crates.txt": CRATES}
+        for is_outdated, texts in CHANGES:
+            self.files(texts)
+            self.is_seen(is_outdated, texts)
+            for name in texts:
+                (self.top / name).write_text(before[name]) if name in before else (self.top / name).unlink()
             self.settle()
-            self.files({name: NEEDED[name] + " "})
-            self.is_seen(True, name)
-            self.files({name: NEEDED[name]})
-        for name in ("crates/middle/specs/New.antt", "crates/low/src/more/new.rt"):
-            self.files({name: ""})
-            self.is_seen(True, name)
-            (self.top / name).unlink()
-        for name in OTHERS:
-            self.files({name: "another"})
-            self.is_seen(False, name)
-
-    def test_lines_of_crates(self):
-        for old, new in (("middle clap", "middle"), ("Threads+Wait", "Threads"), ("low:\n", "low: itoa\n")):
-            self.files({"crates.txt": CRATES.replace(old, new)})
-            self.is_seen(True, new)
-        for old, new in (("beside: low", "beside: middle"), ("a comment", "another"), ("\n\n", "\n"), ("middle clap", "middle  clap ")):
-            self.files({"crates.txt": CRATES.replace(old, new)})
-            self.is_seen(False, new)
-
-    def test_moved_files_and_bytes(self):
         low = self.top / "crates/low/specs/Low.antt"
-        low.rename(low.with_name("High.antt"))
-        self.is_seen(True, "a file that is moved")
-        low.with_name("High.antt").rename(low)
-        self.is_seen(False, "a file that is moved back")
-        self.files({"crates/low/src/lib.rt": "lo", "crates/low/src/more/deep.rt": "wdeep"})
-        self.is_seen(True, "bytes that are moved to the next file")
+        for old, new in (("Low", "High"), ("High", "Low")):
+            low.with_name(f"{old}.antt").rename(low.with_name(f"{new}.antt"))
+            self.is_seen(new == "High", "a file that is moved")
 
     def test_times(self):
-        """Sums decide, and no time that can be set hides a change."""
-        self.settle()
-        source = self.top / "crates/low/src/lib.rt"
+        """Sums decide, and no time that can be set hides a change. If nothing has changed, they aren't taken."""
+        source, later = self.top / "crates/low/src/lib.rt", time.time() + 10_000
         was = source.stat()
         source.write_text("LOW")
         os.utime(source, ns=(was.st_atime_ns, was.st_mtime_ns))
+        for it in self.program.parent.iterdir():
+            os.utime(it, (later, later))
         self.is_seen(True, "an edit of the same length and time")
-        source.write_text("low")
+        for text, copy in (("LOW", shutil.copy2), ("low", shutil.copy)):
+            source.write_text(text)
+            shutil.copytree(self.top, self.folder / "copy", copy_function=copy)
+            shutil.rmtree(self.top)
+            (self.folder / "copy").rename(self.top)
+            self.is_seen(text == "LOW", "a copied tree")
         for it in (source, self.program):
             os.utime(it, (1, 1))
             self.is_seen(False, "a touched file")
-        shutil.copytree(self.top, self.folder / "copy", copy_function=shutil.copy)
-        self.top.rename(self.folder / "before")
-        (self.folder / "copy").rename(self.top)
-        self.is_seen(False, "a copied tree")
-
-    def test_the_quick_look_takes_no_sums(self):
         self.settle()
         (self.tools / "python3").unlink()
         self.assertEqual(self.ends(self.script("day", "sales")), (0, self.answer(), ""))
 
-    def test_another_program_or_record(self):
+    def test_another_program_record_or_kit(self):
         program, recorded = self.program.read_bytes(), self.record.read_bytes()
         self.program.write_bytes(program + b"\n")
         self.is_seen(True, "another program")
@@ -155,35 +131,32 @@ class UpToDate(Tree):
             self.record.write_bytes(other)
             self.is_seen(True, f"the record {other}")
         self.record.write_bytes(recorded)
-        self.program.unlink()
-        self.is_seen(True, "no program")
-
-    def test_another_kit(self):
+        self.settle()
         self.file("kit/KIT-ID", b"kit-2 logic abc\n")
         self.is_seen(True, "another kit")
-        self.assertIn("another kit has built the program (kit-1 logic abc)", self.ends(self.script("day", "sales"))[2])
+        self.tells(self.ends(self.script("day", "sales"))[2], "another kit has built the program (kit-1 logic abc), so it is")
         self.is_seen(False, "the kit that has built it")
         self.path = self.tools
         self.is_seen(False, "no kit, which could build no other program")
+        self.path = f"{self.kit}/bin:{self.tools}"
+        self.program.unlink()
+        self.is_seen(True, "no program")
 
 
 class Refusals(Tree):
-    def test_what_starts_a_build_is_named(self):
-        self.assertTrue(self.ends(self.build())[2].startswith("itch_bars: there is no program yet, so it is proved"))
-        self.files({"crates/low/src/lib.rt": "new"})
-        self.assertTrue(self.ends(self.build())[2].startswith("itch_bars: the sources have changed, so it is proved"))
-
-    def test_what_stops_it_is_named_at_once(self):
+    def test_what_stops_a_build_is_named_at_once(self):
         self.path = self.tools
-        self.is_refused(self.script("day", "sales"), "no program yet", "`rt`", "README.md")
+        self.is_refused(self.script("day", "sales"), "there is no program yet, and there is no `rt`", "README.md")
         self.path = f"{self.kit}/bin:{self.tools}"
         self.file("kit/KIT-ID", b"kit-9 logic 000\n")
-        self.is_refused(self.script("day", "sales"), "kit-9 logic 000", "in logic abc")
+        self.is_refused(self.script("day", "sales"), "(kit-9 logic 000) can't build it", "in logic abc")
         self.file("kit/KIT-ID", b"kit-1 logic abc\n")
-        text = (self.top / "bin/build").read_text()
-        self.assertEqual(text.count("ROOM_BYTES, TRIED_BYTES, SHOWN_LINES = 3 << 30"), 1)
-        (self.top / "bin/build").write_text(text.replace("3 << 30", "3 << 60"))
-        self.is_refused(self.script("day", "sales"), str(self.temporary), "TMPDIR")
+        self.edit("bin/build", "= 3 << 20,", "= 3 << 60,")
+        self.is_refused(self.script("day", "sales"), f"3 GB below {self.temporary},", "TMPDIR")
+        for words in (["--sums"], ["--sum", "x"], ["--accept"], ["--check", "x"], ["day", "sales"]):
+            self.is_refused(self.build(*words), "doesn't know these words")
+        self.files({"crates.txt": "low:\n"})
+        self.is_refused(self.build(), "could not be built: 'itch_bars'")
         self.assertEqual(self.builds(), 0)
 
     def test_a_run_of_rt_that_is_not_whole_and_well(self):
@@ -192,139 +165,86 @@ class Refusals(Tree):
             self.is_refused(self.script("-", "sales"), "could not be built")
             self.assertFalse(self.program.exists() or self.record.exists())
             self.lets(it)
+        running, processes = self.held("start")
+        os.kill(processes[0], signal.SIGKILL)
+        self.is_refused(running, "could not be built")
 
     def test_a_refused_crate_ends_it_and_the_program_of_before_stays(self):
         self.assertEqual(self.ends(self.build())[0], 0)
         before = self.program.read_bytes(), self.record.read_bytes()
         self.files({"crates/low/src/lib.rt": "wrong"})
         self.asks("refuses_low", "hold_refusal", "hold_try")
-        errors = self.is_refused(self.script(self.day, "sales"), f"the whole log is {self.program.with_name('build.log')}")
-        self.assertIn("rt: low NOT PROVED\n", errors)
+        self.is_refused(self.script(self.day, "sales"), "rt: low NOT PROVED", f"the whole log is {self.program.with_name('build.log')}")
         self.assertFalse(any(is_there(it) for it in [*self.comes_to("refusal"), *self.comes_to("try")]))
         self.assertEqual((self.program.read_bytes(), self.record.read_bytes()), before)
-        self.files({"crates/low/src/lib.rt": "low"})
-        self.assertTrue(self.is_up_to_date())
 
     def test_sums_are_accepted(self):
         before = self.ends(self.build("--sum"))[1].strip()
-        self.is_refused(self.build("--accept", before), "no program")
-        program = self.file("top/crates/itch_bars/out/itch_bars", b"#!/bin/sh\necho built elsewhere\n")
-        self.is_refused(self.build("--accept", before), "no program")
-        program.chmod(0o755)
-        self.files({"crates/low/src/lib.rt": "new"})
-        for given in (before, "", "0" * 64):
+        self.is_refused(self.build("--accept", before), "No such file")
+        self.file("top/crates/itch_bars/out/itch_bars", b"#!/bin/sh\necho built elsewhere\n").chmod(0o755)
+        for given in (before[:-1], "", "0" * 64):
             self.is_refused(self.build("--accept", given), "another sum")
-        self.files({"crates/low/src/lib.rt": "low"})
+        kit, self.path = self.path, self.tools
+        self.is_refused(self.build("--accept", before), "there is no `rt`")
+        self.path = kit
         self.assertFalse(self.is_up_to_date())
         self.assertEqual(self.ends(self.build("--accept", before)), (0, "", ""))
         self.assertEqual(self.ends(self.script("day", "sales")), (0, "built elsewhere\n", ""))
-        self.assertEqual(self.builds(), 0)
 
 
 class Ends(Tree):
     def test_one_builds_at_a_time(self):
-        self.asks("hold_start")
-        first = self.script(self.day, "sales")
-        self.comes_to("start")
-        second, third = self.script("day", "bars 5 m"), self.script("day", "sales")
-        for it in (second, third):
-            comes(lambda: it.err.read_text() == WAITS, "a second call says that it waits")
-        third.terminate()
-        self.assertEqual(self.ends(third)[0], -signal.SIGTERM)
+        first, _ = self.held("start")
+        second = self.script("day", "bars 5 m")
+        comes(lambda: second.err.read_text() == WAITS, "a second call says that it waits")
+        first.terminate()
+        self.assertEqual(self.ends(first)[0], -signal.SIGTERM)
+        comes(lambda: self.builds() == 2, "the second one builds, since the first one hasn't")
+        third, fourth = self.script("day", "sales"), self.script("day", "sales")
+        for it in (third, fourth):
+            comes(lambda: it.err.read_text() == WAITS, "a third call says that it waits")
+        fourth.terminate()
+        self.assertEqual(self.ends(fourth)[0], -signal.SIGTERM)
         self.lets("hold_start")
-        self.assertEqual(self.ends(first)[:2], (0, self.answer()))
-        self.assertEqual(self.ends(second), (0, self.answer(["bars 5 m"]), WAITS))
-        self.assertEqual(self.builds(), 1)
-
-    def test_a_call_that_waited_for_one_that_fails_builds(self):
-        self.asks("hold_start", "refuses_low")
-        first = self.script(self.day, "sales")
-        self.comes_to("start")
-        second = self.script("day", "sales")
-        comes(lambda: second.err.read_text() == WAITS, "the second call says that it waits")
-        self.asks("hold_refusal")
-        self.lets("hold_start")
-        self.assertEqual(self.ends(first)[0], 70)
-        comes(lambda: self.builds() == 2, "the second call builds")
-        self.lets("refuses_low", "hold_refusal")
-        self.ends(second)
+        self.assertEqual(self.ends(second)[:2], (0, self.answer(["bars 5 m"])))
+        self.assertEqual((self.ends(third), self.builds()), ((0, self.answer(), WAITS), 2))
 
     def test_a_signal_ends_all_and_leaves_nothing(self):
         for number in (signal.SIGTERM, signal.SIGINT, signal.SIGHUP):
-            self.asks("hold_start", "hold_try")
-            running = self.script(self.day, "sales")
-            processes = self.comes_to("start") + self.comes_to("try")
+            running, processes = self.held("start", "try")
             running.send_signal(number)
-            self.assertEqual(self.ends(running)[:2], (-number, ""))
+            status, out, errors = self.ends(running)
+            self.assertEqual((status, out, errors.splitlines()[-1]), (-number, "", "itch_bars: stopping"))
             self.assertFalse(any(is_there(it) for it in processes))
             self.assertFalse(self.program.exists() or self.record.exists())
             self.leaves_nothing()
-            self.lets("at_start", "at_try")
 
     def test_a_killed_call_leaves_a_folder_that_the_next_one_takes_away(self):
-        self.asks("hold_start", "hold_try")
-        running = self.script(self.day, "sales")
-        processes = self.comes_to("start") + self.comes_to("try")
+        """The next one of the same repository: another one's may be in use."""
+        running, processes = self.held("start", "try")
         running.kill()
         self.ends(running)
         comes(lambda: not any(is_there(it) for it in processes[::2]), "rt ends with the call")
-        self.assertEqual(len(list(self.temporary.iterdir())), 1)
         for it in processes[1::2]:
             os.kill(it, signal.SIGKILL)  # (which the kit's `rt` does itself)
         self.lets("hold_start", "hold_try")
+        shutil.copytree(self.top, self.folder / "other", ignore=shutil.ignore_patterns("out"))
+        self.assertEqual(self.ends(self.start(self.folder / "other/bin/build"))[0], 0)
+        self.assertEqual(len(list(self.temporary.iterdir())), 1)
         self.assertEqual(self.ends(self.script(self.day, "sales"))[:2], (0, self.answer()))
         self.leaves_nothing()
 
-    def test_the_room_of_a_call_that_is_there_stays(self):
-        self.asks("hold_start")
-        running = self.script("-", "sales")
-        self.comes_to("start")
-        shutil.copytree(self.top, self.folder / "other", ignore=shutil.ignore_patterns("out"))
-        self.lets("hold_start")
-        self.asks("hold_middle")
-        self.assertIn("at_middle", [it.name for it in self.stand_in.iterdir()] if self.comes_to("middle") else [])
-        other = self.start(self.folder / "other/bin/build")
-        comes(lambda: len(list(self.temporary.iterdir())) == 2, "a second room is there")
-        self.lets("hold_middle")
-        self.assertEqual((self.ends(running)[0], self.ends(other)[0]), (0, 0))
-        self.leaves_nothing()
-
-    def test_a_hangup_that_is_ignored_is_ignored(self):
+    def test_a_hangup_that_is_ignored_and_an_edit_meanwhile(self):
+        """Under `nohup` a build goes on; a program of sources that were edited meanwhile answers, and is outdated."""
         self.asks("hold_start")
         running = self.start("bash", "-c", 'trap "" HUP; exec "$@"', "", self.top / "bin/itch_bars", self.day, "sales")
         self.comes_to("start")
         running.send_signal(signal.SIGHUP)
+        self.files({"crates/low/src/lib.rt": "new"})
         time.sleep(0.3)
         self.lets("hold_start")
         self.assertEqual(self.ends(running)[:2], (0, self.answer()))
-
-    def test_a_killed_rt(self):
-        self.asks("hold_start")
-        running = self.script("-", "sales")
-        os.kill(self.comes_to("start")[0], signal.SIGKILL)
-        self.is_refused(running, "could not be built")
-
-    def test_an_edit_meanwhile_makes_the_program_outdated(self):
-        self.asks("hold_start")
-        running = self.script(self.day, "sales")
-        self.comes_to("start")
-        self.files({"crates/low/src/lib.rt": "new"})
-        self.lets("hold_start")
-        self.assertEqual(self.ends(running)[:2], (0, self.answer()))
-        self.assertFalse(self.is_up_to_date())
         self.assertEqual(self.ends(self.script(self.day, "sales"))[:2], (0, self.answer(built="newmain")))
-
-    def test_progress_is_a_line_for_each_crate(self):
-        self.asks("hold_start")
-        running = self.script("-", "sales")
-        for number, name in enumerate(("start", "low", "middle", "itch_bars")):
-            self.asks(*(["hold_" + {"start": "low", "low": "middle", "middle": "itch_bars"}[name]] if number < 3 else []))
-            self.comes_to(name)
-            comes(lambda: running.err.read_text().count("\n") == 2 + number, f"{number} crates are told")
-            self.lets(f"hold_{name}")
-        lines = self.ends(running)[2].splitlines()
-        self.assertEqual([it.partition(",")[0] for it in lines[2:]], [f"itch_bars: {it} of 3 crates proved" for it in (1, 2, 3)])
-        self.assertRegex(lines[-1], r", \d+ min \d\d s$")
 
 
 class Tries(Tree):
@@ -338,23 +258,17 @@ class Tries(Tree):
         time.sleep(0.3)
         shown = running.err.read_text()
         self.lets("hold_start")
-        self.errors, self.status = self.ends(running)[2], running.returncode
-        if self.record.exists():
-            self.record.unlink()
+        self.status, _, self.errors = self.ends(running)
+        self.record.unlink(missing_ok=True)
         return [it for it in shown.splitlines() if it.startswith(MARK)]
 
     def test_the_answer_before_the_proof(self):
         words = ["bars 5 m", "--workers", "3"]
         self.assertEqual(self.shown("day", *words), [f"{MARK}{it}" for it in self.answer(words).splitlines()])
         given = self.noted("try_words").splitlines()
-        self.assertEqual((given[:2], given[3:]), (["try", "--data"], ["--", "day", *words]))
-        self.assertEqual(self.status, 0)
-
-    def test_the_fault_of_a_wrong_query(self):
+        self.assertEqual((given[:2], given[3:], self.status), (["try", "--data"], ["--", "day", *words], 0))
         self.assertEqual(self.shown("day", "fault")[-1], f"{MARK}fault: as asked")
         self.assertEqual((self.status, self.errors.count("fault: as asked")), (1, 2))
-
-    def test_of_a_long_answer_some_lines_are_shown(self):
         self.file("here/day", b"a line\n" * 100)
         lines = self.shown("day", "sales")
         self.assertEqual((len(lines), lines[-1]), (21, f"{MARK}(and 82 lines more)"))
@@ -364,35 +278,28 @@ class Tries(Tree):
         other = well.replace("checked: ended status=0", "checked: ended status=1")
         fault = "checked: fault: an index out of bounds\nrun=fault proved=no\n"
         for said in (well + "more\n", "checked: ended status=0\n", other, fault, "checked: no-answer: 1 MiB\nrun=no-answer proved=no\n"):
-            self.asks("says", text=said)
-            self.assertEqual((said, self.shown("day", "sales")), (said, []))
-            self.assertEqual(self.status, 0)
+            self.file("stand_in/says", said.encode())
+            self.assertEqual((said, self.shown("day", "sales"), self.status), (said, [], 0))
 
     def test_another_answer_than_was_shown_is_not_used(self):
         self.asks("lies_proved")
         self.shown("day", "sales")
-        self.assertEqual(self.status, 70)
-        self.assertIn("something else than was shown", self.errors.splitlines()[-1])
-        self.assertFalse(self.program.exists() or self.record.exists())
+        self.tells(self.errors, "something else than was shown")
+        self.assertEqual((self.status, self.program.exists(), self.record.exists()), (70, False, False))
         self.leaves_nothing()
 
     def test_only_small_regular_files_are_tried(self):
         os.mkfifo(self.here / "pipe")
         self.file("here/-x", b"a day\n")
         for name, length in (("long", (16 << 20) + 1), ("just", 16 << 20)):
-            with open(self.here / name, "wb") as it:
-                it.truncate(length)
+            os.truncate(self.file(f"here/{name}"), length)
         tried = [["just", "sales"], ["./-x", "sales"]]
         for words in (["-", "sales"], ["long", "sales"], ["pipe", "sales"], ["--workers", "1", "day", "sales"], *tried):
-            self.asks("calls", "hold_start")
+            self.asks("hold_start")
             running = self.build("--run", *words)
             self.comes_to("start")
             time.sleep(0.5)
-            self.assertEqual((words, "try" in self.noted("calls")), (words, words in tried))
+            self.assertEqual((words, self.noted("try_words") != ""), (words, words in tried))
             running.terminate()
             self.ends(running)
-            self.lets("at_start")
-
-
-if __name__ == "__main__":
-    unittest.main()
+            self.lets("at_start", "try_words")
