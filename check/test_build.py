@@ -1,6 +1,5 @@
 """Tests bin/build over a made-up repository, with a stand-in for `rt`."""
 import os
-import pathlib
 import shutil
 import signal
 import time
@@ -8,8 +7,7 @@ import time
 from run import comes
 from stand_in import CRATES, LINES, NEEDED, OTHERS, Tree, is_there
 
-MARK = "not yet proved: "
-WAITS = "itch_bars: another call is building the program; this one waits for it\n"
+MARK, WAITS = "not yet proved: ", "itch_bars: another call is building the program; this one waits for it\n"
 # What changes of the files, and whether the program is outdated by it.
 CHANGES = [*((True, {name: text + " "}) for name, text in NEEDED.items()), *((False, {name: "another"}) for name in OTHERS)]
 CHANGES += [(True, {name: ""}) for name in ("crates/middle/specs/New.antt", "crates/low/src/more/new.rt")]
@@ -31,8 +29,7 @@ class Builds(Tree):
         self.leaves_nothing()
         self.assertEqual(self.ends(self.script(self.day, "sales")), (0, self.answer(), ""))
         self.assertEqual(self.ends(self.script("-", "sales", input=b"another day\n")), (0, self.answer(day="another day\n"), ""))
-        self.assertEqual(self.ends(self.build()), (0, "", ""))
-        self.assertEqual(self.builds(), 1)
+        self.assertEqual((self.ends(self.build()), self.builds()), ((0, "", ""), 1))
 
     def test_words_streams_and_signals_reach_the_program(self):
         words = ["sales", "", "-x", "--run", "a  'b' \"c\"", "*", "$HOME", "two\nlines", b"\xff"]
@@ -54,9 +51,8 @@ class Builds(Tree):
     def test_links_and_files_that_look_like_pythons_own(self):
         (self.here / "one").symlink_to("../top/bin/itch_bars")
         (self.tools / "itch").symlink_to(self.here / "one")
-        for name in ("hashlib", "subprocess", "sitecustomize"):
-            for folder in ("here", "top/bin"):
-                self.file(f"{folder}/{name}.py", b"raise SystemExit(9)\n")
+        for name in ("here/hashlib", "here/sitecustomize", "top/bin/hashlib", "top/bin/subprocess"):
+            self.file(f"{name}.py", b"raise SystemExit(9)\n")
         for word in ("itch", "./one", "../top/bin/itch_bars"):
             self.assertEqual(self.ends(self.start(word, "day", "sales", PYTHONPATH=str(self.here)))[:2], (0, self.answer()))
 
@@ -64,8 +60,6 @@ class Builds(Tree):
 class UpToDate(Tree):
     def setUp(self):
         super().setUp()
-        # (so that a test needn't wait 2 s until the quick look is trusted; no disk here counts seconds)
-        self.edit("bin/build", "st_mtime - 2\n", "st_mtime - 0.05\n")
         self.assertEqual(self.ends(self.build())[0], 0)
         self.settle()
 
@@ -124,9 +118,9 @@ class UpToDate(Tree):
         self.is_seen(True, "another program")
         self.program.write_bytes(program)
         self.settle()
-        self.program.chmod(0o644)
-        self.is_seen(True, "a program that can't be run")
-        self.program.chmod(0o755)
+        for mode, is_outdated in ((0o644, True), (0o755, False)):
+            self.program.chmod(mode)
+            self.is_seen(is_outdated, "a program that can't be run")
         for other in (b"", b"what", b"\xff\xff\n", recorded.split(b"\n")[0] + b"\n"):
             self.record.write_bytes(other)
             self.is_seen(True, f"the record {other}")
@@ -136,18 +130,17 @@ class UpToDate(Tree):
         self.is_seen(True, "another kit")
         self.tells(self.ends(self.script("day", "sales"))[2], "another kit has built the program (kit-1 logic abc), so it is")
         self.is_seen(False, "the kit that has built it")
-        self.path = self.tools
-        self.is_seen(False, "no kit, which could build no other program")
-        self.path = f"{self.kit}/bin:{self.tools}"
         self.program.unlink()
         self.is_seen(True, "no program")
+        self.program.write_bytes(program)
+        self.program.chmod(0o755)
+        self.path = self.tools
+        self.is_seen(False, "no kit, which could build no other program")
 
 
 class Refusals(Tree):
     def test_what_stops_a_build_is_named_at_once(self):
-        self.path = self.tools
-        self.is_refused(self.script("day", "sales"), "there is no program yet, and there is no `rt`", "README.md")
-        self.path = f"{self.kit}/bin:{self.tools}"
+        self.is_refused(self.script("day", "sales", PATH=self.tools), "there is no program yet, and there is no `rt`", "README.md")
         self.file("kit/KIT-ID", b"kit-9 logic 000\n")
         self.is_refused(self.script("day", "sales"), "(kit-9 logic 000) can't build it", "in logic abc")
         self.file("kit/KIT-ID", b"kit-1 logic abc\n")
@@ -184,9 +177,7 @@ class Refusals(Tree):
         self.file("top/crates/itch_bars/out/itch_bars", b"#!/bin/sh\necho built elsewhere\n").chmod(0o755)
         for given in (before[:-1], "", "0" * 64):
             self.is_refused(self.build("--accept", given), "another sum")
-        kit, self.path = self.path, self.tools
-        self.is_refused(self.build("--accept", before), "there is no `rt`")
-        self.path = kit
+        self.is_refused(self.build("--accept", before, PATH=self.tools), "there is no `rt`")
         self.assertFalse(self.is_up_to_date())
         self.assertEqual(self.ends(self.build("--accept", before)), (0, "", ""))
         self.assertEqual(self.ends(self.script("day", "sales")), (0, "built elsewhere\n", ""))
@@ -195,19 +186,16 @@ class Refusals(Tree):
 class Ends(Tree):
     def test_one_builds_at_a_time(self):
         first, _ = self.held("start")
-        second = self.script("day", "bars 5 m")
-        comes(lambda: second.err.read_text() == WAITS, "a second call says that it waits")
-        first.terminate()
-        self.assertEqual(self.ends(first)[0], -signal.SIGTERM)
-        comes(lambda: self.builds() == 2, "the second one builds, since the first one hasn't")
-        third, fourth = self.script("day", "sales"), self.script("day", "sales")
-        for it in (third, fourth):
-            comes(lambda: it.err.read_text() == WAITS, "a third call says that it waits")
-        fourth.terminate()
-        self.assertEqual(self.ends(fourth)[0], -signal.SIGTERM)
+        second, third, fourth = (self.script("day", "bars 5 m") for _ in range(3))
+        for it in (second, third, fourth):
+            comes(lambda: it.err.read_text() == WAITS, "another call says that it waits")
+        for it in (fourth, first):
+            it.terminate()
+            self.assertEqual(self.ends(it)[0], -signal.SIGTERM)
+        comes(lambda: self.builds() == 2, "one that has waited builds, since the first one hasn't")
         self.lets("hold_start")
-        self.assertEqual(self.ends(second)[:2], (0, self.answer(["bars 5 m"])))
-        self.assertEqual((self.ends(third), self.builds()), ((0, self.answer(), WAITS), 2))
+        self.assertEqual([self.ends(it)[:2] for it in (second, third)], [(0, self.answer(["bars 5 m"]))] * 2)
+        self.assertEqual((WAITS in (second.err.read_text(), third.err.read_text()), self.builds()), (True, 2))
 
     def test_a_signal_ends_all_and_leaves_nothing(self):
         for number in (signal.SIGTERM, signal.SIGINT, signal.SIGHUP):
@@ -215,8 +203,7 @@ class Ends(Tree):
             running.send_signal(number)
             status, out, errors = self.ends(running)
             self.assertEqual((status, out, errors.splitlines()[-1]), (-number, "", "itch_bars: stopping"))
-            self.assertFalse(any(is_there(it) for it in processes))
-            self.assertFalse(self.program.exists() or self.record.exists())
+            self.assertFalse(self.program.exists() or self.record.exists() or any(is_there(it) for it in processes))
             self.leaves_nothing()
 
     def test_a_killed_call_leaves_a_folder_that_the_next_one_takes_away(self):
@@ -254,7 +241,7 @@ class Tries(Tree):
         self.lets("at_try")
         running = self.script(*words)
         process = self.comes_to("try")[0]
-        comes(lambda: not pathlib.Path(f"/proc/{process}").exists(), "the try has ended and was looked at")
+        comes(lambda: not os.path.exists(f"/proc/{process}"), "the try has ended and was looked at")
         time.sleep(0.3)
         shown = running.err.read_text()
         self.lets("hold_start")
@@ -275,8 +262,7 @@ class Tries(Tree):
 
     def test_what_does_not_end_well_is_not_shown(self):
         well = "checked: ended status=0\nrun=ended status=0 proved=no\n"
-        other = well.replace("checked: ended status=0", "checked: ended status=1")
-        fault = "checked: fault: an index out of bounds\nrun=fault proved=no\n"
+        other, fault = well.replace("0\nrun", "1\nrun"), "checked: fault: an index out of bounds\nrun=fault proved=no\n"
         for said in (well + "more\n", "checked: ended status=0\n", other, fault, "checked: no-answer: 1 MiB\nrun=no-answer proved=no\n"):
             self.file("stand_in/says", said.encode())
             self.assertEqual((said, self.shown("day", "sales"), self.status), (said, [], 0))
@@ -286,20 +272,18 @@ class Tries(Tree):
         self.shown("day", "sales")
         self.tells(self.errors, "something else than was shown")
         self.assertEqual((self.status, self.program.exists(), self.record.exists()), (70, False, False))
-        self.leaves_nothing()
 
     def test_only_small_regular_files_are_tried(self):
         os.mkfifo(self.here / "pipe")
         self.file("here/-x", b"a day\n")
         for name, length in (("long", (16 << 20) + 1), ("just", 16 << 20)):
             os.truncate(self.file(f"here/{name}"), length)
-        tried = [["just", "sales"], ["./-x", "sales"]]
-        for words in (["-", "sales"], ["long", "sales"], ["pipe", "sales"], ["--workers", "1", "day", "sales"], *tried):
+        for words in (["-", "sales"], ["long", "sales"], ["pipe", "sales"], ["--workers", "1", "day", "sales"], ["just", "sales"], ["./-x", "sales"]):
             self.asks("hold_start")
             running = self.build("--run", *words)
             self.comes_to("start")
             time.sleep(0.5)
-            self.assertEqual((words, self.noted("try_words") != ""), (words, words in tried))
+            self.assertEqual((words, self.noted("try_words") != ""), (words, words[0] in ("just", "./-x")))
             running.terminate()
             self.ends(running)
             self.lets("at_start", "try_words")

@@ -5,9 +5,8 @@ import unittest
 
 from run import TOP, run
 
-HELP, VERSION, PAGE = ((TOP / it).read_text() for it in ("bin/help", "bin/version", "man/itch_bars.1"))
-CODE = (TOP / "crates/arguments/src/arguments.rt").read_text()
-LIMITS = (TOP / "crates/lists/src/limits.rt").read_text()
+TEXTS = ("bin/help", "bin/version", "man/itch_bars.1", "crates/arguments/src/arguments.rt", "crates/lists/src/limits.rt")
+HELP, VERSION, PAGE, CODE, LIMITS = ((TOP / it).read_text() for it in TEXTS)
 # The options in the order of help, with what their numbers are called and the limits of these.
 OPTIONS = [("workers", "N", "MOST_WORKERS"), ("morsel", "BYTES", "LARGEST_MORSEL"),
            ("partitions", "N", "MOST_PARTITIONS"), ("gatherers", "N", "MOST_GATHERERS")]
@@ -28,8 +27,8 @@ def constant(name):
 
 class Texts(unittest.TestCase):
     def test_help_is_that_of_the_code(self):
-        wanted = [found(r'about\("(.*)"'), "Usage:", constant("USAGE"), "Arguments: <FILE>", found(r'"FILE", "(.*)"')]
-        wanted += ["<QUERY>", found(r'asked = "(.*)"'), "Options:"]
+        wanted = [found(r'about\("(.*)"'), "Usage:", constant("USAGE")]
+        wanted += ["Arguments: <FILE>", found(r'"FILE", "(.*)"'), "<QUERY>", found(r'asked = "(.*)"'), "Options:"]
         for name, number, _ in OPTIONS:
             default = found(rf'"(\d+)", {name.upper()}_HELP')
             wanted += [f"--{name} <{number}>", constant(f"{name.upper()}_HELP"), f"[default: {default}]"]
@@ -48,8 +47,7 @@ class Texts(unittest.TestCase):
         page = re.sub(r"\\f.|\\&", "", re.sub(r"^\..*\n", "", PAGE, flags=re.M)).replace("\\-", "-")
         self.assertTrue(words(page).startswith(words("itch_bars - a" + re.sub(r"^(Usage: |\w+:$)", "", HELP, flags=re.M)[1:])))
         self.assertEqual([it for it in re.findall(r"^\\fI(\S+)\\fR$", PAGE, re.M) if "/out/" not in it and not (TOP / it).exists()], [])
-        if not shutil.which("man"):
-            self.skipTest("man, which reads the page, isn't installed")
+        shutil.which("man") or self.skipTest("man, which reads the page, isn't installed")
         self.assertEqual(run("man", "--warnings", "-l", TOP / "man/itch_bars.1", env={"MANWIDTH": "80"}).errors, b"")
 
     def test_the_version(self):
@@ -57,6 +55,6 @@ class Texts(unittest.TestCase):
         version, date, logic = re.search(r"(\S+) \((\S+), proved in Rattle's logic (\S+)\)", VERSION).groups()
         for name, text in (("CHANGELOG.md", f"\n## {version}, {date}\n"), ("README.md", f"`logic {logic}`")):
             self.assertIn(text, (TOP / name).read_text())
-        self.assertTrue(PAGE.startswith(f'.TH ITCH_BARS 1 {date} "itch_bars {version}" "User Commands"\n'))
-        self.assertTrue(PAGE.endswith(f"\nitch_bars {version}, proved in Rattle's logic {logic}\n"))
+        ends = f'.TH ITCH_BARS 1 {date} "itch_bars {version}" "User Commands"\n', f"\nitch_bars {version}, proved in Rattle's logic {logic}\n"
+        self.assertEqual((PAGE.startswith(ends[0]), PAGE.endswith(ends[1])), (True, True))
         self.assertEqual(run("rt", "version").out.decode().split()[-1], logic)
