@@ -1,0 +1,289 @@
+"""Tests bin/build over a made-up repository, with a stand-in for `rt`."""
+import os
+import shutil
+import signal
+import time
+
+from run import comes
+from stand_in import CRATES, LINES, NEEDED, OTHERS, Tree, is_there
+
+MARK, WAITS = "not yet proved: ", "itch_bars: another call is building the program; this one waits for it\n"
+# What changes of the files, and whether the program is outdated by it.
+CHANGES = [*((True, {name: text + " "}) for name, text in NEEDED.items()), *((False, {name: "another"}) for name in OTHERS)]
+CHANGES += [(True, {name: ""}) for name in ("crates/middle/specs/New.antt", "crates/low/src/more/new.rt")]
+CHANGES += [(True, {"crates/low/src/lib.rt": "lo", "crates/low/src/out/deep.rt": "wdeep"})]
+CHANGES += [(is_outdated, {"crates.txt": CRATES.replace(old, new)}) for is_outdated, old, new in (
+    (True, "middle clap", "middle"), (True, "Threads+Wait", "Threads"), (True, "low:\n", "low: itoa\n"), (False, "beside: low", "beside: middle"),
+    (False, "a comment", "another"), (False, "\n\n", "\n"), (False, "middle clap", "middle  clap "))]
+
+
+class Builds(Tree):
+    def test_the_first_call_builds_and_later_ones_do_not(self):
+        status, out, errors = self.ends(self.script(self.day, "sales"))
+        self.assertEqual((status, out), (0, self.answer()), errors)
+        self.tells(errors, "there is no program yet, so it is proved and built first, which takes", "3 of 3 crates proved, 0 min 0")
+        copy = self.stand_in / "copy"
+        found = {str(it.relative_to(copy)): it.read_text() for it in copy.rglob("*") if it.is_file()}
+        self.assertEqual((found, (copy / ".git").is_dir()), ({**NEEDED, "crates.txt": LINES}, True))
+        self.assertTrue(all(int(it) & 1 for it in self.noted("modes").split()), "nobody can't reach the room")
+        self.leaves_nothing()
+        self.assertEqual(self.ends(self.script(self.day, "sales")), (0, self.answer(), ""))
+        self.assertEqual(self.ends(self.script("-", "sales", input=b"another day\n")), (0, self.answer(day="another day\n"), ""))
+        self.assertEqual((self.ends(self.build()), self.builds()), ((0, "", ""), 1))
+
+    def test_words_streams_and_signals_reach_the_program(self):
+        words = ["sales", "", "-x", "--run", "a  'b' \"c\"", "*", "$HOME", "two\nlines", b"\xff"]
+        shown = [it if isinstance(it, str) else os.fsdecode(it) for it in words]
+        long = b"a line\n" * 40_000
+        for _ in range(2):
+            ran = self.ends(self.build("--run", "-", *words, input=long))
+            self.assertEqual(ran[:2], (0, self.answer(shown, long.decode())))
+        self.assertEqual((ran[2], self.noted("ci_input")), ("", ""))
+        self.files({"crates/low/src/lib.rt": "new"})
+        for told in ("the sources have changed, so it is proved", ""):
+            running = self.script("-", "shows")
+            status, out, errors = self.ends(running)
+            self.assertEqual((status, out.split()[3]), (0, str(running.pid)), "the program isn't the process that was started")
+            self.assertEqual(int(out.split()[-1], 16) & 0x1001000, 0, "it ignores signals that Python does")
+            self.tells(errors, told)
+        self.assertEqual(self.ends(self.script("day", "fault"))[::2], (1, "fault: as asked\n"))
+
+    def test_links_and_files_that_look_like_pythons_own(self):
+        (self.here / "one").symlink_to("../top/bin/itch_bars")
+        (self.tools / "itch").symlink_to(self.here / "one")
+        for name in ("here/hashlib", "here/sitecustomize", "top/bin/hashlib", "top/bin/subprocess"):
+            self.file(f"{name}.py", b"raise SystemExit(9)\n")
+        for word in ("itch", "./one", "../top/bin/itch_bars"):
+            self.assertEqual(self.ends(self.start(word, "day", "sales", PYTHONPATH=str(self.here)))[:2], (0, self.answer()))
+
+
+class UpToDate(Tree):
+    def setUp(self):
+        super().setUp()
+        self.assertEqual(self.ends(self.build())[0], 0)
+        self.settle()
+
+    def settle(self):
+        """Has all sums taken, so that the quick look sees nothing changed."""
+        time.sleep(0.1)
+        self.assertTrue(self.is_up_to_date())
+
+    def is_seen(self, is_outdated, why):
+        """Whether both looks see it: that of bin/build, and first the quick one, which runs no program that isn't up to date."""
+        before = self.builds()
+        self.asks("refuses_low")
+        status = self.ends(self.script("day", "sales"))[0]
+        self.lets("refuses_low")
+        self.assertEqual((why, status, self.builds() - before), (why, 70, 1) if is_outdated else (why, 0, 0))
+        self.assertEqual((why, self.is_up_to_date()), (why, not is_outdated))
+
+    def test_each_file_that_the_program_is_built_from(self):
+        before = {**NEEDED, **OTHERS, "crates.txt": CRATES}
+        for is_outdated, texts in CHANGES:
+            self.files(texts)
+            self.is_seen(is_outdated, texts)
+            for name in texts:
+                (self.top / name).write_text(before[name]) if name in before else (self.top / name).unlink()
+            self.settle()
+        low = self.top / "crates/low/specs/Low.antt"
+        for old, new in (("Low", "High"), ("High", "Low")):
+            low.with_name(f"{old}.antt").rename(low.with_name(f"{new}.antt"))
+            self.is_seen(new == "High", "a file that is moved")
+
+    def test_times(self):
+        """Sums decide, and no time that can be set hides a change. If nothing has changed, they aren't taken."""
+        source, later = self.top / "crates/low/src/lib.rt", time.time() + 10_000
+        was = source.stat()
+        source.write_text("LOW")
+        os.utime(source, ns=(was.st_atime_ns, was.st_mtime_ns))
+        for it in self.program.parent.iterdir():
+            os.utime(it, (later, later))
+        self.is_seen(True, "an edit of the same length and time")
+        for text, copy in (("LOW", shutil.copy2), ("low", shutil.copy)):
+            source.write_text(text)
+            shutil.copytree(self.top, self.folder / "copy", copy_function=copy)
+            shutil.rmtree(self.top)
+            (self.folder / "copy").rename(self.top)
+            self.is_seen(text == "LOW", "a copied tree")
+        for it in (source, self.program):
+            os.utime(it, (1, 1))
+            self.is_seen(False, "a touched file")
+        self.settle()
+        (self.tools / "python3").unlink()
+        self.assertEqual(self.ends(self.script("day", "sales")), (0, self.answer(), ""))
+
+    def test_another_program_record_or_kit(self):
+        program, recorded = self.program.read_bytes(), self.record.read_bytes()
+        self.program.write_bytes(program + b"\n")
+        self.is_seen(True, "another program")
+        self.program.write_bytes(program)
+        self.settle()
+        for mode, is_outdated in ((0o644, True), (0o755, False)):
+            self.program.chmod(mode)
+            self.is_seen(is_outdated, "a program that can't be run")
+        for other in (b"", b"what", b"\xff\xff\n", recorded.split(b"\n")[0] + b"\n"):
+            self.record.write_bytes(other)
+            self.is_seen(True, f"the record {other}")
+        self.record.write_bytes(recorded)
+        self.settle()
+        self.file("kit/KIT-ID", b"kit-2 logic abc\n")
+        self.is_seen(True, "another kit")
+        self.tells(self.ends(self.script("day", "sales"))[2], "another kit has built the program (kit-1 logic abc), so it is")
+        self.is_seen(False, "the kit that has built it")
+        self.program.unlink()
+        self.is_seen(True, "no program")
+        self.program.write_bytes(program)
+        self.program.chmod(0o755)
+        self.path = self.tools
+        self.is_seen(False, "no kit, which could build no other program")
+
+
+class Refusals(Tree):
+    def test_what_stops_a_build_is_named_at_once(self):
+        self.is_refused(self.script("day", "sales", PATH=self.tools), "there is no program yet, and there is no `rt`", "README.md")
+        self.file("kit/KIT-ID", b"kit-9 logic 000\n")
+        self.is_refused(self.script("day", "sales"), "(kit-9 logic 000) can't build it", "in logic abc")
+        self.file("kit/KIT-ID", b"kit-1 logic abc\n")
+        self.edit("bin/build", "= 3 << 20,", "= 3 << 60,")
+        self.is_refused(self.script("day", "sales"), f"3 GB below {self.temporary},", "TMPDIR")
+        for words in (["--sums"], ["--sum", "x"], ["--accept"], ["--check", "x"], ["day", "sales"]):
+            self.is_refused(self.build(*words), "doesn't know these words")
+        self.files({"crates.txt": "low:\n"})
+        self.is_refused(self.build(), "could not be built: 'itch_bars'")
+        self.assertEqual(self.builds(), 0)
+
+    def test_a_run_of_rt_that_is_not_whole_and_well(self):
+        for it in ("fails_late", "lacks_middle", "builds_none", "refuses_low"):
+            self.asks(it)
+            self.is_refused(self.script("-", "sales"), "could not be built")
+            self.assertFalse(self.program.exists() or self.record.exists())
+            self.lets(it)
+        running, processes = self.held("start")
+        os.kill(processes[0], signal.SIGKILL)
+        self.is_refused(running, "could not be built")
+
+    def test_a_refused_crate_ends_it_and_the_program_of_before_stays(self):
+        self.assertEqual(self.ends(self.build())[0], 0)
+        before = self.program.read_bytes(), self.record.read_bytes()
+        self.files({"crates/low/src/lib.rt": "wrong"})
+        self.asks("refuses_low", "hold_refusal", "hold_try")
+        self.is_refused(self.script(self.day, "sales"), "rt: low NOT PROVED", f"the whole log is {self.program.with_name('build.log')}")
+        self.assertFalse(any(is_there(it) for it in [*self.comes_to("refusal"), *self.comes_to("try")]))
+        self.assertEqual((self.program.read_bytes(), self.record.read_bytes()), before)
+
+    def test_sums_are_accepted(self):
+        before = self.ends(self.build("--sum"))[1].strip()
+        self.is_refused(self.build("--accept", before), "No such file")
+        self.file("top/crates/itch_bars/out/itch_bars", b"#!/bin/sh\necho built elsewhere\n").chmod(0o755)
+        for given in (before[:-1], "", "0" * 64):
+            self.is_refused(self.build("--accept", given), "another sum")
+        self.is_refused(self.build("--accept", before, PATH=self.tools), "there is no `rt`")
+        self.assertFalse(self.is_up_to_date())
+        self.assertEqual(self.ends(self.build("--accept", before)), (0, "", ""))
+        self.assertEqual(self.ends(self.script("day", "sales")), (0, "built elsewhere\n", ""))
+
+
+class Ends(Tree):
+    def test_one_builds_at_a_time(self):
+        first, _ = self.held("start")
+        second, third, fourth = (self.script("day", "bars 5 m") for _ in range(3))
+        for it in (second, third, fourth):
+            comes(lambda: it.err.read_text() == WAITS, "another call says that it waits")
+        for it in (fourth, first):
+            it.terminate()
+            self.assertEqual(self.ends(it)[0], -signal.SIGTERM)
+        comes(lambda: self.builds() == 2, "one that has waited builds, since the first one hasn't")
+        self.lets("hold_start")
+        self.assertEqual([self.ends(it)[:2] for it in (second, third)], [(0, self.answer(["bars 5 m"]))] * 2)
+        self.assertEqual((WAITS in (second.err.read_text(), third.err.read_text()), self.builds()), (True, 2))
+
+    def test_a_signal_ends_all_and_leaves_nothing(self):
+        for number in (signal.SIGTERM, signal.SIGINT, signal.SIGHUP):
+            running, processes = self.held("start", "try")
+            running.send_signal(number)
+            status, out, errors = self.ends(running)
+            self.assertEqual((status, out, errors.splitlines()[-1]), (-number, "", "itch_bars: stopping"))
+            self.assertFalse(self.program.exists() or self.record.exists() or any(is_there(it) for it in processes))
+            self.leaves_nothing()
+
+    def test_a_killed_call_leaves_a_folder_that_the_next_one_takes_away(self):
+        """The next one of the same repository: another one's may be in use."""
+        running, processes = self.held("start", "try")
+        running.kill()
+        self.ends(running)
+        comes(lambda: not any(is_there(it) for it in processes[::2]), "rt ends with the call")
+        for it in processes[1::2]:
+            os.kill(it, signal.SIGKILL)  # (which the kit's `rt` does itself)
+        self.lets("hold_start", "hold_try")
+        shutil.copytree(self.top, self.folder / "other", ignore=shutil.ignore_patterns("out"))
+        self.assertEqual(self.ends(self.start(self.folder / "other/bin/build"))[0], 0)
+        self.assertEqual(len(list(self.temporary.iterdir())), 1)
+        self.assertEqual(self.ends(self.script(self.day, "sales"))[:2], (0, self.answer()))
+        self.leaves_nothing()
+
+    def test_a_hangup_that_is_ignored_and_an_edit_meanwhile(self):
+        """Under `nohup` a build goes on; a program of sources that were edited meanwhile answers, and is outdated."""
+        self.asks("hold_start")
+        running = self.start("bash", "-c", 'trap "" HUP; exec "$@"', "", self.top / "bin/itch_bars", self.day, "sales")
+        self.comes_to("start")
+        running.send_signal(signal.SIGHUP)
+        self.files({"crates/low/src/lib.rt": "new"})
+        time.sleep(0.3)
+        self.lets("hold_start")
+        self.assertEqual(self.ends(running)[:2], (0, self.answer()))
+        self.assertEqual(self.ends(self.script(self.day, "sales"))[:2], (0, self.answer(built="newmain")))
+
+
+class Tries(Tree):
+    def shown(self, *words):
+        """What is shown of a call, until all is tried."""
+        self.asks("hold_start")
+        self.lets("at_try")
+        running = self.script(*words)
+        process = self.comes_to("try")[0]
+        comes(lambda: not os.path.exists(f"/proc/{process}"), "the try has ended and was looked at")
+        time.sleep(0.3)
+        shown = running.err.read_text()
+        self.lets("hold_start")
+        self.status, _, self.errors = self.ends(running)
+        self.record.unlink(missing_ok=True)
+        return [it for it in shown.splitlines() if it.startswith(MARK)]
+
+    def test_the_answer_before_the_proof(self):
+        words = ["bars 5 m", "--workers", "3"]
+        self.assertEqual(self.shown("day", *words), [f"{MARK}{it}" for it in self.answer(words).splitlines()])
+        given = self.noted("try_words").splitlines()
+        self.assertEqual((given[:2], given[3:], self.status), (["try", "--data"], ["--", "day", *words], 0))
+        self.assertEqual(self.shown("day", "fault")[-1], f"{MARK}fault: as asked")
+        self.assertEqual((self.status, self.errors.count("fault: as asked")), (1, 2))
+        self.file("here/day", b"a line\n" * 100)
+        lines = self.shown("day", "sales")
+        self.assertEqual((len(lines), lines[-1]), (21, f"{MARK}(and 82 lines more)"))
+
+    def test_what_does_not_end_well_is_not_shown(self):
+        well = "checked: ended status=0\nrun=ended status=0 proved=no\n"
+        other, fault = well.replace("0\nrun", "1\nrun"), "checked: fault: an index out of bounds\nrun=fault proved=no\n"
+        for said in (well + "more\n", "checked: ended status=0\n", other, fault, "checked: no-answer: 1 MiB\nrun=no-answer proved=no\n"):
+            self.file("stand_in/says", said.encode())
+            self.assertEqual((said, self.shown("day", "sales"), self.status), (said, [], 0))
+
+    def test_another_answer_than_was_shown_is_not_used(self):
+        self.asks("lies_proved")
+        self.shown("day", "sales")
+        self.tells(self.errors, "something else than was shown")
+        self.assertEqual((self.status, self.program.exists(), self.record.exists()), (70, False, False))
+
+    def test_only_small_regular_files_are_tried(self):
+        os.mkfifo(self.here / "pipe")
+        self.file("here/-x", b"a day\n")
+        for name, length in (("long", (16 << 20) + 1), ("just", 16 << 20)):
+            os.truncate(self.file(f"here/{name}"), length)
+        for words in (["-", "sales"], ["long", "sales"], ["pipe", "sales"], ["--workers", "1", "day", "sales"], ["just", "sales"], ["./-x", "sales"]):
+            self.asks("hold_start")
+            running = self.build("--run", *words)
+            self.comes_to("start")
+            time.sleep(0.5)
+            self.assertEqual((words, self.noted("try_words") != ""), (words, words[0] in ("just", "./-x")))
+            running.terminate()
+            self.ends(running)
+            self.lets("at_start", "try_words")
