@@ -1,0 +1,287 @@
+"""Tests bin/trace_sales: its sales are the program's, over data/example.itch, over days that are made here, and over damaged ones;
+each byte that it shows stands in the file at the place that it says; what else it prints, its faults and its statuses are what they
+have to be; and its memory doesn't grow with the file.
+"""
+import os
+import pty
+import random
+import re
+import sys
+import unittest
+
+from itch import OPEN, SECOND, attributed, broken, cross, executed, executed_at, frame, message, named, order, padded, replaced, trade
+from run import EXAMPLE, TOP, Case, Ran, program, run
+
+TOOL, TEXTS = TOP / "bin/trace_sales", TOP / "check/test_trace.txt"
+WHOLE_DAY = "00:00:00", "24:00:00"
+
+
+def after(seconds, nanoseconds=0):
+    return OPEN + seconds * SECOND + nanoseconds
+
+
+# One of each case that could go wrong. AB has two locates; 3 is renamed; 4 has no R; 5 has bytes that no name may have, and is a
+# test security; of 6 nothing says whether it is one.
+EDGES = [
+    frame(b""), message("S", 0, after(-1), "O"), named(1, "AB", 0), named(3, "OLD", 0),
+    message("R", 5, 0, "A,B C", "Q", "N", 1, "N", "C", b"Z ", "T", "N", "N", "1", "N", 0, "N"),
+    message("R", 6, 0, "LONGNAME", " ", " ", 0x20202020, " ", " ", b"  ", " ", " ", " ", " ", " ", 0x20202020, " "),
+    broken(113, 1, after(-1)),
+    order(1, 1, after(-1), 1_000_000), attributed(3, 1, after(-1), 4_294_967_295),
+    order(7, 1, after(-1)), replaced(7, 8, 4_105_100, 1, after(-1)),
+    executed(1, 100, 1, after(0, -1)), executed(1, 101, 1, after(0)), executed(1, 102, 2, after(0, 1)),
+    replaced(1, 2, 1_000_100, 1, after(1)),
+    executed(2, 103, 1, after(1)), executed(1, 104, 1, after(1)),
+    message("X", 1, after(1), 2, 100), message("D", 1, after(1), 2),
+    executed(2, 105, 1, after(2)), executed(3, 106, 1, after(2), 4_294_967_295), executed(2, 107, 1, after(2), 0),
+    executed_at(1, 108, 999_900, 1, after(3)),
+    executed_at(1, 109, 999_800, 1, after(3), printable="N"),
+    executed_at(1, 110, 999_700, 1, after(3), printable="y"),
+    executed_at(99, 111, 999_600, 2, after(3), printable=" "),
+    trade(112, 1, after(4), 5), trade(113, 1, after(4), 0), trade(114, 1, after(4), 10_000, 0),
+    cross(115, 1, after(5), 1_000_200, 6_000_000_000),
+    cross(116, 1, after(5), 1_000_300, 0, sort="C"),
+    cross(117, 2, after(5), 1_000_400, 7, sort="H"),
+    broken(117, 0, after(6)), broken(109, 1, after(6)), broken(4_242, 1, after(6)),
+    trade(118, 3, after(7)), trade(119, 4, after(7)), trade(120, 5, after(7)), trade(121, 6, after(7)),
+    trade(122, 65_535, after(7)), trade(2**64 - 1, 0, after(7)),
+    executed(2, 123, 1, after(29)), executed(2, 124, 1, after(30)), executed(2, 125, 1, after(30, 1)),
+    executed(2, 126, 1, after(60, -1)), executed(2, 127, 1, after(60)),
+    # two trades of one number, broken twice
+    trade(128, 1, after(61), 30_000), trade(128, 3, after(61), 30_100), broken(128, 1, after(62)), broken(128, 1, after(90)),
+    broken(101, 1, after(62)), executed_at(1, 129, 30_200, 1, after(50)), broken(129, 1, after(3_600)),
+    named(2, "AB", after(31)), named(3, "NEW", after(31)),
+    frame(b"Z" * 36), frame(b"Y"), trade(130, 1, 2**48 - 1, 30_300), message("S", 0, after(7 * 3_600), "C"), frame(b""),
+]  # fmt: skip
+SYMBOLS = "AB OLD NEW A?B?C LONGNAME LONG ab #0 #1 #2 #4 #04 #65535 #65536".split()
+SPANS = [(f"09:{since}", f"09:{until}") for since, until in (("29:59", "30:00"), ("30:00", "30:01"), ("30:59", "31:01"))]
+MOMENTS = "00:00:00 09:30:00 09:30:02 09:30:30 09:30:31 09:31:02 10:29:59 10:30:00 24:00:00".split()
+
+# Days with a fault, each of which the trace of AB meets itself.
+AB, GIVEN, SALE = named(1, "AB"), order(1), executed(1, 1)
+FAULTY = {
+    "cut in a body": [AB, GIVEN, SALE[:-1]],
+    "cut in a length": [AB, GIVEN, b"\0"],
+    "cut at its head": [b"\0\5A"],
+    "wrong lengths": [AB, frame(b"E" * 30), frame(b"A" * 37)],
+    "wrong and cut": [frame(b"B"), AB, b"\0\1"],
+    "given twice": [AB, GIVEN, order(1, 2), SALE, order(1)],
+    "given by its replacement": [AB, GIVEN, SALE, replaced(1, 1, 6)],
+    "given before two": [AB, GIVEN, order(2), executed(2, 2), SALE, order(2), order(1)],
+    "not given": [AB, GIVEN, SALE, executed(2, 2), executed(3, 3)],
+    "given below": [AB, SALE, GIVEN],
+    "replaced and not given": [AB, replaced(1, 2, 5), SALE],
+    "unknown and twice": [AB, executed(2, 2), GIVEN, SALE, GIVEN],
+    "unknown and broken": [AB, executed(2, 2), broken(2)],
+    "unknown and of no shares": [AB, executed(2, 2, shares=0)],
+    **{f"wrong length of {kind}": [AB, frame(kind.encode() * 12)] for kind in "AFECUPQBR"},
+}
+# Faulty as of an earlier moment only, and as of a later one only: times need not rise.
+LATE = {
+    "late order": [order(1, time=after(9)), executed(1, 1, time=after(3)), AB],
+    "late repeat": [AB, GIVEN, SALE, order(1, time=after(9))],
+}
+# Frames that lie across the end of what is read at once, and an empty one before a length that begins with the letter A.
+FRAMES = {f"across {back}": [padded(AB, 2**20 - back), GIVEN, SALE] for back in range(4)}
+FRAMES["empty before long"] = [AB, frame(b""), frame(b"Z" * (ord("A") << 8)), GIVEN, SALE]
+
+# Runs a script of Python, and prints on standard error as it ends how much memory it had at most.
+WATCHED = """
+import atexit, runpy, sys
+atexit.register(lambda: sys.stderr.write(open("/proc/self/status").read()))
+sys.argv = sys.argv[1:]
+runpy.run_path(sys.argv[0], run_name="__main__")
+"""
+
+
+def frames_of(day):
+    found = []
+    while day:
+        size = 2 + int.from_bytes(day[:2], "big")
+        found.append(day[:size])
+        day = day[size:]
+    return found
+
+
+class Trace(Case):
+    def traced(self, *words, status=0, errors="", **more):
+        """What the tool prints: nothing, if its status isn't 0. The status and the errors are held against these."""
+        ran = run(TOOL, *words, **more)
+        self.gives(ran, status, b"" if status else ran.out, errors)
+        return ran.out.decode()
+
+    def compare(self, path, symbol, since="00:00:00", until="24:00:00", moment=None):
+        """The lines of the sales, or the fault, are the program's, and what is shown of messages stands in the file: how many
+        sales there are."""
+        as_of, given = (f" as of {moment}", ["--as-of", moment]) if moment else ("", [])
+        answer = run(program(), path, f"sales{as_of} where symbol in {symbol} and time from {since} until {until}")
+        self.assertIn(answer.status, (0, 1))
+        shown = self.traced(path, symbol, since, until, *given, status=answer.status, errors=answer.errors.decode())
+        sales = re.findall(r"^\d.*\n", shown, re.M)
+        self.assertEqual("".join(sales), "".join(answer.out.decode().splitlines(True)[1:]))
+        self.holds_bytes(path, shown)
+        return len(sales)
+
+    def holds_bytes(self, path, shown):
+        day = path.read_bytes()
+        messages = re.findall(r"^  .*\b([A-Z]) at place (\d+), .*\n    (.*)$", shown, re.M)
+        self.assertEqual(len(messages), len(re.findall("^    ", shown, re.M)), shown)
+        for kind, place, held in messages:
+            held, place = bytes.fromhex(held), int(place)
+            self.assertEqual((held[2:3], len(held)), (kind.encode(), 2 + int.from_bytes(held[:2], "big")))
+            self.assertEqual(held, day[place : place + len(held)])
+
+    def test_sales_and_faults_are_those_of_the_program(self):
+        edges, sales = self.file("edges", *EDGES), 0
+        for name, frames in {**FAULTY, **FRAMES}.items():
+            sales += self.compare(self.file(name, *frames), "AB")
+        for name, frames in LATE.items():
+            for moment in (None, "09:30:08", "09:30:09"):
+                self.compare(self.file(name, *frames), "AB", moment=moment)
+        for symbol in SYMBOLS:
+            sales += self.compare(edges, symbol)
+        for symbol in ("AB", "OLD", "NEW", "#2"):
+            for moment in MOMENTS:
+                sales += self.compare(edges, symbol, moment=moment)
+            for span in SPANS:
+                sales += self.compare(edges, symbol, *span)
+        for symbol in ("MSFT", "AAPL", "ZVZZT", "NONE"):
+            for span in (WHOLE_DAY, ("09:30:13", "09:33:07"), ("09:41:33", "09:41:34")):
+                for moment in (None, "09:31:05"):
+                    sales += self.compare(EXAMPLE, symbol, *span, moment)
+        self.assertGreater(sales, 300)
+
+    def test_damage(self):
+        """Frames that are cut, dropped, doubled or swapped, and bits of them. A fault of a reference is one of that order."""
+        chance, faults = random.Random(1), 0
+        for _ in range(50):
+            frames = frames_of(EXAMPLE.read_bytes())
+            for _ in range(chance.randint(1, 3)):
+                at, other = chance.sample(range(len(frames)), 2)
+                sort, bit = chance.randrange(9), chance.randrange(8 * len(frames[at]))
+                if sort == 0:
+                    frames[at:] = [frames[at][: bit // 8]]
+                elif sort < 3:
+                    frames[at], frames[other] = frames[other], frames[at]
+                elif sort < 6:
+                    frames[at : at + 1] = [frames[at]] * chance.choice((0, 2))
+                else:
+                    changed = int.from_bytes(frames[at], "big") ^ 1 << bit
+                    frames[at] = changed.to_bytes(len(frames[at]), "big")
+            path = self.file("damaged", *frames)
+            said = run(program(), path, "sales").errors.decode()
+            faults += bool(said)
+            reference = re.search(r"order reference (\d+)", said)
+            if reference:
+                self.traced(path, "--order", reference[1], status=1, errors=said)
+            else:
+                self.compare(path, chance.choice(["MSFT", "AAPL", "ZVZZT"]))
+        self.assertTrue(10 < faults < 40, faults)
+
+    def test_texts(self):
+        """Commands over the day of edges, and all that they print."""
+        edges = self.file("edges", *EDGES)
+        for part in f"\n{TEXTS.read_text()}".split("\n$ ")[1:]:
+            words, _, wanted = part.rstrip("\n").partition("\n")
+            shown = self.traced(edges, *words.split())
+            self.assertEqual(shown, wanted + "\n", words)
+            self.holds_bytes(edges, shown)
+        to_a_nanosecond = self.traced(edges, "AB", "09:30:30.0", "09:30:30.000000001")
+        self.assertEqual(re.findall(r"^\d.*,(\d+)$", to_a_nanosecond, re.M), ["124"])
+
+    def test_faults_elsewhere(self):
+        """A fault of frames is reported whatever is asked for; one of references if a trade that is asked for needs them."""
+        cut, wrong = (self.file(name, *FAULTY[name]) for name in ("cut in a body", "wrong lengths"))
+        for words in (["NONE", *WHOLE_DAY], ["--number", 1], ["--order", 1], ["--names"], ["--breaks"], ["--summary"]):
+            self.traced(cut, *words, status=1, errors="fault: place 79: message runs past the end\n")
+            self.traced(wrong, *words, status=1, errors="fault: place 41: message E has length 30, not 31\n")
+        unknown = self.file("unknown", *FAULTY["unknown and broken"])
+        for words in (["--breaks"], ["--number", 2], ["--order", 2]):
+            self.traced(unknown, *words, status=1, errors="fault: place 41: order reference 2 is not known\n")
+        elsewhere = self.file("elsewhere", *FAULTY["given twice"], named(9, "XY"), trade(7, 9, price=5), executed(77, 1))
+        self.assertEqual(run(program(), elsewhere, "sales").status, 1)
+        for words in (["XY", *WHOLE_DAY], ["--number", 7]):
+            self.assertIn("\n09:30:00.000000000,XY,P,0.0005,100,7\n", self.traced(elsewhere, *words))
+
+    def test_streams(self):
+        """A pipe is read if one reading is enough, and refused if it isn't; a file on standard input is read from where it was
+        left; what can't be read or written is reported."""
+        edges, behind, day = self.file("edges", *EDGES), self.file("behind", b"\0\0\7", *EDGES), b"".join(EDGES)
+        for words in ("--names", "--names --as-of 09:30:30", "--summary"):
+            wanted = self.traced(edges, *words.split())
+            self.assertEqual(self.traced("-", *words.split(), input=day), wanted)
+            # by a pipe that gives a few bytes at a time
+            drips = f"dd bs=7 status=none <{edges} | {TOOL} - {words}"
+            self.gives(run("sh", "-c", drips), 0, wanted)
+        nothing = "bytes: 0\nmessages: 0\nleast time: none\ngreatest time: none\nlast system event: none\n"
+        self.assertEqual(self.traced("-", "--summary"), nothing)
+        for words in (["AB", *WHOLE_DAY], ["--number", "117"], ["--breaks"]):
+            refused = run(TOOL, "-", *words, input=day)
+            self.assertEqual((refused.status, refused.out, b"can't be a pipe" in refused.errors), (2, b"", True))
+            left = run("sh", "-c", f'exec <{behind}; head -c 3 >{self.folder}/head; exec "$0" - "$@"', TOOL, *words)
+            self.gives(left, 0, self.traced(edges, *words))
+        for path, why in ((self.folder / "no\nfile", "No such file or directory"), (self.folder, "Is a directory")):
+            errors = "trace_sales: %s: %s\n" % (str(path).replace("\n", "?"), why)
+            self.traced(path, "--names", status=4, errors=errors)
+        with open("/dev/full", "wb") as full:
+            self.gives(run(TOOL, edges, "--names", stdout=full), 5, None, b"fault: writing failed\n")
+        self.gives(run("sh", "-c", f"{TOOL} {edges} --summary | true"))
+
+    def test_words(self):
+        """Words that are wrong have status 2 and nothing on standard output; an option may stand anywhere."""
+        edges = self.file("edges", *EDGES)
+        for words in """
+            |AB|AB 09:30:00|AB 09:30:00 09:31:00 x|AB 09:30:00 09:30:00|AB 09:31:00 09:30:00|AB 9:30:00 09:31:00|AB 09:30 09:31:00
+            |AB 09:30:00 24:00:01|AB 09:60:00 10:00:00|AB 09:30:00. 10:00:00|AB 09:30:00 10:00:00.0123456789|A,B 09:30:00 09:31:00
+            |ABCDEFGHI 09:30:00 09:31:00|\u00c4 09:30:00 09:31:00|--names AB 09:30:00 09:31:00|--names --breaks|--number|--order x
+            |--summary --as-of 09:30:00|--names --as-of 25:00:00|--name|AB 09:30:00 09:31:00 --as-of|--number 18446744073709551616
+            |--number -1|--order 1 --number 1|--order 1 AB""".split("|"):
+            refused = run(TOOL, edges, *words.split())
+            self.assertEqual((refused.status, refused.out, bool(refused.errors)), (2, b"", True), words)
+        for words in (["", *WHOLE_DAY], ["A B", *WHOLE_DAY], ["AB 09:30:00 09:31:00"]):
+            self.assertEqual(run(TOOL, edges, *words).status, 2, words)
+        trace, moment = ["AB", *WHOLE_DAY], ["--as-of", "09:31:00"]
+        wanted = self.traced(edges, *trace, *moment)
+        self.assertEqual(self.traced(*moment, edges, *trace), wanted)
+        self.assertEqual(self.traced(edges, *moment, *trace), wanted)
+        self.assertIn("Memory doesn't grow with the file", self.traced("--help"))
+
+    def memory_of(self, *words):
+        """The most memory that the tool had, in kilobytes, and what it printed."""
+        ran = run(sys.executable, "-c", WATCHED, TOOL, *words)
+        self.assertEqual(ran.status, 0, ran.errors)
+        return int(re.search(rb"VmHWM:\s+(\d+) kB", ran.errors)[1]), ran.out
+
+    def test_memory(self):
+        """With 30 megabytes of what isn't asked for below it, a day is traced in the same memory."""
+        few = [AB, GIVEN, SALE, broken(2), trade(2, price=5), named(2, "XY")]
+        small = self.file("small", *few)
+        others = [
+            order(it, 1, price=7) + attributed(2**60 + it, 2) + executed(it, it, 2) + trade(it, 1, after(60)) + cross(it, 2)
+            + named(2, f"X{it}") + message("S", 0, OPEN, "S")
+            for it in range(10, 120_000)
+        ]  # fmt: skip
+        large = self.file("large", *few, *others)
+        self.assertGreater(large.stat().st_size, 30_000_000)
+        for words in (["AB", "09:30:00", "09:31:00"], ["--number", 1], ["--order", 1], ["--breaks"], ["--names"], ["--summary"]):
+            (least, wanted), (most, out) = self.memory_of(small, *words), self.memory_of(large, *words)
+            self.assertLess(most, least + 8_000, words)
+            self.assertTrue(out == wanted or words[0] in ("--names", "--summary"), out)
+        self.assertEqual(self.compare(large, "AB", "09:30:00", "09:31:00"), 1)
+
+    def test_progress(self):
+        """A terminal shows after a second how much is read, in a line that is gone at the end; what is no terminal gets none."""
+        leader, terminal = pty.openpty()
+        tool = f"{{ sleep 1.3; head -c 100000 /dev/zero; }} | {TOOL} - --names"
+        # (a session of its own, whose terminal is the first that it opens)
+        words = ["setsid", "sh", "-c", f"exec 2<>{os.ttyname(terminal)}; {tool}"]
+        self.assertEqual(run(*words), Ran(0, b"locate,name,place,messages,round_lot,test\n", b""))
+        shown = os.read(leader, 1000).decode()
+        self.assertRegex(shown, r"^(\d+ MB read, reading 1 of 1\x1b\[K\r)+\x1b\[K\r$")
+        self.assertEqual(run("sh", "-c", tool).errors, b"")
+        for it in (leader, terminal):
+            os.close(it)
+
+
+if __name__ == "__main__":
+    unittest.main()
