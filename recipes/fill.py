@@ -5,13 +5,12 @@ import sys
 import pandas as pd
 
 bars = pd.read_csv(sys.argv[1], keep_default_na=False, quoting=3, dtype={"symbol": str, "last": str})
-bars.index = pd.to_timedelta(bars.start)
-filled = []
-for symbol, own in bars.groupby("symbol", sort=False):
-    every = pd.timedelta_range(own.index[0], own.index[-1], freq=f"{sys.argv[2]}s")
-    own = own[["last", "volume"]].reindex(every)
-    own["last"], own["volume"] = own["last"].ffill(), own["volume"].fillna(0).astype(int)
-    own.insert(0, "start", [str(at)[-8:] for at in every])
-    own.insert(0, "symbol", symbol)
-    filled.append(own)
-print(pd.concat(filled).to_csv(index=False), end="")
+width = pd.Timedelta(seconds=int(sys.argv[2]))
+at = pd.to_timedelta(bars.start)
+is_followed = bars.symbol == bars.symbol.shift(-1)
+lines = ((at.shift(-1) - at) / width).where(is_followed, 1).astype(int)
+filled = bars.loc[bars.index.repeat(lines), ["symbol", "start", "last", "volume"]]
+nth = filled.groupby(level=0).cumcount()
+filled["start"] = (at[filled.index] + nth * width).astype(str).str[-8:]
+filled["volume"] = filled.volume.where(nth == 0, 0)
+print(filled.to_csv(index=False), end="")
