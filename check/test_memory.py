@@ -1,23 +1,29 @@
 """Holds the memory and the system calls of the program below 1.3 times the figures at the end of this file, over days of the shapes
-that cost most, by each way to read a day; sees that what was read is let go, and that its time doesn't grow as the square of a day.
-No answer hangs on any of that, so nothing else would see memory that is never given back, or is taken again for each partition or
-each worker, or a search that begins anew at each step.
-
-Counts are those of preload.c, whatever the machine's speed and load, and processor time has bounds of many times what is taken. With
-one worker no figure moves by a hundredth. With several a block or a partition on which one still works is given to another as soon
-as nothing else is left, so up to twice as much is read, asked for and held: theirs are the most of many runs, on a busy machine.
-Numbers of partitions are primes here, which are taken as they are.
+that cost most; sees that what was read is let go, and that time doesn't grow as the square of a day. No answer hangs on that, so
+nothing else sees memory that is never given back, or is taken again for each partition or worker, or a search that begins anew at
+each step. Counts are those of preload.c, whatever the machine's speed and load; bounds of processor time are many times what is
+taken. With one worker no figure moves by a hundredth. With several a task on which one still works is given to another as soon as
+nothing else is left, so up to twice as much is read, asked for and held: theirs are the most of many runs on a busy machine.
 """
+import importlib.machinery
+import importlib.util
 import os
 import resource
-import unittest
+import shutil
+import warnings
 
 from itch import OPEN, breaks, broken, executed, named, names, of_one_partition, order, orders, rising, scattered, time_of, trade, trades
-from run import Case, program, run
+from run import TOP, Case, program, run
 
 MIB = 1 << 20
 # What is held of a stream: two batches, of which the last morsel of each, and what is cut, are some MiB more.
 BATCH = 32 * MIB
+# Of plain Rust's processor time; runs of each; bytes of a day. The order of its references, what is asked, the words, the plain Rust
+# beside it, and whether it is standard input.
+MOST_TIMES, RUNS, SIZE, FOUR = 3, 3, 50_000_000, ["--workers", "4"]
+BESIDE = [("rising", "bars 1 m", ["--workers", "1"], "one", False), ("rising", "sales", FOUR, "four", False),
+          ("rising", "bars 1 m", FOUR, "four", True), ("random", "bars 1 m", FOUR, "four", False),
+          ("executions", "bars 1 s", FOUR, "four", False)]
 COLUMNS = ("KiB held at most", "KiB asked for", "allocations", "readings", "writes")
 
 
@@ -130,6 +136,25 @@ class OfMemory(Case):
         self.assertEqual((ran.status, ran.errors), (0, b""), words)
 
 
+class OfSpeed(Case):
+    """Processor time beside plain Rust's (bench/plain.rs) over the same days, by turns, with the same answers to the byte. It sees what makes
+    a run several times slower and moves no count; no ratio is far above 1.5 today."""
+
+    def test_beside_plain_rust(self):
+        if not shutil.which("rustc"):
+            self.skipTest("there is no rustc to build plain Rust's programs")
+        loader = importlib.machinery.SourceFileLoader("bench", str(TOP / "bench/run"))
+        bench = importlib.util.module_from_spec(importlib.util.spec_from_loader("bench", loader))
+        loader.exec_module(bench)
+        bench.program = program()
+        warnings.simplefilter("ignore", ResourceWarning)  # (it waits for its runs by their numbers)
+        for order, query, words, beside, is_input in BESIDE:
+            day = bench.day_of(self.folder, SIZE, order) or self.skipTest(f"there is no room for a day of {SIZE} bytes")
+            best = bench.by_turns(RUNS, self.folder, {order: day}, query, words, is_input)
+            with self.subTest(order=order, query=query, words=words):
+                self.assertLess(best[order, "itch_bars"].busy, MOST_TIMES * best[order, beside].busy)
+
+
 FIGURES = """
 rising         file      1       4306      15439       3937         53          6
 rising         file      4       5170      21187       5996         83          9
@@ -149,6 +174,3 @@ breaks         file      1       5054      22280       3410         57          
 breaks         stream    1      10569      40385       3562         93          2
 breaks         stream    4      12840      49259       5114         93          5
 """
-
-if __name__ == "__main__":
-    unittest.main()

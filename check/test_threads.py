@@ -1,15 +1,14 @@
 """Sees how many threads the program starts, what each reads, and that they work at once, for each way to read a day and several
 crews. No answer hangs on that, so no clause and no test of an answer sees an option that is lost on its way to the threads.
 
-Nothing is timed. That several work at once is seen by holding each in its first reading, or in its first large allocation, until
-all of them are there, and so that the caller of a stream reads the next batch meanwhile: a thread that has no task never comes, and
+Nothing is timed. That several work at once, and that the caller of a stream reads the next batch meanwhile, is seen by holding each
+in its first reading, or in its first large allocation, until all of them are there: a thread that has no task never comes, and
 after half a minute the others go on and are reported. A block may be given to a second worker while the first still reads it, so
-what several read has a bound alone. Numbers of partitions are primes here, which are taken as they are.
+what several read has a bound alone.
 """
 import functools
 import itertools
 import os
-import unittest
 
 from itch import OPEN, message, order, trades
 from run import Case, program
@@ -30,20 +29,18 @@ class Threads:
 
     def __init__(self, workers, gatherers, batches=1):
         numbers = itertools.count(1)
+        take = lambda count: list(itertools.islice(numbers, count))
         self.first = []
         for batch in range(batches):
             # (of each batch but the last, one that waits for the others while the caller reads on)
-            self.take(numbers, gatherers - 1 + (batch < batches - 1))
-            self.first.append(self.take(numbers, workers))
-        self.take(numbers, gatherers - 1)
-        self.second = self.take(numbers, workers)
-        self.freeing_rows = self.take(numbers, 1)
-        # (the caller makes one share itself)
-        self.text = self.take(numbers, workers - 1)
+            take(gatherers - 1 + (batch < batches - 1))
+            self.first.append(take(workers))
+        take(gatherers - 1)
+        self.second = take(workers)
+        # One frees the rows, and the caller makes one share of the text itself.
+        take(1)
+        self.text = take(workers - 1)
         self.count = next(numbers) - 1
-
-    def take(self, numbers, count):
-        return list(itertools.islice(numbers, count))
 
 
 def meeting(kind, groups):
@@ -58,13 +55,12 @@ def day():
 
 class OfThreads(Case):
     def looked_at(self, words, threads, preload, **more):
-        """Runs the words on these threads, each of which has ended before anything is written, and returns what was done."""
-        ran, report = self.counted(program(), *words, preload={"LINGER": 20_000, **preload}, **more)
+        """Runs the words on these threads, and returns what was done."""
+        ran, report = self.counted(program(), *words, preload=preload, **more)
         self.assertEqual((ran.status, ran.errors), (0, b""), words)
         self.assertEqual((report.started(), report.alone), (threads.count, []), words)
-        self.assertEqual(report.ended, [threads.count] * 2, words)
         # Each thread takes its share of the room for lines, and little beside it: the keys of bars. So the caller has no more.
-        rooms = [report.threads[number].bytes for number in threads.text]
+        rooms = [report.threads[number] for number in threads.text]
         share = len(ran.out) / (len(rooms) + 1)
         if share > PIECE:
             self.assertTrue(all(0.8 * share <= it <= 4 * share and it <= 2 * min(rooms) for it in rooms), f"{words}: {rooms}")
@@ -78,10 +74,9 @@ class OfThreads(Case):
         meet = meeting("p", threads.first) + ("" if is_empty else meeting("a", [threads.second]))
         report = self.looked_at(words, threads, {"MEET": meet})
         self.assertFalse(report.of("read"), words)
-        own, others = [], []
-        for call in report.of("pread"):
-            (others if call.thread else own).append(call)
-        self.assertEqual((own[0].place, own[0].asked, own[0] == report.of("pread")[0]), (LIMIT, 1, True), words)
+        own = [call for call in report.of("pread") if call.thread == 0]
+        others = [call for call in report.of("pread") if call.thread]
+        self.assertEqual((own[0].place, own[0].asked, own[0]), (LIMIT, 1, report.of("pread")[0]), words)
         self.assertLessEqual(sum(call.count for call in own), again, words)
         self.assertEqual(len(own) == 1, not again, words)
         # Eight blocks for each worker, if they have a MiB then, and eight at most. Each but the first begins with a guess.
@@ -124,13 +119,19 @@ class OfThreads(Case):
             self.stream(file, False, workers, gatherers)
             self.stream(file, True, workers, gatherers)
 
+    def test_each_is_waited_for(self):
+        """Before the answer is written, whichever begins late."""
+        file, count = self.file("day", day()[: 46 * 60_000]), Threads(2, 2).count
+        for morsel, number in itertools.product(([], ["--morsel", 500_000]), range(1, count + 1)):
+            words = [program(), file, "sales", "--workers", 2, "--gatherers", 2, *morsel]
+            report = self.counted(*words, preload={"LATE": number})[1]
+            self.assertEqual((report.started(), report.begun), (count, [count]), f"{number} is late: {words}")
+
     def test_messages_of_all_lengths(self):
         """A guess knows the longest message and the shortest, which stand beside trades at the opening."""
-        imbalance = message("I", 1, OPEN, 100, 100, "O", "MSFT", 1, 1, 1, "C", "L")
-        between = [message("S", 0, OPEN, "Q"), imbalance]
+        between = [message("S", 0, OPEN, "Q"), message("I", 1, OPEN, 100, 100, "O", "MSFT", 1, 1, 1, "C", "L")]
         self.assertEqual([len(it) - 2 for it in between], [12, 50])
-        sold = trades(150_000)
-        file = self.file("day", *(it for few in zip(*[sold] * 12) for it in (*few, *between)))
+        file = self.file("day", *(it for few in zip(*[trades(150_000)] * 12) for it in (*few, *between)))
         for workers in (1, 4):
             self.blocks(file, workers)
 
@@ -177,7 +178,3 @@ class OfThreads(Case):
                 counts.append(self.counted(program(), *words, "sales", *crew, input=given)[1].heap.allocations)
             for before, count in zip(counts, counts[1:]):
                 self.assertTrue(2 * 64 <= count - before < 8 * 65, f"{words}: {counts}")
-
-
-if __name__ == "__main__":
-    unittest.main()
