@@ -5,15 +5,10 @@ each step. Counts are those of preload.c, whatever the machine's speed and load;
 taken. With one worker no figure moves by a hundredth. With several a task on which one still works is given to another as soon as
 nothing else is left, so up to twice as much is read, asked for and held: theirs are the most of many runs on a busy machine.
 """
-import importlib.machinery
-import importlib.util
-import os
-import resource
-import shutil
-import warnings
+import importlib.machinery, importlib.util, os, resource, shutil, warnings
 
 from itch import OPEN, breaks, broken, executed, named, names, of_one_partition, order, orders, rising, scattered, time_of, trade, trades
-from run import TOP, Case, program, run
+from run import TOP, Case, library, program, run
 
 MIB = 1 << 20
 # What is held of a stream: two batches, of which the last morsel of each, and what is cut, are some MiB more.
@@ -24,7 +19,6 @@ MOST_TIMES, RUNS, SIZE, FOUR = 3, 3, 50_000_000, ["--workers", "4"]
 BESIDE = [("rising", "bars 1 m", ["--workers", "1"], "one", False), ("rising", "sales", FOUR, "four", False),
           ("rising", "bars 1 m", FOUR, "four", True), ("random", "bars 1 m", FOUR, "four", False),
           ("executions", "bars 1 s", FOUR, "four", False)]
-COLUMNS = ("KiB held at most", "KiB asked for", "allocations", "readings", "writes")
 
 
 def executions_of_one(count):
@@ -60,7 +54,8 @@ SHAPES = {
 
 class OfMemory(Case):
     def took(self, file, query, workers, way="file", **more):
-        """What a run takes, by the columns of the table."""
+        """The KiB that a run holds at most and asks for, its allocations, readings and writes."""
+        # (a prime, which is taken as it is)
         words = ["-" if way == "stream" else file, query, "--workers", workers, "--partitions", 61]
         # All rows are freed by a thread of their own, the next one after those of the second pipeline: the caller waits for it.
         given, first = file if way == "stream" else b"", {"FIRST": 2 * workers + 1}
@@ -78,29 +73,27 @@ class OfMemory(Case):
                 made, day = shape, self.file("day", *frames())
             found = self.took(day, query, int(workers), way)
             with self.subTest(f"{shape:15}{way:9}{workers:2}" + "".join(f"{it:11}" for it in found)):
-                for column, figure, count in zip(COLUMNS, figures, found):
-                    self.assertLessEqual(count, 1.3 * int(figure), column)
+                self.assertTrue(all(it <= 1.3 * int(figure) for it, figure in zip(found, figures)), f"more than 1.3 of {figures}")
 
     def test_one_remainder(self):
         """References that are all the same modulo 256 take what others take, with as many partitions as no option says."""
         asked = []
         for reference in (scattered, of_one_partition):
-            ran, report = self.counted(program(), self.file("day", *orders(150_000, reference)), "bars 1 m", "--workers", 1)
-            self.assertEqual(ran.status, 0)
-            asked.append(report.heap.bytes)
+            day = self.file("day", *orders(150_000, reference))
+            asked.append(self.counted(program(), day, "bars 1 m", "--workers", 1)[1].heap.bytes)
         self.assertLessEqual(max(asked), 1.25 * min(asked))
 
     def test_large_morsel(self):
         """A morsel takes as much room as there are bytes, however many it could have."""
-        day = self.file("day", *trades(90_000))
-        asked = self.took(day, "sales where kind in Q", 1, "stream", words=["--morsel", 1 << 30])[1]
-        self.assertLess(asked, 64 << 10)
+        took = self.took(self.file("day", *trades(90_000)), "sales where kind in Q", 1, "stream", words=["--morsel", 1 << 30])
+        self.assertLess(took[1], 64 << 10)
 
     def test_batches(self):
         """Of a stream's bytes no more than two batches are held, however long it is, and the pages of morsels that are let go are
         used again for the next ones: so no more are touched for the first time than four batches have."""
         day = self.file("day")
         os.truncate(day, 6 * BATCH)
+        library()  # (whose making touches pages, too)
         for workers in (1, 4):
             faults = resource.getrusage(resource.RUSAGE_CHILDREN).ru_minflt
             held = self.took(day, "sales", workers, "stream")[0] << 10
@@ -137,8 +130,8 @@ class OfMemory(Case):
 
 
 class OfSpeed(Case):
-    """Processor time beside plain Rust's (bench/plain.rs) over the same days, by turns, with the same answers to the byte. It sees what makes
-    a run several times slower and moves no count; no ratio is far above 1.5 today."""
+    """Processor time beside plain Rust's (bench/plain.rs) over the same days, by turns, with the same answers to the byte. It sees
+    what makes a run several times slower and moves no count; no ratio is far above 1.5 today."""
 
     def test_beside_plain_rust(self):
         if not shutil.which("rustc"):

@@ -3,10 +3,7 @@ fail, are interrupted, give or take few bytes, are closed or full, or change mea
 line and its status with nothing of an answer; where the output fails, as many first bytes as the line says. What a clause says of
 each source and sink isn't tried again here: this is `main`, std and the system.
 """
-import itertools
-import os
-import re
-import subprocess
+import itertools, os, re, subprocess
 
 from itch import SECOND, executed, order, trade
 from run import EXAMPLE, TOP, Case, Ran, program, run

@@ -6,9 +6,7 @@ in its first reading, or in its first large allocation, until all of them are th
 after half a minute the others go on and are reported. A block may be given to a second worker while the first still reads it, so
 what several read has a bound alone.
 """
-import functools
-import itertools
-import os
+import functools, itertools, os
 
 from itch import OPEN, message, order, trades
 from run import Case, program
@@ -20,7 +18,6 @@ BUFFER, SEEN = 126_976, 4_096
 PIECE, BATCH = 65_536, 32 * MIB
 # No file of a run here is longer, so what is asked for there is the byte at the limit.
 LIMIT = 64 << 30
-CREWS = [(1, 1), (3, 1), (5, 3)]
 
 
 class Threads:
@@ -95,8 +92,8 @@ class OfThreads(Case):
         """Standard input, and a file whose morsels have a size, are read in order by the caller, while all workers scan the batch
         before: in a day of two batches the caller waits, before its last reading of a whole piece, until each of them does."""
         length = file.stat().st_size
-        words = [file if by_name else "-", query, "--workers", workers, "--gatherers", gatherers]
-        words += ["--morsel", 500_000] if by_name else []
+        words = [file, query, "--morsel", 500_000] if by_name else ["-", query]
+        words += ["--workers", workers, "--gatherers", gatherers]
         threads = Threads(workers, gatherers, batches=length // BATCH + 1)
         joins = {"JOINS": length // PIECE} if len(threads.first) > 1 else {}
         meet = {"MEET": meeting("a", [*threads.first, threads.second]), **joins}
@@ -107,17 +104,15 @@ class OfThreads(Case):
 
     def test_each_way(self):
         file = self.file("day", day())
-        for query in ("sales", "bars 1 m"):
-            for workers, gatherers in CREWS:
-                self.blocks(file, workers, gatherers, query)
-                self.stream(file, False, workers, gatherers, query)
-                self.stream(file, True, workers, gatherers, query)
+        for query, crew in itertools.product(("sales", "bars 1 m"), ((1, 1), (3, 1), (5, 3))):
+            self.blocks(file, *crew, query)
+            self.stream(file, False, *crew, query)
+            self.stream(file, True, *crew, query)
 
     def test_two_batches(self):
         file = self.file("day", b"".join(order(number + 1) for number in range(900_000)), day()[:1_000_000 // 46 * 46])
-        for workers, gatherers in [(1, 1), (3, 1), (4, 3)]:
-            self.stream(file, False, workers, gatherers)
-            self.stream(file, True, workers, gatherers)
+        for by_name, crew in itertools.product((False, True), ((1, 1), (3, 1), (4, 3))):
+            self.stream(file, by_name, *crew)
 
     def test_each_is_waited_for(self):
         """Before the answer is written, whichever begins late."""
@@ -153,8 +148,8 @@ class OfThreads(Case):
         for length, is_short in ((2 * MIB - 2, True), (2 * MIB, False)):
             file = self.file("day", bytes(length))
             for name, given, morsel in ((file, b"", []), ("-", file, []), (file, b"", ["--morsel", MIB])):
-                _, report = self.counted(program(), name, "bars 1 m", "--workers", 4, *morsel, input=given)
-                self.assertEqual(report.started() == 0, is_short, f"{length} bytes of {name}, {report.started()} threads")
+                started = self.counted(program(), name, "bars 1 m", "--workers", 4, *morsel, input=given)[1].started()
+                self.assertEqual(started == 0, is_short, f"{length} bytes of {name}, {started} threads")
 
     def test_fault(self):
         """What is read when the fault of a stream is found isn't scanned: for a day of one batch no thread is started."""
@@ -172,9 +167,7 @@ class OfThreads(Case):
         # (so long that room is taken for 16 rows or more of each partition, however many there are)
         empty = self.file("empty", bytes(262_144))
         for words, given in (([empty], b""), ([empty, "--morsel", 262_144], b""), (["-"], empty)):
-            counts = []
-            for partitions in (2, 67, 131):
-                crew = ["--workers", 1, "--partitions", partitions]
-                counts.append(self.counted(program(), *words, "sales", *crew, input=given)[1].heap.allocations)
-            for before, count in zip(counts, counts[1:]):
-                self.assertTrue(2 * 64 <= count - before < 8 * 65, f"{words}: {counts}")
+            words = [program(), *words, "sales", "--workers", 1, "--partitions"]
+            # (primes, which are taken as they are)
+            few, some, more = (self.counted(*words, count, input=given)[1].heap.allocations for count in (2, 67, 131))
+            self.assertTrue(2 * 65 <= some - few < 8 * 65 and 2 * 64 <= more - some < 8 * 64, f"{words}: {few} {some} {more}")
