@@ -1,0 +1,169 @@
+"""Holds the memory and the system calls of the program below 1.3 times the figures at the end of this file, over days of the shapes
+that cost most; sees that what was read is let go, and that time doesn't grow as the square of a day. No answer hangs on that, so
+nothing else sees memory that is never given back, or is taken again for each partition or worker, or a search that begins anew at
+each step. Counts are those of preload.c, whatever the machine's speed and load; bounds of processor time are many times what is
+taken. With one worker no figure moves by a hundredth. With several a task on which one still works is given to another as soon as
+nothing else is left, so up to twice as much is read, asked for and held: theirs are the most of many runs on a busy machine.
+"""
+import importlib.machinery, importlib.util, os, resource, shutil, warnings
+
+from itch import OPEN, breaks, broken, executed, named, names, of_one_partition, order, orders, rising, scattered, time_of, trade, trades
+from run import TOP, Case, library, program, run
+
+MIB = 1 << 20
+# What is held of a stream: two batches, of which the last morsel of each, and what is cut, are some MiB more.
+BATCH = 32 * MIB
+# Of plain Rust's processor time; runs of each; bytes of a day. The order of its references, what is asked, the words, the plain Rust
+# beside it, and whether it is standard input.
+MOST_TIMES, RUNS, SIZE, FOUR = 3, 3, 50_000_000, ["--workers", "4"]
+BESIDE = [("rising", "bars 1 m", ["--workers", "1"], "one", False), ("rising", "sales", FOUR, "four", False),
+          ("rising", "bars 1 m", FOUR, "four", True), ("random", "bars 1 m", FOUR, "four", False),
+          ("executions", "bars 1 s", FOUR, "four", False)]
+
+
+def executions_of_one(count):
+    """One order, and its executions, each a bar of its own."""
+    yield order(1, 0)
+    for number in range(count):
+        yield executed(1, number, number * 40_503 % 65_536, time_of(number, count))
+
+
+def mixed(count, reference):
+    """All locates under one name; orders; and then by turns an execution of each, a trade, and a break of another number, in no
+    order. So each list that is sorted or searched is long, and where the references don't rise nothing lies in it as it comes."""
+    for number in range(65_536):
+        yield named(number, "MSFT")
+    for number in range(count):
+        yield order(reference(number), number % 65_536, time_of(number, 2 * count))
+    for number in range(count):
+        time = time_of(count + number, 2 * count)
+        yield executed(reference(number * 7_919 % count), number, number * 40_503 % 65_536, time)
+        yield trade(count + number, number * 30_011 % 65_536, time)
+        yield broken(scattered(number), 0, time)
+
+
+SHAPES = {
+    "rising": ("bars 1 m", lambda: orders(150_000, rising)),
+    "scattered": ("bars 1 m", lambda: orders(150_000, scattered)),
+    "one_order": ("bars 1 s", lambda: executions_of_one(120_000)),
+    "trades": ("bars 1 s", lambda: trades(90_000)),
+    "names": ("sales", lambda: names(100_000)),
+    "breaks": ("sales", lambda: breaks(90_000)),
+}
+
+
+class OfMemory(Case):
+    def took(self, file, query, workers, way="file", **more):
+        """The KiB that a run holds at most and asks for, its allocations, readings and writes."""
+        # (a prime, which is taken as it is)
+        words = ["-" if way == "stream" else file, query, "--workers", workers, "--partitions", 61]
+        # All rows are freed by a thread of their own, the next one after those of the second pipeline: the caller waits for it.
+        given, first = file if way == "stream" else b"", {"FIRST": 2 * workers + 1}
+        ran, report = self.counted(program(), *words, *more.pop("words", []), input=given, preload=first, **more)
+        self.assertEqual((ran.status, ran.errors), (0, b""), words)
+        heap = report.heap
+        return heap.most >> 10, heap.bytes >> 10, heap.allocations, len(report.of("read", "pread")), len(report.of("write"))
+
+    def test_figures(self):
+        made, rows = None, [line.split() for line in FIGURES.strip().splitlines()]
+        self.assertEqual({row[0] for row in rows}, {*SHAPES})
+        for shape, way, workers, *figures in rows:
+            query, frames = SHAPES[shape]
+            if made != shape:
+                made, day = shape, self.file("day", *frames())
+            found = self.took(day, query, int(workers), way)
+            with self.subTest(f"{shape:15}{way:9}{workers:2}" + "".join(f"{it:11}" for it in found)):
+                self.assertTrue(all(it <= 1.3 * int(figure) for it, figure in zip(found, figures)), f"more than 1.3 of {figures}")
+
+    def test_one_remainder(self):
+        """References that are all the same modulo 256 take what others take, with as many partitions as no option says."""
+        asked = []
+        for reference in (scattered, of_one_partition):
+            day = self.file("day", *orders(150_000, reference))
+            asked.append(self.counted(program(), day, "bars 1 m", "--workers", 1)[1].heap.bytes)
+        self.assertLessEqual(max(asked), 1.25 * min(asked))
+
+    def test_large_morsel(self):
+        """A morsel takes as much room as there are bytes, however many it could have."""
+        took = self.took(self.file("day", *trades(90_000)), "sales where kind in Q", 1, "stream", words=["--morsel", 1 << 30])
+        self.assertLess(took[1], 64 << 10)
+
+    def test_batches(self):
+        """Of a stream's bytes no more than two batches are held, however long it is, and the pages of morsels that are let go are
+        used again for the next ones: so no more are touched for the first time than four batches have."""
+        day = self.file("day")
+        os.truncate(day, 6 * BATCH)
+        library()  # (whose making touches pages, too)
+        for workers in (1, 4):
+            faults = resource.getrusage(resource.RUSAGE_CHILDREN).ru_minflt
+            held = self.took(day, "sales", workers, "stream")[0] << 10
+            faults = resource.getrusage(resource.RUSAGE_CHILDREN).ru_minflt - faults
+            self.assertTrue(BATCH <= held <= 2 * BATCH + 6 * MIB, f"{held} bytes are held, workers {workers}")
+            self.assertLess(faults * resource.getpagesize(), 4 * BATCH, f"workers {workers}")
+
+    def test_time_of_cuts(self):
+        """A morsel of 192 MiB of empty messages is cut, which is read in 3,000 pieces."""
+        day = self.file("day")
+        os.truncate(day, 192 * MIB)
+        self.quickly(15, "-", "sales", "--morsel", 1 << 30, input=day)
+
+    def test_time_of_lists(self):
+        """Of a day each of whose lists is long, in one partition and in many, and with all locates asked for by their name, the
+        sales are listed where nothing lies as it comes, and the bars made where references rise, also of 20,000 morsels; no sale
+        of it is of the kind that is asked for."""
+        for reference, query in ((scattered, "sales where symbol in MSFT"), (rising, "bars 1 s where symbol in MSFT")):
+            day = self.file("day", *mixed(200_000, reference))
+            for partitions in (1, 61):
+                self.quickly(5, day, query, "--partitions", partitions)
+        for words in (["bars 1 s", "--morsel", 1_000], ["sales where kind in Q"]):
+            self.quickly(5, day, *words, "--partitions", 1)
+
+    def test_time_of_symbols(self):
+        """21,000 symbols are looked for among the names of all locates."""
+        symbols = ",".join(f"{number}" for number in range(75_000, 96_000))
+        self.quickly(1, self.file("day", *names(70_000)), f"sales where symbol in {symbols}")
+
+    def quickly(self, seconds, *words, **more):
+        """One worker answers in so many seconds of a processor, where each step that begins anew takes far more."""
+        ran = run(program(), *words, "--workers", 1, seconds=seconds, **more)
+        self.assertEqual((ran.status, ran.errors), (0, b""), words)
+
+
+class OfSpeed(Case):
+    """Processor time beside plain Rust's (bench/plain.rs) over the same days, by turns, with the same answers to the byte. It sees
+    what makes a run several times slower and moves no count; no ratio is far above 1.5 today."""
+
+    def test_beside_plain_rust(self):
+        if not shutil.which("rustc"):
+            self.skipTest("there is no rustc to build plain Rust's programs")
+        loader = importlib.machinery.SourceFileLoader("bench", str(TOP / "bench/run"))
+        bench = importlib.util.module_from_spec(importlib.util.spec_from_loader("bench", loader))
+        loader.exec_module(bench)
+        bench.program = program()
+        warnings.simplefilter("ignore", ResourceWarning)  # (it waits for its runs by their numbers)
+        for order, query, words, beside, is_input in BESIDE:
+            day = bench.day_of(self.folder, SIZE, order) or self.skipTest(f"there is no room for a day of {SIZE} bytes")
+            best = bench.by_turns(RUNS, self.folder, {order: day}, query, words, is_input)
+            with self.subTest(order=order, query=query, words=words):
+                self.assertLess(best[order, "itch_bars"].busy, MOST_TIMES * best[order, beside].busy)
+
+
+FIGURES = """
+rising         file      1       4306      15439       3937         53          6
+rising         file      4       5170      21187       5996         83          9
+rising         file     64       6159      25812       7993        105         59
+rising         stream    1       8358      32134       4467         86          6
+scattered      file      1       4784      20155       4762         53          6
+scattered      stream    1       8858      36916       5387         86          6
+scattered      stream    4      10742      43964       7813         86          9
+one_order      file      1      20631      46686        828         37         16
+one_order      stream    1      20631      60220        983         62         16
+trades         file      1      15817      40013       2609         39         12
+trades         file      4      15841      54514       4729         77         13
+trades         stream    1      15791      53758       3239         65         12
+names          file      1       7254      16480       1148         39          2
+names          stream    1       7233      30230       1300         65          2
+breaks         file      1       5054      22280       3410         57          2
+breaks         stream    1      10569      40385       3562         93          2
+breaks         stream    4      12840      49259       5114         93          5
+"""

@@ -1,0 +1,192 @@
+"""Runs the program as its users do: its words, statuses and streams, which file it opens and how it reads it; and over devices that
+fail, are interrupted, give or take few bytes, are closed or full, or change meanwhile. What comes must be the whole answer, or one
+line and its status with nothing of an answer; where the output fails, as many first bytes as the line says. What a clause says of
+each source and sink isn't tried again here: this is `main`, std and the system.
+"""
+import itertools, os, re, subprocess
+
+from itch import SECOND, executed, order, trade
+from run import EXAMPLE, TOP, Case, Ran, program, run
+
+AT = 34_201 * SECOND
+DAY = order(1, 7, AT + 3) + executed(1, 9, 7, AT + 5, 40)
+HEADER = "time,symbol,kind,price,shares,number\n"
+SALE = HEADER + "09:30:01.000000005,#7,E,410.5000,40,9\n"
+READING, END = "fault: reading failed\n", "fault: place 38: message runs past the end\n"
+WRITING = "fault: writing failed after 0 bytes\n"
+# By blocks of one thread and of several, in morsels, and from the standard input.
+WAYS = ONE, SEVERAL, MORSELS, INPUT = "--workers 1", "--workers 4 --gatherers 3", "--morsel 50", "-"
+# Words that are wrong, the status and the line that they give; then what is wrong with words of the command line.
+FAULTS = [("cut_off sales", 1, END), ("day bars", 2, "fault: query ends too early\n"),
+          ("day 'bars 0 s'", 2, "fault: query byte 5: bad number\n"), ("no_such_file 'bars 0 s'", 4, READING)]
+MISSING = "the following required arguments were not provided:"
+WRONG = [("", MISSING + "\n  <FILE>\n  <QUERY>"), ("day", MISSING + "\n  <QUERY>"),
+         ("day sales 'bars 1 m'", "unexpected argument 'bars 1 m' found"), ("day $'sales\\xff'", "a word is not valid UTF-8"),
+         ("day sales --workers 1 --workers 2", "the argument '--workers <N>' cannot be used multiple times"),
+         *((f"day sales --{name} {most + 1}", f"invalid value '{most + 1}' for '--{name} <N>': {most + 1} is not in 1..={most}")
+           for name, most in (("workers", 64), ("gatherers", 8), ("partitions", 256)))]
+USAGE, MORE = 'Usage: itch_bars [OPTIONS] <FILE> "<QUERY>"\n\n', "For more information, try '--help'.\n"
+
+
+class OfProgram(Case):
+    def setUp(self):
+        super().setUp()
+        self.day, self.cut_off = self.file("day", DAY), self.file("cut_off", DAY[:40])
+
+    def of(self, *words, **more):
+        return run(program(), *words, cwd=self.folder, **more)
+
+    def over(self, way, file, query="sales", **preload):
+        """Asks for something of a file, by one of the ways: what came, and what was done."""
+        words, given = (["-", query], file) if way == INPUT else ([file, query, *way.split()], b"")
+        return self.counted(program(), *words, input=given, preload=preload, cwd=self.folder)
+
+    def shell(self, line, **more):
+        """Runs a line of the shell, whose $0 is the program."""
+        return run("bash", "-c", line, program(), cwd=self.folder, **more)
+
+    # ---- words, statuses and streams
+
+    def test_answers_and_faults(self):
+        for words, answer in (("./day sales --workers 64 --morsel=1 --partitions 256", SALE), ("/dev/null sales <day", HEADER),
+                              ("day 'sales as of 09:30:01'", HEADER), ("- sales", HEADER), ("- sales <day", SALE)):
+            self.gives(self.shell(f'exec "$0" {words}'), 0, answer)
+        for words, status, errors in FAULTS:
+            self.gives(self.shell(f'exec "$0" {words}'), status, "", errors)
+        for words, what in WRONG:
+            usage = "" if what.startswith("invalid") else USAGE
+            self.gives(self.shell(f'exec "$0" {words}'), 2, "", f"error: {what}\n\n{usage}{MORE}")
+        for text, words in (("help", ["--help"]), ("help", ["day", "-h"]), ("version", ["--version"]), ("version", ["day", "sales", "-V"])):
+            self.gives(self.of(*words), 0, (TOP / "bin" / text).read_bytes())
+
+    def test_examples_of_help(self):
+        self.file("day.itch", EXAMPLE.read_bytes())
+        subprocess.run(["gzip", "-k", "day.itch"], cwd=self.folder, check=True)
+        examples = re.search(r"\nExamples:\n((?:  .*\n)+)", self.of("--help").out.decode())[1].splitlines()
+        self.assertGreater(len(examples), 2)
+        for it in examples:
+            ran = self.shell(f'program=$0; itch_bars() {{ "$program" "$@"; }}\n{it}')
+            self.assertEqual((ran.status, ran.errors, ran.out.count(b"\n") > 1), (0, b"", True), it)
+
+    def test_memory_runs_out(self):
+        """A source has no end, and all its rows are to be kept."""
+        self.file("days", *[trade(9)] * 100_000)
+        for file, query in itertools.product(("-", "/dev/stdin"), ("sales", "bars 1 s")):
+            endless = f'while cat days; do :; done 2>&- | "$0" {file} "{query}"'
+            self.gives(self.shell(endless, memory=400 << 20), 3, "", "fault: out of memory\n")
+
+    # ---- files
+
+    def test_which_file_is_opened_and_how_it_is_read(self):
+        """The file that is named is opened once, as it is named, and nothing where that is `-`. A regular file is read by blocks if
+        the words don't give a size of morsels, and else in order, as are a pipe and the standard input."""
+        for name, day in (("-x", DAY), ("--help", DAY), ("-", EXAMPLE.read_bytes())):
+            self.file(name, day)
+        for words, name, opened, kind in (
+            ("day", "day", 1, "pread"), ("-- -x", "-x", 1, "pread"), ("--workers=64 -- --help", "--help", 1, "pread"),
+            ("--morsel=50 day", "day", 1, "read"), ("--morsel=1048576 -- --help", "--help", 1, "read"),
+            ("/dev/stdin", "/dev/stdin", 1, "read"), ("-", "-", 0, "read"), ("-- -", "-", 0, "read"),
+        ):
+            ran, report = self.counted(program(), *words.split(), "sales", input=DAY, preload={"NAME": name}, cwd=self.folder)
+            self.gives(ran, 0, SALE)
+            self.assertEqual((report.opened, {it.kind for it in report.of("read", "pread")}), ([opened], {kind}), words)
+
+    def test_what_is_no_day(self):
+        """Folders, which can be opened, a file of the system whose readings fail, one that has no length, and one that is too long."""
+        for way in ONE, "--workers 64", "--morsel 1":
+            for name in (".", "/proc/self/mem", "no_such_file", "", "day/", "/dev/null/none"):
+                self.gives(self.of(name, "sales", *way.split()), 4, "", READING)
+            self.gives(self.of("/proc/version", "sales", *way.split()), 1, "", END.replace("38", "0"))
+        self.gives(self.shell('"$0" - sales <.'), 4, "", READING)
+        os.truncate(self.day, (64 << 30) + 1)
+        self.gives(self.of(self.day, "sales"), 1, "", "fault: file is longer than 68719476736 bytes\n")
+
+    def test_few_bytes(self):
+        """A reading gives few bytes, and a write takes one."""
+        for query, way in itertools.product(("sales", "bars 5 m"), WAYS):
+            answer = self.of(EXAMPLE, query)
+            self.assertGreater(answer.out.count(b"\n"), 2)
+            for settings in (*({"GIVES": count} for count in (1, 2, 3, 7, 47, 4096)), {"TAKES": 1}):
+                self.assertEqual(self.over(way, EXAMPLE, query, **settings)[0], answer, f"{way} {settings}")
+        self.gives(self.over(INPUT, self.cut_off, TAKES=1)[0], 1, "", END)
+
+    def test_readings_that_fail(self):
+        """Each reading of a byte fails in turn, and with it those behind it or none, by an error of the device, an interruption, or
+        want of bytes, until a run has fewer. Several workers may read a block twice, and the first that is read counts."""
+        may_come = [Ran(4, b"", READING.encode()), Ran(0, SALE.encode(), b"")]
+        for way, (error, once) in itertools.product(WAYS, ((5, 0), (4, 0), (11, 0), (5, 1))):
+            for reading in itertools.count(1):
+                ran, report = self.over(way, self.day, GIVES=1, FAILS=reading, ERROR=error, ONCE=once)
+                if report.failed == [0, 0]:
+                    break
+                self.assertIn(ran, may_come if way == SEVERAL else may_come[:1], f"{way}, reading {reading}, {error}")
+                self.assertTrue("worker" in way or report.failed == [1, 0], f"{way}: read again after {reading} failed")
+            self.assertEqual((ran, reading > len(DAY)), (may_come[1], True), way)
+        # All of a stream is read before a fault is told: also a reading that fails behind it.
+        for day in (DAY[:3], DAY + DAY):
+            self.gives(self.over(INPUT, self.file("faulty", day), GIVES=1, FAILS=len(day) + 1)[0], 4, "", READING)
+
+    def test_files_that_change(self):
+        """A file grows, is replaced or shrinks before each of its readings in turn: the answer is that to what it had before or has
+        then, or to whole messages from its start; or what was read ends within one."""
+        example, sale = EXAMPLE.read_bytes(), trade(9)
+        longer, _ = self.file("longer", example, sale), self.file("sale", sale)
+        place, fronts, may_come = 0, [], [self.of(EXAMPLE, "sales"), self.of(longer, "sales")]
+        while place <= len(example):
+            fronts.append(self.of("-", "sales", input=example[:place]))
+            place += 2 + int.from_bytes(example[place : place + 2], "big")
+        for way, (gives, change, may_come) in itertools.product(WAYS, (
+            (1_000, "truncate -s 466 changing", fronts), (1_000, "cp longer new; mv new changing", may_come[:1]),
+            (1_000, "cat sale >>changing", may_come), (100_000, "cat sale >>changing", may_come),
+        )):
+            for reading in itertools.count(1):
+                ran, report = self.over(way, self.file("changing", example), GIVES=gives, AT=reading, COMMAND=change)
+                if len(report.of("read", "pread")) < reading:
+                    break
+                is_cut = ran[:2] == (1, b"") and re.fullmatch(rb"fault: place \d+: message runs past the end\n", ran.errors)
+                self.assertTrue(ran in may_come or may_come is fronts and is_cut, f"{way}, {change} {reading}: {ran}")
+            self.assertGreater(reading, 2, way)
+
+    # ---- outputs and pipes
+
+    def test_writes_that_fail(self):
+        """The output fails after each number of bytes in turn, whether they are taken one by one or at once."""
+        all_words = "day sales", "day sales --morsel 1", "- sales", "--version"
+        for words, (takes, error) in itertools.product(all_words, ((1, 5), (3, 4), (10_000, 28))):
+            answer = self.of(*words.split(), input=DAY).out
+            for room in range(len(answer)):
+                settings = {"TAKES": takes, "ERROR": error, "ROOM": room}
+                ran, report = self.counted(program(), *words.split(), input=DAY, preload=settings, cwd=self.folder)
+                self.gives(ran, 5, answer[:room], WRITING.replace("0", str(room)))
+                self.assertEqual(report.failed, [1, 0], f"written again after {room} bytes")
+        self.gives(self.over(ONE, self.day, TAKES=0)[0], 5)
+
+    def test_closed_and_full_streams(self):
+        """A file that is opened while a stream is closed has the stream's number, and isn't written to. A line that can't be written
+        changes no status."""
+        outputs = ((">&-", WRITING), ("<&- >&- 2>&-", ""), (">/dev/full", WRITING), (">/dev/full 2>/dev/full", ""))
+        for words, status, out, errors in (
+            ("precious sales <&-", 0, SALE, ""), ("precious sales --morsel 1 <&- 2>&-", 0, SALE, ""), ("- sales <&-", 4, "", READING),
+            ("precious bars <&- 2>&-", 2, "", ""), ("day 2>/dev/full", 2, "", ""), ("cut_off sales 2>/dev/full", 1, "", ""),
+            ("no_such_file sales <&- >&- 2>&-", 4, "", ""),
+            *((f"{words} {closed}", 5, "", errors) for closed, errors in outputs
+              for words in ("precious sales", "precious sales --morsel 1", "--help", "--version")),
+        ):
+            precious = self.file("precious", DAY)
+            self.gives(self.shell(f'exec "$0" {words}'), status, out, errors)
+            self.assertEqual(precious.read_bytes(), DAY, f"{words}: a file is written to")
+
+    def test_pipes(self):
+        """A pipe as the file, whose writer writes in pieces or leaves within a frame; one without a reader; and one whose reader
+        leaves, where the answer is longer than any pipe holds."""
+        self.gives(self.shell('(head -c 10 day; sleep 0.2; tail -c +11 day) | "$0" /dev/stdin sales'), 0, SALE)
+        self.gives(self.of("/dev/stdin", "sales", input=DAY[:40]), 1, "", END)
+        reader, writer = os.pipe()
+        os.close(reader)
+        self.addCleanup(os.close, writer)
+        self.assertEqual(self.of("day", "sales", stdout=writer), Ran(5, None, WRITING.encode()))
+        front = self.of(self.file("trades", *[trade(9)] * 30_000), "sales").out[:100]
+        for words in ("", " --morsel 1000000"):
+            ran = self.shell(f'{{ "$0" trades sales{words}; echo "status $?" >&2; }} | head -c 100')
+            self.assertEqual((ran.status, ran.out), (0, front))
+            self.assertRegex(ran.errors, rb"\Afault: writing failed after \d+ bytes\nstatus 5\n\Z")

@@ -1,0 +1,173 @@
+"""Sees how many threads the program starts, what each reads, and that they work at once, for each way to read a day and several
+crews. No answer hangs on that, so no clause and no test of an answer sees an option that is lost on its way to the threads.
+
+Nothing is timed. That several work at once, and that the caller of a stream reads the next batch meanwhile, is seen by holding each
+in its first reading, or in its first large allocation, until all of them are there: a thread that has no task never comes, and
+after half a minute the others go on and are reported. A block may be given to a second worker while the first still reads it, so
+what several read has a bound alone.
+"""
+import functools, itertools, os
+
+from itch import OPEN, message, order, trades
+from run import Case, program
+
+MIB = 1 << 20
+# What is read at once of a block, and for a guess of where a frame begins, or behind a block's end.
+BUFFER, SEEN = 126_976, 4_096
+# What is read of a stream at once, and how long its batches are.
+PIECE, BATCH = 65_536, 32 * MIB
+# No file of a run here is longer, so what is asked for there is the byte at the limit.
+LIMIT = 64 << 30
+
+
+class Threads:
+    """The numbers of the threads of each kind, in the order of their starts. `first` has those of the workers of the first
+    pipeline, of each batch of a stream; a file is one."""
+
+    def __init__(self, workers, gatherers, batches=1):
+        numbers = itertools.count(1)
+        take = lambda count: list(itertools.islice(numbers, count))
+        self.first = []
+        for batch in range(batches):
+            # (of each batch but the last, one that waits for the others while the caller reads on)
+            take(gatherers - 1 + (batch < batches - 1))
+            self.first.append(take(workers))
+        take(gatherers - 1)
+        self.second = take(workers)
+        # One frees the rows, and the caller makes one share of the text itself.
+        take(1)
+        self.text = take(workers - 1)
+        self.count = next(numbers) - 1
+
+
+def meeting(kind, groups):
+    return "".join(f"{kind}{group[0]}-{group[-1]}" for group in groups)
+
+
+@functools.lru_cache(maxsize=1)
+def day():
+    """A day of some 7 MB."""
+    return b"".join(trades(150_000))
+
+
+class OfThreads(Case):
+    def looked_at(self, words, threads, preload, **more):
+        """Runs the words on these threads, and returns what was done."""
+        ran, report = self.counted(program(), *words, preload=preload, **more)
+        self.assertEqual((ran.status, ran.errors), (0, b""), words)
+        self.assertEqual((report.started(), report.alone), (threads.count, []), words)
+        # Each thread takes its share of the room for lines, and little beside it: the keys of bars. So the caller has no more.
+        rooms = [report.threads[number] for number in threads.text]
+        share = len(ran.out) / (len(rooms) + 1)
+        if share > PIECE:
+            self.assertTrue(all(0.8 * share <= it <= 4 * share and it <= 2 * min(rooms) for it in rooms), f"{words}: {rooms}")
+        return report
+
+    def blocks(self, file, workers, gatherers=1, query="sales", again=0, is_empty=False):
+        """A named file is read in blocks, by all workers at once. The caller asks for the byte at the limit, first, and reads
+        nothing else, but where guesses are wrong so many bytes `again`."""
+        length, threads = file.stat().st_size, Threads(workers, gatherers)
+        words = [file, query, "--workers", workers, "--gatherers", gatherers]
+        meet = meeting("p", threads.first) + ("" if is_empty else meeting("a", [threads.second]))
+        report = self.looked_at(words, threads, {"MEET": meet})
+        self.assertFalse(report.of("read"), words)
+        own = [call for call in report.of("pread") if call.thread == 0]
+        others = [call for call in report.of("pread") if call.thread]
+        self.assertEqual((own[0].place, own[0].asked, own[0]), (LIMIT, 1, report.of("pread")[0]), words)
+        self.assertLessEqual(sum(call.count for call in own), again, words)
+        self.assertEqual(len(own) == 1, not again, words)
+        # Eight blocks for each worker, if they have a MiB then, and eight at most. Each but the first begins with a guess.
+        block = min(max(MIB, length // (8 * workers)), 8 * MIB)
+        blocks = length // block
+        self.assertEqual({call.thread for call in others}, set(threads.first[0]), words)
+        guesses = {call.place for call in others if call.asked == SEEN and call.place and call.place % block == 0}
+        self.assertEqual(guesses, {block * number for number in range(1, blocks)}, words)
+        # No byte is read twice beside that, by one worker.
+        givings = 1 if workers == 1 else 2
+        count = sum(call.count for call in others)
+        self.assertTrue(length <= count + again and count <= givings * (length + 2 * SEEN * blocks), f"{words}: {count}")
+        self.assertLessEqual(len(others), givings * blocks * (block // (BUFFER - SEEN) + 4), words)
+
+    def stream(self, file, by_name, workers, gatherers, query="sales"):
+        """Standard input, and a file whose morsels have a size, are read in order by the caller, while all workers scan the batch
+        before: in a day of two batches the caller waits, before its last reading of a whole piece, until each of them does."""
+        length = file.stat().st_size
+        words = [file, query, "--morsel", 500_000] if by_name else ["-", query]
+        words += ["--workers", workers, "--gatherers", gatherers]
+        threads = Threads(workers, gatherers, batches=length // BATCH + 1)
+        joins = {"JOINS": length // PIECE} if len(threads.first) > 1 else {}
+        meet = {"MEET": meeting("a", [*threads.first, threads.second]), **joins}
+        report = self.looked_at(words, threads, meet, input=b"" if by_name else file)
+        self.assertEqual({(call.kind, call.thread) for call in report.of("read", "pread")}, {("read", 0)}, words)
+        self.assertEqual(sum(call.count for call in report.of("read")), length, words)
+        self.assertLessEqual(len(report.of("read")), length // PIECE + 2, words)
+
+    def test_each_way(self):
+        file = self.file("day", day())
+        for query, crew in itertools.product(("sales", "bars 1 m"), ((1, 1), (3, 1), (5, 3))):
+            self.blocks(file, *crew, query)
+            self.stream(file, False, *crew, query)
+            self.stream(file, True, *crew, query)
+
+    def test_two_batches(self):
+        file = self.file("day", b"".join(order(number + 1) for number in range(900_000)), day()[:1_000_000 // 46 * 46])
+        for by_name, crew in itertools.product((False, True), ((1, 1), (3, 1), (4, 3))):
+            self.stream(file, by_name, *crew)
+
+    def test_each_is_waited_for(self):
+        """Before the answer is written, whichever begins late."""
+        file, count = self.file("day", day()[: 46 * 60_000]), Threads(2, 2).count
+        for morsel, number in itertools.product(([], ["--morsel", 500_000]), range(1, count + 1)):
+            words = [program(), file, "sales", "--workers", 2, "--gatherers", 2, *morsel]
+            report = self.counted(*words, preload={"LATE": number})[1]
+            self.assertEqual((report.started(), report.begun), (count, [count]), f"{number} is late: {words}")
+
+    def test_messages_of_all_lengths(self):
+        """A guess knows the longest message and the shortest, which stand beside trades at the opening."""
+        between = [message("S", 0, OPEN, "Q"), message("I", 1, OPEN, 100, 100, "O", "MSFT", 1, 1, 1, "C", "L")]
+        self.assertEqual([len(it) - 2 for it in between], [12, 50])
+        file = self.file("day", *(it for few in zip(*[trades(150_000)] * 12) for it in (*few, *between)))
+        for workers in (1, 4):
+            self.blocks(file, workers)
+
+    def test_wrong_guess(self):
+        """Where long frames lie over a block's beginning, the caller reads that block again and no other."""
+        long, file = (60_000).to_bytes(2, "big") + b"Z" + bytes(59_999), day()
+        at = MIB // 46 * 46 - 2 * len(long) // 46 * 46
+        for workers in (1, 4):
+            self.blocks(self.file("day", file[:at], long * 4, file[at:]), workers, again=MIB + 2 * SEEN)
+
+    def test_long_file(self):
+        """However long a file is, its blocks aren't, and the caller looks at none."""
+        file = self.file("day")
+        os.truncate(file, 80 * MIB)
+        self.blocks(file, 1, is_empty=True)
+
+    def test_short_days(self):
+        """A day of less than two MiB is answered by the caller alone, however it is read, and one of two MiB by threads."""
+        for length, is_short in ((2 * MIB - 2, True), (2 * MIB, False)):
+            file = self.file("day", bytes(length))
+            for name, given, morsel in ((file, b"", []), ("-", file, []), (file, b"", ["--morsel", MIB])):
+                started = self.counted(program(), name, "bars 1 m", "--workers", 4, *morsel, input=given)[1].started()
+                self.assertEqual(started == 0, is_short, f"{length} bytes of {name}, {started} threads")
+
+    def test_fault(self):
+        """What is read when the fault of a stream is found isn't scanned: for a day of one batch no thread is started."""
+        ran, report = self.counted(program(), "-", "sales", "--workers", 3, input=day()[:-1])
+        self.assertEqual((ran.status, report.started()), (1, 0))
+
+    def test_waiting(self):
+        """A caller that waits takes no processor: here its one worker waits for a thread that is never started."""
+        preload = {"MEET": "p1-2", "PATIENCE": 8}
+        ran, report = self.counted(program(), self.file("day", day()), "sales", "--workers", 1, preload=preload, seconds=1)
+        self.assertEqual((ran.status, report.alone), (0, [1]))
+
+    def test_partitions(self):
+        """Each partition is a task, which costs two to eight allocations, though no row is there, wherever one begins."""
+        # (so long that room is taken for 16 rows or more of each partition, however many there are)
+        empty = self.file("empty", bytes(262_144))
+        for words, given in (([empty], b""), ([empty, "--morsel", 262_144], b""), (["-"], empty)):
+            words = [program(), *words, "sales", "--workers", 1, "--partitions"]
+            # (primes, which are taken as they are)
+            few, some, more = (self.counted(*words, count, input=given)[1].heap.allocations for count in (2, 67, 131))
+            self.assertTrue(2 * 65 <= some - few < 8 * 65 and 2 * 64 <= more - some < 8 * 64, f"{words}: {few} {some} {more}")
