@@ -2,3 +2,4 @@ pub mod Walked
 pub mod Filled
 pub mod Chained
 pub mod BlocksAndAttempts
+pub mod KnownFiles

@@ -1,6 +1,6 @@
 -- The tasks of a source that is read at places: its blocks, and what came of them.
 -- To be believed of a crate used by itself: a promise of the program speaks of the whole source alone.
-use Rattle.std.specs.Prelude.{◌≡◌, ℕ, ◌+◌, ◌*◌, ◌<◌, ◌==◌, ◌&&◌, Bool, true, nat_eq, min, if◌then◌else◌, List, [], ◌∷◌, All, map, length, Option, None, Result}
+use Rattle.std.specs.Prelude.{◌≡◌, ℕ, ◌+◌, ◌*◌, ◌<◌, ◌≤◌, ◌==◌, ◌&&◌, Bool, true, nat_eq, min, if◌then◌else◌, List, [], ◌∷◌, All, map, length, Option, None, Result, IfOk}
 use Rattle.std.specs.Cmp.{IsEquivalence}
 use Rattle.std.specs.Option.{option_eq, option_or}
 use Rattle.std.specs.Result.{result_err}
@@ -11,6 +11,7 @@ use Rattle.lists.specs.Least.{numbers_below}
 use Rattle.gathering.specs.Adding.{same_inputs}
 use Rattle.streaming.specs.declared.fault.SourceFault.{SourceFault}
 use Rattle.block_scan.specs.declared.scanned_block.ScannedBlock.{ScannedBlock}
+use Rattle.block_scan.specs.declared.scanned_block.Tail.TheVariants.{More}
 use Rattle.block_scan.specs.declared.request.Request.{Request}
 use Rattle.block_scan.specs.Pieces.{Asked, IsAskable}
 
@@ -55,6 +56,13 @@ module _ {S : Type 0} where
   abbrev pub AreOf : List (BlockView S) → List (AttemptView S) → Type 0
   AreOf blocks attempts = map (λ attempt. attempt.asked) attempts ≡ map (λ block. block.asked) blocks
 
+  -- what came of a block: of its source and request; a piece begins at or behind the block's start, and ends at or
+  -- behind its end, or where the source does
+  pub record IsAttemptAt (block : BlockView S) (attempt : AttemptView S) : Type 0 where
+    pub asked : attempt.asked ≡ block.asked
+    pub from : IfOk attempt.found (λ piece. block.from ≤ piece.start)
+    pub to : IfOk attempt.found (λ piece. piece.tail ≡ More → block.to ≤ piece.end)
+
   -- there is at least one block, and all are of one source with one request, which may be made
   pub record AreBlocks (blocks : List (BlockView S)) : Type 0 where
     pub asked : Asked S
@@ -94,8 +102,8 @@ module _ {S : Type 0} {eq : S → S → Bool} (laws : IsEquivalence eq) (one : (
   block_equiv = exact_equiv exact_block
 
   pub equal_blocks : (a b : BlockView S) (attempt : AttemptView S) → is_same_block eq a b ≡ true
-      → attempt.asked ≡ a.asked → attempt.asked ≡ b.asked
-  equal_blocks a b attempt same gives = gives ∙ ap (λ (block : BlockView S). block.asked) (exact_block.one a b same)
+      → IsAttemptAt a attempt → IsAttemptAt b attempt
+  equal_blocks a b attempt same gives = subst (λ block. IsAttemptAt block attempt) (exact_block.one a b same) gives
 
   pub equal_attempts : (xs ys : List (BlockView S)) → same_inputs (is_same_block eq) xs ys ≡ true
       → (attempts : List (AttemptView S)) → AreOf ys attempts → AreOf xs attempts

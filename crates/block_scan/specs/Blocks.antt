@@ -1,10 +1,15 @@
 -- What a source gave to readings at places, and what is known of it then.
 -- To be believed.
-use Rattle.std.specs.Prelude.{◌≡◌, ℕ, ◌+◌, ◌≤◌, Bool, nat_eq, List, [], ◌∷◌, ◌++◌, length, take, drop, Option, None, Some, IfSome}
+use Rattle.std.specs.Prelude.{◌≡◌, ℕ, ℤ, ◌+◌, ◌≤◌, ◌&&◌, Bool, nat_eq, List, [], ◌∷◌, ◌++◌, length, take, drop, Option, None, Some, IfSome}
 use Rattle.std.specs.Cmp.Lexicographic.{pointwise}
 use Rattle.std.specs.Option.{option_eq}
-use Rattle.std.proofs.Common.{arith, refl, sym, ap, ◌∙◌}
+use Rattle.std.specs.Ordering.{int_eq}
+use Rattle.std.specs.Cmp.Derive.{both_true}
+use Rattle.std.proofs.Common.{arith, refl, sym, ap, ap₂, ◌∙◌}
 use Rattle.std.proofs.Math.Seq.{drop-append_seam, take-add, take-append_seam}
+use Rattle.std.proofs.lemmas.Bool.{and_parts}
+use Rattle.std.proofs.lemmas.Cmp.{int_eq_equiv}
+use Rattle.std.proofs.lemmas.Bool.Decides.{Decides-int_eq}
 use Rattle.std.proofs.lemmas.List.{drop-drop, drop-take, length-append, take-take}
 use Rattle.lists.proofs.Exact.{IsExact, exact_list, exact_nat, exact_option}
 use Rattle.block_scan.specs.declared.block_source.BlockSource.{Ghosts as BlockSourceOf}
@@ -50,12 +55,28 @@ KnownAt held place bytes = IfSome held (λ all. take (length bytes) (drop place 
 abbrev pub KnownEnd : Option (List ℕ) → ℕ → Type 0
 KnownEnd held place = IfSome held (λ all. length all ≤ place)
 
--- what is known of both is the same
-abbrev pub is_known_same : Option (List ℕ) → Option (List ℕ) → Bool
-is_known_same a b = option_eq (pointwise nat_eq) a b
+-- what contracts see of a file: the bytes that it holds, if that is known, and its descriptor, if it has one
+pub record FileView : Type 0 where
+  pub contents : Option (List ℕ)
+  pub descriptor : Option ℤ
 
-pub exact_known : IsExact is_known_same
-exact_known = exact_option (exact_list exact_nat)
+-- what is known of the bytes of both is the same, and so is their descriptor
+abbrev pub is_same_file : FileView → FileView → Bool
+is_same_file a b = option_eq (pointwise nat_eq) a.contents b.contents && option_eq int_eq a.descriptor b.descriptor
+
+exact_contents : IsExact (option_eq (pointwise nat_eq))
+exact_contents = exact_option (exact_list exact_nat)
+
+exact_descriptor : IsExact (option_eq int_eq)
+exact_descriptor = exact_option (record { itself = int_eq_equiv.refl; one = λ x y. (Decides-int_eq x y).0 })
+
+pub exact_file : IsExact is_same_file
+exact_file = record {
+  itself = λ a. both_true (exact_contents.itself a.contents) (exact_descriptor.itself a.descriptor);
+  one = λ a b h.
+      let (p, q) = and_parts _ _ h in
+      ap₂ (λ c d. record { contents = c; descriptor = d }) (exact_contents.one _ _ p) (exact_descriptor.one _ _ q);
+}
 
 pub known_nothing : (held : Option (List ℕ)) (place : ℕ) → KnownAt held place []
 known_nothing None place = tt

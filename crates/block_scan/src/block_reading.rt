@@ -35,7 +35,9 @@ pub(crate) fn scan_block<S: BlockSource>(
     alloc: Global,
     block: &Block<S>,
 ) -> Result<ScannedBlock, SourceFault>
-    ensures { IsTried S.BlockSource.own block.now.asked.source block.now.asked.request result }
+    ensures tried { IsTried S.BlockSource.own block.now.asked.source block.now.asked.request result }
+    ensures from { IfOk result (λ piece. block.now.from ≤ piece.start) }
+    ensures to { IfOk result (λ piece. piece.tail ≡ Tail.More → block.now.to ≤ piece.end) }
 {
     let (source, request) = (&*block.source, block.request);
     let start = guess(source, block.from, request.limit)?;

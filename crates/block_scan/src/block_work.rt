@@ -1,7 +1,7 @@
 //! The work whose tasks are the blocks of a source.
 ghost use Rattle.std.specs.Prelude.{◌≡◌};
 ghost use Rattle.std.specs.Arc.{arc_value};
-ghost use Rattle.block_scan.specs.Attempts.{AreBlocks, AreOf, equal_attempts, equal_blocks};
+ghost use Rattle.block_scan.specs.Attempts.{AreBlocks, AreOf, IsAttemptAt, equal_attempts, equal_blocks};
 
 use crate::OutOfMemory;
 use crate::attempt::{Attempt, Attempts};
@@ -28,7 +28,7 @@ impl<S: BlockSource + Send + Sync> Work for BlockWork<S> {
 
     type Total = Attempts<S>;
 
-    ghost Gives = { λ block attempt. (arc_value attempt).asked ≡ block.asked };
+    ghost Gives = { λ block attempt. IsAttemptAt block (arc_value attempt) };
 
     ghost IsTotalOf = { AreOf };
 

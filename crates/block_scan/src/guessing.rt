@@ -20,6 +20,7 @@ const LONGEST: usize = 50;
 pub(crate) fn guess<S: BlockSource>(source: &S, from: u64, limit: u64) -> Result<u64, DeviceFailed>
     requires from { from ≤ limit }
     ensures within { IfOk result (λ place. place ≤ limit) }
+    ensures from { IfOk result (λ place. from ≤ place) }
     ensures failed { IfErr result (λ _. S.FailsAt source.now from) }
 {
     if from == 0 {

@@ -23,7 +23,7 @@ pub use block_work::BlockWork;
 pub use blocks::block_inputs;
 pub use day_file::DeviceFailed;
 pub use division::Division;
-pub use file_blocks::{FileBlocks, ReadsAt};
+pub use file_blocks::{FileBlocks, ReadsAt, known_bytes_are_read};
 pub use lists::OutOfMemory;
 pub use looking::partitions_of;
 pub use streaming::SourceFault;

@@ -4,3 +4,4 @@ pub mod BlocksScanned
 pub mod HandedOver
 pub mod ScannedBatches
 pub mod OneRun
+pub mod LeftAlone

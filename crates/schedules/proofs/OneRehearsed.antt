@@ -10,10 +10,10 @@ use Rattle.schedules.specs.declared.rehearsed.Rehearsed.TheVariants.{Finished, S
 
 module _ {F I T K S : Type 0} (tasks : ℕ) (IsFirst : F → Type 0) (Links : F → Linked (List I) K S → Type 0) (IsTotalOf : List I → T → Type 0)
     (gatherers : ℕ) (events1 events2 : List Event) (first : F) (linked : F → Linked (List I) K S) (total_of : List I → T)
-    (one_first : (f : F) → IsFirst f → f ≡ first) (one_link : (f : F) (l : Linked (List I) K S) → Links f l → l ≡ linked f)
+    (one_first : (f : F) → IsFirst f → f ≡ first) (one_link : (f : F) (l : Linked (List I) K S) → IsFirst f → Links f l → l ≡ linked f)
     (one_total : (inputs : List I) (total : T) → IsTotalOf inputs total → total ≡ total_of inputs) where
   linked_is : (f : F) (l : Linked (List I) K S) → IsFirst f → Links f l → linked first ≡ l
-  linked_is f l is links = sym (one_link f l links ∙ ap linked (one_first f is))
+  linked_is f l is links = sym (one_link f l is links ∙ ap linked (one_first f is))
 
   pub one_rehearsed : (rehearsed : Rehearsed T K S) → IsRehearsed tasks IsFirst Links IsTotalOf gatherers events1 events2 rehearsed
       → rehearsed ≡ option_map_or (λ task. Missing 1 task) (first_left gatherers tasks events1) (after_link total_of gatherers events2 (linked first))

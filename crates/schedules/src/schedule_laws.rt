@@ -19,13 +19,15 @@ pub fn arrived_tasks_are_covered()
         ≡ (nat_lt task tasks && has_arrived gatherers events task) }
 {}
 
-/// If each list of inputs has one total and each total is linked to one thing, two schedules have one answer.
+/// If each list of inputs has one total and that of the first inputs is linked to one thing, two schedules have one
+/// answer.
 pub fn functions_have_one_rehearsal<A: Work, B: Work, L: Link<A, B>>()
     ensures { (link : L) (inputs : List A.Input) (total_of_first : List A.Input → A.Total)
         (linked : A.Total → TheLinked (List B.Input) L.Kept L.Stop) (total_of : List B.Input → B.Total)
         (gatherers : ℕ) (events1 events2 : List Event) (rehearsed : TheRehearsed B.Total L.Kept L.Stop) →
         ((first : A.Total) → A.IsTotalOf inputs first → first ≡ total_of_first inputs) →
-        ((first : A.Total) (l : TheLinked (List B.Input) L.Kept L.Stop) → L.Links link first l → l ≡ linked first) →
+        ((first : A.Total) (l : TheLinked (List B.Input) L.Kept L.Stop) → A.IsTotalOf inputs first →
+        L.Links link first l → l ≡ linked first) →
         ((seconds : List B.Input) (total : B.Total) → B.IsTotalOf seconds total → total ≡ total_of seconds) →
         IsRehearsed (length inputs) (A.IsTotalOf inputs) (L.Links link) B.IsTotalOf
         gatherers events1 events2 rehearsed →

@@ -91,7 +91,9 @@ impl BatchReader {
         ensures next { IfOk result (IsNextBatch S.Source source.old source.new self.old self.new) }
         ensures same { (self.new.limit ≡ self.old.limit) × (self.new.target ≡ self.old.target) }
 
-        // After a refusal the source may have been read in part.
+        // After a refusal the source may have been read in part, and of the bytes that were in no batch yet some may be
+        // lost: no clause says anything of a batch that is asked for then.
+        ensures left { OnErr result (self.new ≡ record self.old { cutter = self.new.cutter }) }
         ensures fault { IfErr result (λ fault. (before : S) (runs : List (List ℕ))
             → IsReadTo S.Source before source.old runs self.old
             → IsSourceFault (of_stream S.Source self.old.limit self.old.target before source.new) fault) }

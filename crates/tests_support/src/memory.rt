@@ -11,7 +11,7 @@ pub struct Memory<'a> {
 
 /// The blocks of these bytes.
 pub fn in_memory(bytes: &[u8]) -> FileBlocks<Memory<'_>>
-    ensures { result ≡ Some bytes.now }
+    ensures { result.contents ≡ Some bytes.now }
 {
     FileBlocks::of(Memory { bytes })
 }

@@ -10,4 +10,4 @@ returns-clause-ok g c = λ before next are gives begins.
     ap (map arc_value) c.in_ok-push.ensures.items ∙ map_push arc_value c.total.inside.items.items _
     ∙ ap₂ (λ l a. l ++ a ∷ []) c.total.view_is c.in_ok-try_clone.ensures
     in
-    rw pushed (are_more before c.args.total.now next (arc_value c.args.output.now) are gives)
+    rw pushed (are_more before c.args.total.now next (arc_value c.args.output.now) are gives.asked)
