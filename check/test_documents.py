@@ -84,7 +84,7 @@ class Documents(Case):
             (top / "bin/itch_bars").unlink()
             (top / "bin/itch_bars").symlink_to(pathlib.Path(program()).resolve())
         missing = {it: it.missing() for it in commands}
-        self.assertTrue(commands, f"{document} has no command")
+        self.assertTrue(commands and RECIPES, f"{document} has no command, or there are no recipes")
         (folder / "script").write_text("".join(it.typed(folder) for it in commands if not missing[it]))
         path = f"{top}/bin:" if document == DOCUMENTS[2] else ""  # (the guide puts it on the path itself)
         environment = {**os.environ, "LC_ALL": "C.UTF-8", "PATH": path + os.environ["PATH"]}
@@ -95,14 +95,14 @@ class Documents(Case):
                     print(f"\nleft out, as {missing[it]} isn't installed: {place}", file=sys.stderr)
                     self.skipTest(f"{missing[it]} isn't installed")
                 path = folder / "prints" / str(it.number)
-                self.assertTrue(path.exists(), f"not typed: the shell had ended with status {ended.returncode}; 124: it hung")
+                self.assertTrue(path.exists(), f"not typed: the shell had ended with status {ended.returncode}")
                 printed = path.read_text(errors="replace")
                 self.assertTrue(it.is_shown(printed), f"it prints\n{printed}and the document shows\n" + "\n".join(it.shown))
+        self.assertNotEqual(ended.returncode, 124, f"{document}: the last command that was typed hung")
 
     def test_heads(self):
         """A recipe says in three lines what it does, what it needs, and a call, which a document shows with what comes."""
         called = [it.words for document in DOCUMENTS for it in commands_of(document)]
-        self.assertTrue(RECIPES)
         for it in RECIPES:
             with self.subTest(it.name):
                 head = HEAD.match(it.read_text())

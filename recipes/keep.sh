@@ -5,8 +5,8 @@ set -eu -o pipefail
 day=$1 query=$2 name=$3 status=0
 program=$(readlink -f "$(command -v itch_bars)")
 top=${program%/bin/itch_bars}
-# in the repository that is a script, which runs the program; bin/build ends at once if it is up to date
-if [ -x "$top/bin/build" ]; then
+# (in the repository that is a script, which runs the program; bin/build ends at once if it is up to date)
+if [ -e "$top/crates.txt" ]; then
   "$top/bin/build"
   program=$top/crates/itch_bars/out/itch_bars
 fi
