@@ -35,8 +35,8 @@ const MORSEL_HELP: &str =
 
 /// What help says of `--partitions`.
 const PARTITIONS_HELP: &str =
-    "Parts of the orders, 1 to 256, that threads look up one\nby one: with small morsels \
-    more of them take more time\nand memory";
+    "Parts of the orders, 1 to 256, that threads look up one\nby one: the greatest prime \
+    up to N. More of them take\nmore time and memory with small morsels";
 
 /// What help says of `--gatherers`.
 const GATHERERS_HELP: &str =

@@ -33,7 +33,7 @@ pub(crate) fn guess<S: BlockSource>(source: &S, from: u64, limit: u64) -> Result
 }
 
 /// How many bytes stand before the first that a frame seems to begin with: none, if there is no such byte.
-pub(crate) fn likely_offset(bytes: &[u8]) -> usize
+fn likely_offset(bytes: &[u8]) -> usize
     requires { length bytes.now ≤ LONGEST_FILE }
     ensures { result ≤ length bytes.now }
 {

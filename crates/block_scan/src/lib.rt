@@ -12,7 +12,6 @@ mod chaining;
 mod division;
 mod file_blocks;
 mod guessing;
-mod looking;
 mod request;
 mod scanned_block;
 
@@ -25,5 +24,4 @@ pub use day_file::DeviceFailed;
 pub use division::Division;
 pub use file_blocks::{FileBlocks, ReadsAt, known_bytes_are_read};
 pub use lists::OutOfMemory;
-pub use looking::partitions_of;
 pub use streaming::SourceFault;

@@ -1,5 +1,5 @@
 -- What the two pipelines give by their schedules is what a rehearsal gives.
-use Rattle.std.proofs.Common.{◌≡◌, ℕ, ◌<◌, ◌*◌, false, List, None, Err, length, refl, ap, ◌∙◌, inl, inr, subst, arith}
+use Rattle.std.proofs.Common.{◌≡◌, ℕ, ◌<◌, List, Err, length, ap, ◌∙◌, inl, inr, subst, sym}
 use Rattle.std.specs.declared.alloc.Global.{Global}
 use Rattle.std.proofs.lemmas.List.{length-map}
 use Rattle.std.proofs.lemmas.List.FromFn.{length-map-range_with_len}
@@ -20,8 +20,8 @@ use Rattle.buckets.specs.BucketRows.{BucketView}
 use Rattle.buckets.specs.Buckets.{total_found}
 use Rattle.buckets.specs.FoundRows.{TotalView}
 use Rattle.joining.specs.Gathered.{AreGatheredOf}
-use Rattle.planning.specs.Planned.{IsLinkedTo, LinkView, all_directory, planned_bucket}
-use Rattle.planning.proofs.LinkedBuckets.{halt_of, next_is, next_of}
+use Rattle.planning.specs.Planned.{LinkView, linked_to, planned_bucket}
+use Rattle.planning.proofs.LinkedBuckets.{halt_of, next_of}
 use Rattle.executor.specs.Rehearsals.{IsRehearsed}
 use Rattle.executor.specs.declared.rehearsing.Rehearsal.TheVariants as rehearsal
 use Rattle.runs.proofs.CutAnswers.{answered_by, buckets, frames, gathered_by, halted_by, messages, right_frames, scan, stands, wrong_fault, wrong_frame}
@@ -34,16 +34,7 @@ module _ (runs : List (List ℕ)) (query : Meaning) (parts gatherers : ℕ) (eve
   scanned = scan runs query parts
 
   abbrev link : LinkView
-  link = record { query = query; parts = parts; divides = false }
-
-  -- a link that divides no partition goes on with one bucket of each, if no length is wrong
-  goes_on : (inputs : List BucketView) (kept : List DirectoryRow) → 0 < parts → IsLinkedTo link scanned (Next inputs kept)
-      → (scanned.wrong ≡ None) × (inputs ≡ buckets runs query parts) × (kept ≡ all_directory scanned.morsels)
-  goes_on inputs kept some linked =
-      let (right, next) = next_of scanned.wrong linked in
-      let (seconds, names) = next_is query.as_of parts (numbered 0 0 runs) some next in
-      let one : parts * next.pieces ≡ parts = grind (arith, next.whole refl) in
-      (right, seconds ∙ ap (λ n. buckets runs query n) one, names ∙ ap (λ n. all_directory (scan runs query n).morsels) one)
+  link = record { query = query; parts = parts }
 
   -- what a rehearsal makes of what the two pipelines gave
   abbrev pub Told : Pair → Type 0
@@ -58,7 +49,7 @@ module _ (runs : List (List ℕ)) (query : Meaning) (parts gatherers : ℕ) (eve
     as_many : length (buckets runs query parts) ≡ parts
     as_many = length-map-range_with_len (planned_bucket query scanned.morsels) 0 parts
 
-    told : (r : Pair) → IsRehearsedPair (length runs) (λ (first : ScanTotalView). first ≡ scanned) (IsLinkedTo link)
+    told : (r : Pair) → IsRehearsedPair (length runs) (λ (first : ScanTotalView). first ≡ scanned) (λ total linked. linked ≡ linked_to link total)
         (λ (seconds : List BucketView) (t : TotalView). t ≡ total_found seconds) gatherers events1 events2 r
         → Told r
     told (pair.Missing pipeline task) (inl (number, left)) = record {
@@ -67,13 +58,13 @@ module _ (runs : List (List ℕ)) (query : Meaning) (parts gatherers : ℕ) (eve
       is = rw left (ap (λ p. rehearsal.Missing p task) number);
     }
     told (pair.Missing pipeline task) (inr (number, none, (first, inputs, kept, is, linked, left))) =
-        let next = goes_on inputs kept some (rw is at linked) in record {
+        let next = next_of link scanned (rw is at linked) in record {
           frames = frames runs query parts;
           stand = stands runs query parts are;
           is = rw (none, right_frames runs query parts next.0, rw (next.1, as_many) at left) (ap (λ p. rehearsal.Missing p task) number);
         }
     told (pair.Finished total kept) (none, (first, inputs, is, linked, left, of)) =
-        let next = goes_on inputs kept some (rw is at linked) in (
+        let next = next_of link scanned (rw is at linked) in (
           gathered_by runs query parts are total kept some (of ∙ ap total_found next.1) next.2,
           λ answer answers. record {
             frames = frames runs query parts;
@@ -83,7 +74,7 @@ module _ (runs : List (List ℕ)) (query : Meaning) (parts gatherers : ℕ) (eve
           },
         )
     told (pair.Stopped stop) (none, (first, is, linked)) = λ answer said.
-        let wrong = halt_of link scanned.morsels scanned.wrong (rw is at linked) in let frame = wrong_frame runs query parts stop wrong in record {
+        let wrong = halt_of link scanned (rw is at linked) in let frame = wrong_frame runs query parts stop wrong in record {
           frames = frames runs query parts;
           stand = stands runs query parts are;
           is = rw (none, frame.1) (halted_by runs query parts are stop (told_by answer) wrong said);
@@ -96,7 +87,7 @@ module _ (runs : List (List ℕ)) (query : Meaning) (parts gatherers : ℕ) (eve
 
     -- by what the calls say of their inputs and of the link
     pub rehearsed : {inputs : List ScanInputView} {meant : Meaning} {to : LinkView} {r s : Pair} → inputs ≡ inputs_of meant.as_of parts runs → meant ≡ query
-        → to ≡ link → IsRehearsedPair (length inputs) (λ (first : ScanTotalView). first ≡ total_of inputs) (IsLinkedTo to)
+        → to ≡ link → IsRehearsedPair (length inputs) (λ (first : ScanTotalView). first ≡ total_of inputs) (λ total linked. linked ≡ linked_to to total)
         (λ (seconds : List BucketView) (t : TotalView). t ≡ total_found seconds) gatherers events1 events2 r
         → r ≡ s → Told s
     rehearsed same meant linked is gave = subst Told gave (told _ (rw (same, meant, linked, tasks) at is))

@@ -1,7 +1,6 @@
 pub mod JoinedPartitions
 pub mod MessagesOfPartition
 pub mod JoinedInPartitions
-pub mod DividedRows
 mod Remainders
 mod TakenRows
 mod Masks

@@ -4,7 +4,7 @@ use Rattle.std.specs.Prelude.{◌≡◌, ℕ, ◌<◌, [], ◌∷◌, ◌++◌}
 use Rattle.row_types.specs.declared.order.OrderRow.{OrderRow}
 use Rattle.row_types.specs.declared.trade.Execution.{Execution}
 use Rattle.row_types.specs.declared.trade.Sale.{Sale}
-use Rattle.day_rows.specs.DayRows.{DayRows, joined, no_rows}
+use Rattle.day_rows.specs.DayRows.{DayRows, joined}
 use Rattle.morsel_rows.specs.Partitions.{MorselRowsView, PartitionView, in_partitions}
 
 -- a partition with one row more at its end, of each kind
@@ -21,8 +21,3 @@ with_sale row rows = record rows { own_priced = rows.own_priced ++ row ∷ [] }
 abbrev pub BecomesJoined : DayRows → MorselRowsView → MorselRowsView → Type 0
 BecomesJoined more old new =
     (n : ℕ) (rows : DayRows) → 0 < n → old ≡ in_partitions n rows → new ≡ in_partitions n (joined rows more)
-
--- the rows of a partition, or of several joined, as those of a day that has no breaks and no directory
-abbrev pub only_partition : PartitionView → DayRows
-only_partition rows =
-    record no_rows { orders = rows.orders; executions = rows.executions; own_priced = rows.own_priced }

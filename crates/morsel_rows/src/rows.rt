@@ -25,15 +25,15 @@ type Taken<A> = Vec<Option<Box<Partition<A>, A>>, A>;
 #[derive(Drop)]
 pub struct MorselRows<A: Allocator = Global> {
     /// How many partitions there are.
-    pub(crate) parts: u32,
+    parts: u32,
     /// By what the partition of a row is estimated.
     inverse: u64,
     /// Each partition that has taken memory, at its number; empty as long as there is none.
     partitions: Taken<A>,
     /// What is lent of a partition that has taken none.
     no_rows: Partition<A>,
-    pub(crate) breaks: Vec<u64, A>,
-    pub(crate) directory: Vec<DirectoryRow, A>,
+    breaks: Vec<u64, A>,
+    directory: Vec<DirectoryRow, A>,
 }
 
 impl<A: Allocator> Model for MorselRows<A> {
@@ -167,17 +167,6 @@ impl<A: Allocator + Copy> MorselRows<A> {
         }
     }
 
-    /// Takes room for so many order rows in the partition of this number, if it has taken no memory before.
-    pub(crate) fn make_room(&mut self, number: u32, orders: usize) -> Result<(), OutOfMemory>
-        ensures { self.new ≡ self.old }
-    {
-        let at = number as usize;
-        if number >= self.parts || (at < self.partitions.len() && self.partitions[at].is_some()) {
-            return Ok(());
-        }
-        put_empty(&mut self.partitions, self.parts, at, orders)
-    }
-
     /// Adds one row.
     #[inline(always)]
     fn push(&mut self, row: Row) -> Result<(), OutOfMemory>
@@ -195,7 +184,7 @@ impl<A: Allocator + Copy> MorselRows<A> {
 
     /// Adds an order reference to its partition.
     #[inline(always)]
-    pub(crate) fn push_order(&mut self, row: OrderRow) -> Result<(), OutOfMemory>
+    fn push_order(&mut self, row: OrderRow) -> Result<(), OutOfMemory>
         ensures added { OnOk result (BecomesJoined (told (Some (Row.Order row))) self.old self.new) }
         ensures unchanged { OnErr result (self.new ≡ self.old) }
     {
@@ -209,7 +198,7 @@ impl<A: Allocator + Copy> MorselRows<A> {
 
     /// Adds an execution to the partition of its order reference.
     #[inline(always)]
-    pub(crate) fn push_execution(&mut self, row: Execution) -> Result<(), OutOfMemory>
+    fn push_execution(&mut self, row: Execution) -> Result<(), OutOfMemory>
         ensures added { OnOk result (BecomesJoined (told (Some (Row.Execution row))) self.old self.new) }
         ensures unchanged { OnErr result (self.new ≡ self.old) }
     {
@@ -223,7 +212,7 @@ impl<A: Allocator + Copy> MorselRows<A> {
 
     /// Adds a sale to the partition of its place.
     #[inline(always)]
-    pub(crate) fn push_sale(&mut self, row: Sale) -> Result<(), OutOfMemory>
+    fn push_sale(&mut self, row: Sale) -> Result<(), OutOfMemory>
         ensures added { OnOk result (BecomesJoined (told (Some (Row.Sale row))) self.old self.new) }
         ensures unchanged { OnErr result (self.new ≡ self.old) }
     {
@@ -268,17 +257,16 @@ fn begin<A: Allocator + Copy>(
     if number < partitions.len() && partitions[number].is_some() {
         return Ok(());
     }
-    put_empty(partitions, parts, number, 0)
+    put_empty(partitions, parts, number)
 }
 
-/// Puts a partition without rows at this number, with room for `orders` order rows.
+/// Puts a partition without rows at this number.
 #[cold]
 #[inline(never)]
 fn put_empty<A: Allocator + Copy>(
     partitions: &mut Taken<A>,
     parts: u32,
     number: usize,
-    orders: usize,
 ) -> Result<(), OutOfMemory>
     requires below { number < parts }
     requires none { rows_taken_at partitions.old.items number ≡ no_rows_in }
@@ -286,7 +274,7 @@ fn put_empty<A: Allocator + Copy>(
     ensures begun { OnOk result (HasTaken partitions.new.items number) }
 {
     let alloc = *partitions.allocator();
-    let empty = Box::new(alloc, Partition::with_room(alloc, orders)?)?;
+    let empty = Box::new(alloc, Partition::new(alloc))?;
     lengthen(partitions, parts as usize)?;
     partitions[number] = Some(empty);
     Ok(())

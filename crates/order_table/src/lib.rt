@@ -13,7 +13,7 @@ mod sorting;
 pub mod table;
 
 pub use lists::OutOfMemory;
-pub use partitions::partition;
+pub use partitions::{greatest_prime, partition};
 pub use prices::PricesExecutions;
 pub use row_types::OrderRow;
 pub use searching::{Referenced, Spread, first_of, point_of};

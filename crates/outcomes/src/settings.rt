@@ -14,8 +14,8 @@ pub struct Settings {
     /// The least size of a morsel, in bytes: 1 to 1,073,741,824. What a thread takes at once is one. A file
     /// that is read at places is not cut into morsels, and the size has no part in it.
     pub morsel: u64,
-    /// How many partitions the order references are divided into: 1 to 256. Another number is taken if nearly all
-    /// references of a long day would be in one of them, or if they are in no order.
+    /// How many partitions the order references are divided into at most: 1 to 256. `run` and `run_blocks` take the
+    /// greatest prime that isn't above it.
     pub parts: u32,
     /// The most bytes that a day file may have: at most 68,719,476,736.
     pub limit: u64,

@@ -1,7 +1,8 @@
 -- The buckets that a plan has are those that the total is linked to.
-use Rattle.std.proofs.Common.{◌≡◌, ℕ, ◌<◌, ◌≤◌, ◌*◌, arith, List, Option, flat_map, map, refl, sym, ap, MatchOption, None, Some, ◌∙◌, subst, ⊎_elim}
+use Rattle.std.proofs.Common.{◌≡◌, ℕ, ◌≤◌, arith, List, Option, flat_map, map, refl, sym, ap, None, Some, ◌∙◌, subst, ⊎_elim}
 use Rattle.std.specs.Arc.{arc_value}
 use Rattle.std.specs.List.{concat}
+use Rattle.std.specs.Option.{option_map_or}
 use Rattle.std.proofs.lemmas.Bool.{cases_lt}
 use Rattle.std.proofs.lemmas.List.{map-id}
 use Rattle.std.proofs.lemmas.List.Elements.{All-map}
@@ -32,9 +33,9 @@ use Rattle.gathering.specs.declared.linked.Linked.TheVariants.{Next, Halt}
 use Rattle.buckets.specs.BucketRows.{BucketView, bucket_of, planned_rows}
 use Rattle.buckets.specs.Buckets.{AreNumbered}
 use Rattle.buckets.specs.declared.plan.Plan.{Plan}
-use Rattle.planning.specs.Planned.{AreDivided, IsNext, LinkView, ToBuckets, all_breaks, all_directory, planned_bucket, planned_buckets}
+use Rattle.planning.specs.Planned.{LinkView, ToBuckets, all_breaks, all_directory, linked_to, planned_bucket, planned_buckets}
 use Rattle.buckets.specs.Plans.{rising, selection_of}
-use Rattle.planning.proofs.MorselsOfCuts.{counted_in, divided_rows, input_of, partition_is, partitions_are}
+use Rattle.planning.proofs.MorselsOfCuts.{counted_in, input_of, partition_is, partitions_are}
 
 -- ---- a plan's buckets
 
@@ -71,20 +72,17 @@ no_rows : (as_of : Option ℕ) (n number : ℕ) → n ≤ number → (morsels : 
 no_rows as_of n number past morsels =
     partitions_are as_of n number (λ rows. no_rows_in) (λ rows. partition_past n rows number past) morsels ∙ simp (flat_map-map, flat_map_none)
 
--- each partition of the total of morsels of a cut that follow each other has its rows by place, also if it is divided
+-- each partition of the total of morsels of a cut that follow each other has its rows by place
 pub rows_by_place : (total : ScanTotalView) → IsTotal (λ inputs total. total ≡ total_of inputs) AreOfOneCut total
-    → (pieces : ℕ) (divided : List MorselRowsView) → 0 < pieces → AreDivided pieces total.morsels divided
-    → (number : ℕ) → AreRowsByPlace (joined_partitions (map (partition_at number) divided))
-rows_by_place total (inputs, cut, is) pieces divided some are number =
+    → (number : ℕ) → AreRowsByPlace (joined_partitions (map (partition_at number) total.morsels))
+rows_by_place total (inputs, cut, is) number =
     let morsels = numbered cut.first cut.start cut.runs in
-    let n = cut.parts * pieces in
+    let n = cut.parts in
     let frames = flat_map frames_of morsels in
     let stands : StandsFrom cut.start frames (concat cut.runs) = frames_of_runs cut.first cut.start cut.runs cut.each in
     let by_place = counted_by_place cut.as_of (messages_of frames) (messages_by_place frames (places_rise cut.start frames stands.places)) in
     let few = few_trades cut.as_of (concat cut.runs) frames stands (omega (arith, cut.within)) in
-    let rows = divided_rows cut.as_of cut.parts pieces morsels divided cut.some
-    (subst (λ (t : ScanTotalView). AreDivided pieces t.morsels divided) (is ∙ ap total_of cut.are) are) in
-    subst (λ (l : List MorselRowsView). AreRowsByPlace (joined_partitions (map (partition_at number) l))) (sym rows)
+    subst (λ (t : ScanTotalView). AreRowsByPlace (joined_partitions (map (partition_at number) t.morsels))) (sym (is ∙ ap total_of cut.are))
     (⊎_elim
     (λ below. subst AreRowsByPlace (sym (partition_is cut.as_of n number below morsels))
     (partition_by_place n number (counted_in cut.as_of n morsels) by_place few))
@@ -93,25 +91,22 @@ rows_by_place total (inputs, cut, is) pieces divided some are number =
 -- ---- what is linked
 
 -- buckets only if no length is wrong
-pub next_of : {link : LinkView} {morsels : List MorselRowsView} {inputs : List BucketView} {kept : List DirectoryRow} (wrong : Option WrongLength)
-    → MatchOption wrong (IsNext link morsels (Next inputs kept)) (λ w. Next inputs kept ≡ Halt w) → (wrong ≡ None) × IsNext link morsels (Next inputs kept)
-next_of None next = (refl, next)
-next_of (Some w) e = absurd (cc)
+pub next_of : (link : LinkView) (total : ScanTotalView) {inputs : List BucketView} {kept : List DirectoryRow} → Next inputs kept ≡ linked_to link total
+    → (total.wrong ≡ None) × (inputs ≡ planned_buckets link.query total.morsels link.parts) × (kept ≡ all_directory total.morsels)
+next_of link total {inputs} {kept} = by total.wrong refl
+  where
+    by : (wrong : Option WrongLength) → total.wrong ≡ wrong
+        → ◌≡◌ {A = ToBuckets} (Next inputs kept) (option_map_or Halt wrong (Next (planned_buckets link.query total.morsels link.parts) (all_directory total.morsels)))
+        → (total.wrong ≡ None) × (inputs ≡ planned_buckets link.query total.morsels link.parts) × (kept ≡ all_directory total.morsels)
+    by None none e = (none, cc, cc)
+    by (Some w) some e = absurd (cc)
 
 -- and a wrong length only if it is that of the total
-pub halt_of : (link : LinkView) (morsels : List MorselRowsView) {stop : WrongLength} (wrong : Option WrongLength)
-    → MatchOption wrong (IsNext link morsels (Halt stop)) (λ w. ◌≡◌ {A = ToBuckets} (Halt stop) (Halt w)) → wrong ≡ Some stop
-halt_of link morsels None next = let no = next.is in absurd (cc)
-halt_of link morsels {stop = stop} (Some w) e = let same : stop ≡ w = cc in ap Some (sym same)
-
--- the buckets of divided partitions are those of as many partitions
-pub next_is : (as_of : Option ℕ) (n : ℕ) (morsels : List MorselView) {link : LinkView} {inputs : List BucketView} {kept : List DirectoryRow} → 0 < n
-    → (next : IsNext link (total_of (map (input_of as_of n) morsels)).morsels (Next inputs kept))
-    → (inputs ≡ planned_buckets link.query (total_of (map (input_of as_of (n * next.pieces)) morsels)).morsels (link.parts * next.pieces))
-    × (kept ≡ all_directory (total_of (map (input_of as_of (n * next.pieces)) morsels)).morsels)
-next_is as_of n morsels {link} {inputs} {kept} some next =
-    let rows = divided_rows as_of n next.pieces morsels next.divided some next.are in
-    let same = next.is in
-    let buckets : inputs ≡ planned_buckets link.query next.divided (link.parts * next.pieces) = cc in
-    let names : kept ≡ all_directory next.divided = cc in
-    (buckets ∙ ap (λ l. planned_buckets link.query l (link.parts * next.pieces)) rows, names ∙ ap all_directory rows)
+pub halt_of : (link : LinkView) (total : ScanTotalView) {stop : WrongLength} → Halt stop ≡ linked_to link total → total.wrong ≡ Some stop
+halt_of link total {stop} = by total.wrong
+  where
+    by : (wrong : Option WrongLength)
+        → ◌≡◌ {A = ToBuckets} (Halt stop) (option_map_or Halt wrong (Next (planned_buckets link.query total.morsels link.parts) (all_directory total.morsels)))
+        → wrong ≡ Some stop
+    by None e = absurd (cc)
+    by (Some w) e = let same : stop ≡ w = cc in ap Some (sym same)

@@ -1,7 +1,5 @@
 -- The total of all morsels has the rows of the messages of all their frames, and the first wrong length.
-use Rattle.std.proofs.Common.{◌≡◌, ℕ, ◌<◌, ◌*◌, List, [], ◌∷◌, Option, option_map, filter, filter_map, flat_map, map, refl}
-use Rattle.std.proofs.Common.{◌++◌, append_assoc, append-nil, arith, sym, ap, ap₂, ◌∙◌}
-use Rattle.std.proofs.lemmas.List.{map_push}
+use Rattle.std.proofs.Common.{◌≡◌, ℕ, ◌<◌, List, [], ◌∷◌, Option, option_map, filter, filter_map, flat_map, map, refl, arith, sym, ap, ◌∙◌}
 use Rattle.std.proofs.lemmas.List.Folds.{flat_map-map}
 use Rattle.std.proofs.lemmas.Simd.{map-map}
 use Rattle.itch_messages.specs.Body.{has_wrong_length, length_fault_of}
@@ -18,7 +16,7 @@ use Rattle.morsel_rows.specs.Partitions.{MorselRowsView, PartitionView, in_parti
 use Rattle.morsel_rows.proofs.JoinedPartitions.{joined_parts, partition_at_is}
 use Rattle.scanning.specs.Scans.{ScanInputView, scanned, total_of, wrong_at, wrong_in}
 use Rattle.scanning.specs.declared.wrong.WrongLength.{WrongLength}
-use Rattle.planning.specs.Planned.{AreDivided, all_breaks, all_directory}
+use Rattle.planning.specs.Planned.{all_breaks, all_directory}
 
 -- what is told of a frame whose length is wrong
 abbrev pub told_of : PlacedBody → WrongLength
@@ -33,41 +31,6 @@ wrong_is_first frames =
     told : (fs : List PlacedBody) → filter_map wrong_at fs ≡ map told_of (filter (λ f. has_wrong_length f.body) fs)
     told [] = refl
     told (f ∷ fs) = let more = told fs in grind arith
-
--- of morsels, those so far are divided, and the others are left
-abbrev pub DividedSoFar : ℕ → List MorselRowsView → List MorselRowsView → List MorselRowsView → Type 0
-DividedSoFar pieces all done left =
-    (n : ℕ) (rows : List DayRows) → 0 < n → all ≡ map (in_partitions n) rows
-    → (front back : List DayRows) × (rows ≡ front ++ back) × (left ≡ map (in_partitions n) back) × (done ≡ map (in_partitions (n * pieces)) front)
-
-pub divided_more : (pieces : ℕ) {all done left more : List MorselRowsView} {one two : MorselRowsView} → DividedSoFar pieces all done more → more ≡ one ∷ left
-    → ((n : ℕ) (rows : DayRows) → 0 < n → one ≡ in_partitions n rows → two ≡ in_partitions (n * pieces) rows)
-    → DividedSoFar pieces all (done ++ two ∷ []) left
-divided_more pieces {done = done} {left = left} {one = one} {two = two} so_far first divides n rows some is =
-    let (front, back, split, rest, made) = so_far n rows some is in go front back split (sym first ∙ rest) made
-  where
-    go : (front back : List DayRows) → rows ≡ front ++ back → one ∷ left ≡ map (in_partitions n) back → done ≡ map (in_partitions (n * pieces)) front
-        → (front back : List DayRows) × (rows ≡ front ++ back) × (left ≡ map (in_partitions n) back)
-        × (done ++ two ∷ [] ≡ map (in_partitions (n * pieces)) front)
-    go front [] split rest made = absurd (cc)
-    go front (day ∷ back) split rest made =
-        let here : one ≡ in_partitions n day = cc in
-        let others : left ≡ map (in_partitions n) back = cc in (
-          front ++ day ∷ [],
-          back,
-          split ∙ sym (append_assoc front (day ∷ []) back),
-          others,
-          ap₂ (λ l d. l ++ d ∷ []) made (divides n day some here) ∙ sym (map_push (in_partitions (n * pieces)) front day),
-        )
-
-pub divided_all : (pieces : ℕ) {all done left : List MorselRowsView} → DividedSoFar pieces all done left → left ≡ [] → AreDivided pieces all done
-divided_all pieces {done = done} so_far none n rows some is =
-    let (front, back, split, rest, made) = so_far n rows some is in go front back split (sym none ∙ rest) made
-  where
-    go : (front back : List DayRows) → rows ≡ front ++ back → [] ≡ map (in_partitions n) back → done ≡ map (in_partitions (n * pieces)) front
-        → done ≡ map (in_partitions (n * pieces)) rows
-    go front [] split rest made = made ∙ ap (map (in_partitions (n * pieces))) (sym (split ∙ append-nil front))
-    go front (day ∷ back) split rest made = absurd (cc)
 
 module _ (as_of : Option ℕ) (n : ℕ) where
   -- what is scanned of a morsel
@@ -97,12 +60,6 @@ module _ (as_of : Option ℕ) (n : ℕ) where
 
   rows_are : (morsels : List MorselView) → (total_of (map input_of morsels)).morsels ≡ map (in_partitions n) (rows_of_each morsels)
   rows_are morsels = grind (arith, map-map)
-
-  -- divided, they are those of as many partitions
-  pub divided_rows : (pieces : ℕ) (morsels : List MorselView) (divided : List MorselRowsView) → 0 < n
-      → AreDivided pieces (total_of (map input_of morsels)).morsels divided
-      → divided ≡ (total_of (map (λ morsel. record { morsel = morsel; as_of = as_of; parts = n * pieces }) morsels)).morsels
-  divided_rows pieces morsels divided some are = let more = are n (rows_of_each morsels) some (rows_are morsels) in grind (arith, map-map, more)
 
   -- the partitions of all morsels at a number are joined of what stands there in each
   pub partitions_are : (b : ℕ) (one : DayRows → PartitionView) → ((rows : DayRows) → partition_at b (in_partitions n rows) ≡ one rows)

@@ -1,14 +1,14 @@
 -- What the total of all morsels is linked to: its wrong length, or a bucket of each partition.
 -- To be believed of a crate used by itself: the answer isn't defined by morsels and buckets.
-use Rattle.std.specs.Prelude.{◌≡◌, ℕ, ◌<◌, ◌*◌, Bool, false, List, MatchOption, map}
+use Rattle.std.specs.Prelude.{ℕ, List, map}
 use Rattle.std.specs.List.{flat_map}
+use Rattle.std.specs.Option.{option_map_or}
 use Rattle.lists.specs.Least.{numbers_below}
 use Rattle.row_types.specs.declared.directory.DirectoryRow.{DirectoryRow}
 use Rattle.meaning.specs.Meaning.{Meaning}
-use Rattle.day_rows.specs.DayRows.{DayRows}
 use Rattle.gathering.specs.declared.linked.Linked.{Linked}
 use Rattle.gathering.specs.declared.linked.Linked.TheVariants.{Next, Halt}
-use Rattle.morsel_rows.specs.Partitions.{MorselRowsView, in_partitions, partition_at}
+use Rattle.morsel_rows.specs.Partitions.{MorselRowsView, partition_at}
 use Rattle.scanning.specs.Scans.{ScanTotalView}
 use Rattle.scanning.specs.declared.wrong.WrongLength.{WrongLength}
 use Rattle.buckets.specs.BucketRows.{BucketView}
@@ -36,31 +36,17 @@ planned_bucket query morsels number = record {
 abbrev pub planned_buckets : Meaning → List MorselRowsView → ℕ → List BucketView
 planned_buckets query morsels parts = map (planned_bucket query morsels) (numbers_below parts)
 
--- a query, how many partitions there are, and whether they may be divided
+-- a query, and how many partitions there are
 pub record LinkView : Type 0 where
   pub query : Meaning
   pub parts : ℕ
-  pub divides : Bool
-
--- the same rows in this many times as many partitions, if all are in as many
-abbrev pub AreDivided : ℕ → List MorselRowsView → List MorselRowsView → Type 0
-AreDivided pieces old new =
-    (n : ℕ) (rows : List DayRows) → 0 < n →
-    old ≡ map (in_partitions n) rows → new ≡ map (in_partitions (n * pieces)) rows
 
 -- the buckets in order and the rows of the directory, or a wrong length
 abbrev pub ToBuckets : Type 0
 ToBuckets = Linked (List BucketView) (List DirectoryRow) WrongLength
 
--- the buckets of the rows, of which each partition may be divided into pieces, and the rows of the directory
-pub record IsNext (link : LinkView) (morsels : List MorselRowsView) (linked : ToBuckets) : Type 0 where
-  pub pieces : ℕ
-  pub some : 0 < pieces
-  pub whole : link.divides ≡ false → pieces ≡ 1
-  pub divided : List MorselRowsView
-  pub are : AreDivided pieces morsels divided
-  pub is : linked ≡ Next (planned_buckets link.query divided (link.parts * pieces)) (all_directory divided)
-
--- what a total is linked to: its wrong length, if it has one
-abbrev pub IsLinkedTo : LinkView → ScanTotalView → ToBuckets → Type 0
-IsLinkedTo link total linked = MatchOption total.wrong (IsNext link total.morsels linked) (λ wrong. linked ≡ Halt wrong)
+-- what a total is linked to: its wrong length, if it has one, and else the buckets of its rows
+abbrev pub linked_to : LinkView → ScanTotalView → ToBuckets
+linked_to link total =
+    option_map_or Halt total.wrong
+    (Next (planned_buckets link.query total.morsels link.parts) (all_directory total.morsels))

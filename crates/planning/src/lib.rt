@@ -2,7 +2,6 @@
 #![tactic(auto)]
 
 mod kept;
-mod pieces;
 mod plan_link;
 mod plan_making;
 

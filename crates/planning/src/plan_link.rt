@@ -1,16 +1,14 @@
 //! From the total of all morsels to the buckets.
-ghost use Rattle.std.specs.Prelude.{◌≡◌, ℕ, ◌<◌, ◌≤◌, false, true, IfOk, List, map};
-ghost use Rattle.std.specs.Option.{IfSome};
+ghost use Rattle.std.specs.Prelude.{◌≡◌, ℕ, ◌≤◌, IfOk, map};
 ghost use Rattle.std.specs.Arc.{arc_value};
+ghost use Rattle.gathering.specs.declared.linked.Linked.TheVariants.{Next};
 ghost use Rattle.lists.specs.declared.limits.TheConstants.{MOST_PARTITIONS};
-ghost use Rattle.morsel_rows.specs.Partitions.{AreRowsByPlace, MorselRowsView, joined_partitions, partition_at};
-ghost use Rattle.planning.specs.declared.pieces.TheConstants.{MOST_PIECES};
-ghost use Rattle.planning.specs.Planned.{AreDivided, IsLinkedTo, IsNext, LinkView};
+ghost use Rattle.morsel_rows.specs.Partitions.{AreRowsByPlace, joined_partitions, partition_at};
+ghost use Rattle.planning.specs.Planned.{LinkView, all_directory, linked_to, planned_buckets};
 
 use crate::OutOfMemory;
 use crate::kept::DayPlan;
-use crate::pieces::pieces_of;
-use crate::plan_making::{buckets_of, directory_of, divided, plan};
+use crate::plan_making::{buckets_of, directory_of, plan};
 use buckets::{BucketWork, DayNames};
 use gathering::{Inputs, Link, Linked};
 use meaning::Query;
@@ -26,14 +24,12 @@ use std::sync::Arc;
 pub struct PlanLink<'a> {
     query: &'a Query,
     parts: u32,
-    /// Whether partitions may be divided first.
-    divides: bool,
 }
 
 impl<'a> Model for PlanLink<'a> {
     ghost Value = { LinkView };
 
-    ghost view = { λ link. record { query = link.query.now; parts = link.parts; divides = link.divides } };
+    ghost view = { λ link. record { query = link.query.now; parts = link.parts } };
 
     ghost invariant = { λ link. link.parts ≤ MOST_PARTITIONS };
 }
@@ -43,46 +39,9 @@ impl<'a> PlanLink<'a> {
     /// of a partition past the last bucket would be in none.
     pub fn new(query: &'a Query, parts: u32) -> Self
         requires { parts ≤ MOST_PARTITIONS }
-        ensures { result ≡ record { query = query.now; parts = parts; divides = false } }
+        ensures { result ≡ record { query = query.now; parts = parts } }
     {
-        PlanLink {
-            query,
-            parts,
-            divides: false,
-        }
-    }
-
-    /// The link of a query to `parts` buckets, or to several times as many if one partition has many more orders than
-    /// the others, so that threads can share its work.
-    pub fn dividing(query: &'a Query, parts: u32) -> Self
-        requires { parts ≤ MOST_PARTITIONS }
-        ensures { result ≡ record { query = query.now; parts = parts; divides = true } }
-    {
-        PlanLink {
-            query,
-            parts,
-            divides: true,
-        }
-    }
-
-    /// The rows, of which each partition may be divided into pieces, and into how many it is.
-    fn divided(
-        &self,
-        alloc: Global,
-        morsels: Vec<Arc<MorselRows, Global>>,
-    ) -> Result<(Vec<Arc<MorselRows, Global>>, u32), OutOfMemory>
-        ensures rows { IfOk result (λ (rows, pieces).
-            AreDivided pieces (map arc_value morsels.items) (map arc_value rows.items)) }
-        ensures whole { IfOk result (λ (rows, pieces). self.now.divides ≡ false → pieces ≡ 1) }
-        ensures few { IfOk result (λ (rows, pieces). (0 < pieces) × (pieces ≤ MOST_PIECES)) }
-    {
-        if !self.divides {
-            return Ok((morsels, 1));
-        }
-        match pieces_of(&morsels, self.parts) {
-            Some(pieces) => Ok((divided(alloc, morsels, pieces)?, pieces)),
-            None => Ok((morsels, 1)),
-        }
+        PlanLink { query, parts }
     }
 
     /// The buckets of the rows of all morsels, and the names and the plan.
@@ -91,15 +50,15 @@ impl<'a> PlanLink<'a> {
         alloc: Global,
         morsels: Vec<Arc<MorselRows, Global>>,
     ) -> Result<Linked<Inputs<BucketWork>, DayPlan, WrongLength>, OutOfMemory>
-        requires { (pieces : ℕ) (divided : List MorselRowsView) → 0 < pieces →
-            AreDivided pieces (map arc_value morsels.items) divided →
-            (number : ℕ) → AreRowsByPlace (joined_partitions (map (partition_at number) divided)) }
-        ensures { IfOk result (IsNext self.now (map arc_value morsels.items)) }
+        requires { (number : ℕ) → AreRowsByPlace
+            (joined_partitions (map (partition_at number) (map arc_value morsels.items))) }
+        ensures { IfOk result (λ linked. linked ≡ Next
+            (planned_buckets self.now.query (map arc_value morsels.items) self.now.parts)
+            (all_directory (map arc_value morsels.items))) }
     {
-        let (rows, pieces) = self.divided(alloc, morsels)?;
-        let names = DayNames::build(alloc, directory_of(alloc, &rows)?)?;
-        let plan = Arc::new(alloc, plan(alloc, rows, &names, self.query)?)?;
-        let inputs = Inputs::of(buckets_of(alloc, &plan, self.parts * pieces)?);
+        let names = DayNames::build(alloc, directory_of(alloc, &morsels)?)?;
+        let plan = Arc::new(alloc, plan(alloc, morsels, &names, self.query)?)?;
+        let inputs = Inputs::of(buckets_of(alloc, &plan, self.parts)?);
         Ok(Linked::Next {
             inputs,
             kept: DayPlan { names, plan },
@@ -112,7 +71,7 @@ impl<'a> Link<ScanWork, BucketWork> for PlanLink<'a> {
 
     type Stop = WrongLength;
 
-    ghost Links = { IsLinkedTo };
+    ghost Links = { λ link total linked. linked ≡ linked_to link total };
 
     fn link(
         &self,

@@ -1,11 +1,11 @@
 //! What all buckets share, and the buckets.
-ghost use Rattle.std.specs.Prelude.{◌≡◌, ℕ, ◌<◌, IfOk, map};
+ghost use Rattle.std.specs.Prelude.{◌≡◌, ℕ, IfOk, map};
 ghost use Rattle.std.specs.Arc.{arc_value};
 ghost use Rattle.lists.specs.Least.{numbers_below};
 ghost use Rattle.meaning.specs.Meaning.{HasWidth};
 ghost use Rattle.morsel_rows.specs.Partitions.{AreRowsByPlace, joined_partitions};
 ghost use Rattle.buckets.specs.BucketRows.{bucket_of, planned_rows};
-ghost use Rattle.planning.specs.Planned.{AreDivided, all_breaks, all_directory};
+ghost use Rattle.planning.specs.Planned.{all_breaks, all_directory};
 ghost use Rattle.buckets.specs.Plans.{rising, selection_of};
 
 use crate::OutOfMemory;
@@ -63,23 +63,6 @@ pub(crate) fn plan(
         selection,
         what: query.what,
     })
-}
-
-/// The rows of each morsel in `pieces` times as many partitions. Each morsel is freed once it is divided, if nobody
-/// else has it.
-pub(crate) fn divided(
-    alloc: Global,
-    morsels: Vec<Arc<MorselRows, Global>>,
-    pieces: u32,
-) -> Result<Vec<Arc<MorselRows, Global>>, OutOfMemory>
-    requires { 0 < pieces }
-    ensures { IfOk result (λ rows. AreDivided pieces (map arc_value morsels.items) (map arc_value rows.items)) }
-{
-    let mut rows = Vec::with_capacity(alloc, morsels.len())?;
-    for morsel in morsels {
-        rows.push(Arc::new(alloc, morsel.divided(alloc, pieces)?)?)?;
-    }
-    Ok(rows)
 }
 
 /// The buckets of a plan, in order: one of each partition.

@@ -1,5 +1,5 @@
 -- What the two pipelines give on threads comes of the scans of a cut.
-use Rattle.std.proofs.Common.{◌≡◌, ℕ, ◌<◌, ◌*◌, true, List, Option, Result, Err, sym, subst, ap, ◌∙◌}
+use Rattle.std.proofs.Common.{◌≡◌, ℕ, ◌<◌, List, Result, Err, subst, ap, ◌∙◌}
 use Rattle.std.specs.List.{concat}
 use Rattle.row_types.specs.declared.directory.DirectoryRow.{DirectoryRow}
 use Rattle.meaning.specs.Meaning.{Meaning}
@@ -10,34 +10,27 @@ use Rattle.gathering.specs.declared.linked.Linked.TheVariants.{Next, Halt}
 use Rattle.pipelines.specs.Outcomes.{IsOutcome}
 use Rattle.pipelines.specs.declared.outcome.Outcome.{Outcome}
 use Rattle.pipelines.specs.declared.outcome.Outcome.TheVariants.{Finished, Stopped}
-use Rattle.scanning.specs.Scans.{ScanTotalView, inputs_of, total_of}
+use Rattle.scanning.specs.Scans.{ScanTotalView}
 use Rattle.scanning.specs.declared.wrong.WrongLength.{WrongLength}
 use Rattle.buckets.specs.BucketRows.{BucketView}
 use Rattle.buckets.specs.Buckets.{total_found}
 use Rattle.buckets.specs.FoundRows.{TotalView}
 use Rattle.joining.specs.Gathered.{AreGatheredOf}
-use Rattle.planning.specs.Planned.{IsLinkedTo, LinkView}
-use Rattle.planning.proofs.LinkedBuckets.{halt_of, next_is, next_of}
-use Rattle.planning.proofs.MorselsOfCuts.{wrong_is}
-use Rattle.day_file.specs.Kept.{numbered}
-use Rattle.std.proofs.lemmas.Nat.{mul-lt}
+use Rattle.planning.specs.Planned.{LinkView, linked_to}
+use Rattle.planning.proofs.LinkedBuckets.{halt_of, next_of}
 use Rattle.runs.specs.Steps.{IsOutcomeOf, IsScanOf}
 use Rattle.runs.proofs.CutAnswers.{answered_by, gathered_by, halted_by, messages as messages_of, wrong_fault}
 
 abbrev pub Pair : Type 0
 Pair = Outcome TotalView (List DirectoryRow) WrongLength
 
--- the link by which all calls go on: it may divide partitions
+-- the link by which all calls go on
 abbrev pub link_of : Meaning → ℕ → LinkView
-link_of query parts = record { query = query; parts = parts; divides = true }
+link_of query parts = record { query = query; parts = parts }
 
 -- by this link a pair may give this for a first total of which this is known
 abbrev pub IsGiven : (ScanTotalView → Type 0) → LinkView → Pair → Type 0
-IsGiven IsFirst to = IsOutcome IsFirst (IsLinkedTo to) (λ (inputs : List BucketView) (t : TotalView). t ≡ total_found inputs)
-
--- the same length is wrong, whatever the number of partitions
-same_wrong : (as_of : Option ℕ) (n m : ℕ) (runs : List (List ℕ)) → (total_of (inputs_of as_of n runs)).wrong ≡ (total_of (inputs_of as_of m runs)).wrong
-same_wrong as_of n m runs = wrong_is as_of n (numbered 0 0 runs) ∙ sym (wrong_is as_of m (numbered 0 0 runs))
+IsGiven IsFirst to = IsOutcome IsFirst (λ total linked. linked ≡ linked_to to total) (λ (inputs : List BucketView) (t : TotalView). t ≡ total_found inputs)
 
 -- what a pair gives for the scans of a cut
 pub given_of : {query : Meaning} {parts : ℕ} {runs : List (List ℕ)} {to : LinkView} {IsFirst : ScanTotalView → Type 0} (r : Pair)
@@ -46,12 +39,12 @@ pub given_of : {query : Meaning} {parts : ℕ} {runs : List (List ℕ)} {to : Li
 given_of {parts = parts} (Finished total kept) (first, inputs, is, links, found) linked some scan = record {
   parts = parts;
   some = some;
-  is = (first, inputs, scan first is, subst (λ (l : LinkView). IsLinkedTo l first (Next inputs kept)) linked links, found);
+  is = (first, inputs, scan first is, subst (λ (l : LinkView). Next inputs kept ≡ linked_to l first) linked links, found);
 }
 given_of {parts = parts} (Stopped stop) (first, is, links) linked some scan = record {
   parts = parts;
   some = some;
-  is = (first, scan first is, subst (λ (l : LinkView). IsLinkedTo l first (Halt stop)) linked links);
+  is = (first, scan first is, subst (λ (l : LinkView). Halt stop ≡ linked_to l first) linked links);
 }
 
 module _ {query : Meaning} {runs : List (List ℕ)} where
@@ -61,12 +54,10 @@ module _ {query : Meaning} {runs : List (List ℕ)} where
       × ((told : Result (List ℕ) DayFault) → IsAnswerToMessages messages query told → IsAnswer (concat runs) query told)
   finished {total} {kept} of =
       let (first, inputs, scan, linked, found) = of.is in
-      let (right, next) = next_of _ (subst (λ (s : ScanTotalView). IsLinkedTo (link_of query of.parts) s (Next inputs kept)) scan.is linked) in
-      let (buckets, names) = next_is query.as_of of.parts (numbered 0 0 runs) of.some next in
-      let n = of.parts * next.pieces in (
-        messages_of runs query n,
-        gathered_by runs query n scan.are total kept (mul-lt 0 0 of.parts next.pieces of.some next.some) (found ∙ ap total_found buckets) names,
-        λ told. answered_by runs query n scan.are told (same_wrong query.as_of n of.parts runs ∙ right),
+      let (right, buckets, names) = next_of (link_of query of.parts) _ (subst (λ (s : ScanTotalView). Next inputs kept ≡ linked_to (link_of query of.parts) s) scan.is linked) in (
+        messages_of runs query of.parts,
+        gathered_by runs query of.parts scan.are total kept of.some (found ∙ ap total_found buckets) names,
+        λ told. answered_by runs query of.parts scan.are told right,
       )
 
   -- this length is wrong
@@ -75,4 +66,4 @@ module _ {query : Meaning} {runs : List (List ℕ)} where
   stopped {stop} of told said =
       let (first, scan, linked) = of.is in
       halted_by runs query of.parts scan.are stop told
-      (halt_of _ _ _ (subst (λ (s : ScanTotalView). IsLinkedTo (link_of query of.parts) s (Halt stop)) scan.is linked)) said
+      (halt_of (link_of query of.parts) _ (subst (λ (s : ScanTotalView). Halt stop ≡ linked_to (link_of query of.parts) s) scan.is linked)) said

@@ -28,7 +28,7 @@ use Rattle.block_scan.specs.declared.block_source.BlockSource.{Ghosts as BlockSo
 use Rattle.buckets.specs.BucketRows.{BucketView}
 use Rattle.buckets.specs.Buckets.{total_found}
 use Rattle.buckets.specs.FoundRows.{TotalView}
-use Rattle.planning.specs.Planned.{IsLinkedTo, LinkView, ToBuckets}
+use Rattle.planning.specs.Planned.{LinkView, ToBuckets, linked_to}
 
 -- what a refusal says of the words that should be a query
 abbrev pub IsQueryRefusal : List ℕ → RunFault → Type 0
@@ -51,13 +51,13 @@ pub record IsScanOf (first start : ℕ) (as_of : Option ℕ) (parts : ℕ) (runs
   pub are : AreRuns start runs
   pub is : total ≡ total_of (inputs_from first start as_of parts runs)
 
--- both pipelines gave this over a file that is cut into these runs, in some number of partitions, which may be divided
+-- both pipelines gave this over a file that is cut into these runs, in some number of partitions
 pub record IsOutcomeOf (query : Meaning) (outcome : Outcome TotalView (List DirectoryRow) WrongLength)
     (runs : List (List ℕ)) : Type 0 where
   pub parts : ℕ
   pub some : 0 < parts
   pub is : IsOutcome (IsScanOf 0 0 query.as_of parts runs)
-      (IsLinkedTo (record { query = query; parts = parts; divides = true }))
+      (λ total linked. linked ≡ linked_to (record { query = query; parts = parts }) total)
       (λ inputs total. total ≡ total_found inputs) outcome
 
 -- all that a source gave was read and may be answered over, and this is the total of the scans of its cut
@@ -81,7 +81,7 @@ module _ {S : Type 0} (device : BlockSourceOf S) where
   abbrev IsLinkedWhole : Asked S → LinkView → ToBuckets → Type 0
   IsLinkedWhole asked link linked =
       (total : ScanTotalView)
-      × IsScannedWhole device asked.source asked.request total × IsLinkedTo link total linked
+      × IsScannedWhole device asked.source asked.request total × (linked ≡ linked_to link total)
 
   -- what the attempts at all blocks are linked to: why the source gives no rows, or what a total of all it gave is
   abbrev pub IsLinked : Asked S → LinkView

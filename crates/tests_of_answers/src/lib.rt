@@ -17,8 +17,6 @@ mod crew_refusals;
 #[cfg(test)]
 mod devices;
 #[cfg(test)]
-mod divided;
-#[cfg(test)]
 mod gatherers;
 #[cfg(test)]
 mod refusals;

@@ -21,8 +21,6 @@ mod devices;
 #[cfg(test)]
 mod digests;
 #[cfg(test)]
-mod looking;
-#[cfg(test)]
 mod refusals;
 #[cfg(test)]
 mod scans;

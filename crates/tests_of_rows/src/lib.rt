@@ -10,8 +10,6 @@ mod breaks;
 #[cfg(test)]
 mod by_threads;
 #[cfg(test)]
-mod dividing;
-#[cfg(test)]
 mod far;
 #[cfg(test)]
 mod lines;

@@ -1,7 +1,8 @@
 //! The table of orders.
 use crate::rows::{forty_rows, hundred_rows, order_rows};
 use linked_list_allocator::LocalHeap;
-use order_table::{Built, OrderRow, OrderTable, Repeated, partition};
+use lists::limits::MOST_PARTITIONS;
+use order_table::{Built, OrderRow, OrderTable, Repeated, greatest_prime, partition};
 use std::alloc::{Allocator, Global};
 use std::test::Fail;
 
@@ -28,6 +29,23 @@ fn the_first_row_prices(rt: HostRuntime) -> Result<(), Fail> {
     };
     assert!(rt; built.repeated == Some(first));
     assert!(rt; partition(130, 64) == 2 && partition(130, 7) == 4 && partition(130, 1) == 0);
+    Ok(())
+}
+
+/// The primes up to the most partitions.
+const PRIMES: [u32; 54] = [
+    2, 3, 5, 7, 11, 13, 17, 19, 23, 29, 31, 37, 41, 43, 47, 53, 59, 61, 67, 71, 73, 79, 83, 89, 97,
+    101, 103, 107, 109, 113, 127, 131, 137, 139, 149, 151, 157, 163, 167, 173, 179, 181, 191, 193,
+    197, 199, 211, 223, 227, 229, 233, 239, 241, 251,
+];
+
+#[test]
+fn the_greatest_prime_of_each_number(rt: HostRuntime) -> Result<(), Fail> {
+    for most in 1..=MOST_PARTITIONS {
+        let want = PRIMES.iter().rev().find(|prime| **prime <= most);
+        let found = greatest_prime(most);
+        assert!(rt; found == *want.unwrap_or(&1), "{most}: {found}");
+    }
     Ok(())
 }
 

@@ -19,8 +19,8 @@ use std::thread::{self, Threads};
 
 /// Answers a query over a cut day file on threads: by two pipelines, each with the crew's workers.
 /// The first has a task for each morsel; the second, which doesn't run if a wrong length was found,
-/// has one for each of `parts` partitions, from 1 to 256, or several for each if one is much larger than
-/// the others. Neither the crew nor the gate, the cut or the partitions change the answer.
+/// has one for each of `parts` partitions, from 1 to 256. Neither the crew nor the gate, the cut or the
+/// partitions change the answer.
 ///
 /// It waits for its threads. It is refused if memory was refused to the caller's thread.
 pub fn answer<G: Gate, R: Threads + Wait + Sync>(
@@ -37,7 +37,7 @@ pub fn answer<G: Gate, R: Threads + Wait + Sync>(
 {
     let scans = scan_inputs(alloc, cut, query.as_of, parts)?;
     let inputs = Arc::new(alloc, scans)?;
-    let link = PlanLink::dividing(query, parts);
+    let link = PlanLink::new(query, parts);
     let outcome = run_pair(rt, alloc, inputs, &link, crew, gate)?;
     answer_of_outcome(rt, alloc, query, outcome, Some(crew))
 }

@@ -6,6 +6,7 @@ use crate::calls::answer::answer_of_outcome;
 use crate::calls::ends::{answer_of_fault, hand_over, query_of};
 use crate::calls::stream::scan_source;
 use answers::Answer;
+use order_table::greatest_prime;
 use outcomes::{RunFault, Settings};
 use pipelines::{FreeGate, run_second};
 use planning::PlanLink;
@@ -24,7 +25,7 @@ pub fn run<R: Threads + Wait + Sync, S: Source, K: Sink>(
     alloc: Global,
     source: &mut S,
     query_text: &str,
-    settings: Settings,
+    mut settings: Settings,
     sink: &mut K,
 ) -> Result<(), RunFault>
     requires source { S.has_failed source.old ≡ false }
@@ -35,6 +36,7 @@ pub fn run<R: Threads + Wait + Sync, S: Source, K: Sink>(
     ensures write_failed { K.has_failed sink.new ≡ is_write_failed result }
 {
     let query = query_of(alloc, query_text)?;
+    settings.parts = greatest_prime(settings.parts);
     let answer = answer_source(rt, alloc, source, &query, settings)?;
     hand_over(answer, sink)
 }
@@ -53,11 +55,11 @@ fn answer_source<R: Threads + Wait + Sync, S: Source>(
         query.now settings.limit result }
     ensures read_failed { S.has_failed source.new ≡ is_read_failed result }
 {
-    let (total, parts, crew) = match scan_source(rt, alloc, source, query.as_of, settings) {
+    let (total, crew) = match scan_source(rt, alloc, source, query.as_of, settings) {
         Ok(scanned) => scanned,
         Err(fault) => return answer_of_fault(fault, settings.limit),
     };
-    let link = PlanLink::dividing(query, parts);
+    let link = PlanLink::new(query, settings.parts);
     let outcome = run_second(rt, alloc, total, &link, crew, &FreeGate)?;
     let answer = answer_of_outcome(rt, alloc, query, outcome, crew)?;
     Ok(answer)

@@ -7,12 +7,13 @@ ghost use Rattle.runs.specs.Steps.{IsOutcomeOf};
 
 use crate::calls::answer::answer_of_outcome;
 use crate::calls::block_link::BlockLink;
-use crate::calls::ends::{answer_of_fault, hand_over, query_of};
+use crate::calls::ends::{answer_of_fault, crew_of, hand_over, query_of};
 use answers::Answer;
-use block_scan::{BlockSource, Division, SourceFault, block_inputs, partitions_of};
+use block_scan::{BlockSource, Division, SourceFault, block_inputs};
 use buckets::BucketTotal;
+use order_table::greatest_prime;
 use outcomes::{RunFault, Settings};
-use pipelines::{Crew, FreeGate, Gate, Outcome, run_both};
+use pipelines::{FreeGate, Gate, Outcome, run_both};
 use planning::{DayPlan, PlanLink};
 use query::Query;
 use scanning::WrongLength;
@@ -34,7 +35,7 @@ pub fn run_blocks<R: Threads + Wait + Sync, S: BlockSource + Send + Sync, K: Sin
     source: S,
     length: u64,
     query_text: &str,
-    settings: Settings,
+    mut settings: Settings,
     sink: &mut K,
 ) -> Result<(), RunFault>
     requires { K.has_failed sink.old ≡ false }
@@ -43,6 +44,7 @@ pub fn run_blocks<R: Threads + Wait + Sync, S: BlockSource + Send + Sync, K: Sin
     ensures write_failed { K.has_failed sink.new ≡ is_write_failed result }
 {
     let query = query_of(alloc, query_text)?;
+    settings.parts = greatest_prime(settings.parts);
     let division = Division::of(length, settings.crew.workers);
     let Ok(source) = Arc::new(alloc, source) else {
         return Err(RunFault::OutOfMemory);
@@ -75,15 +77,6 @@ pub fn answer_blocks<G: Gate, R: Threads + Wait + Sync, S: BlockSource + Send + 
     Ok(answer)
 }
 
-/// The crew for a source of more than one block. One block takes less time than threads would, and there is no crew.
-fn crew_of(division: Division, crew: Crew) -> Option<Crew> {
-    if division.blocks == 1 {
-        None
-    } else {
-        Some(crew)
-    }
-}
-
 /// What both pipelines give over the blocks of a source, or why it gives no rows.
 fn outcome_of_blocks<G: Gate, R: Threads + Wait + Sync, S: BlockSource + Send + Sync>(
     rt: &R,
@@ -100,12 +93,12 @@ fn outcome_of_blocks<G: Gate, R: Threads + Wait + Sync, S: BlockSource + Send + 
     ensures fault { IfErr result (IsBlocksFault S.BlockSource.own (arc_value source.now) settings.limit) }
 {
     let limit = settings.limit;
-    let parts = partitions_of(&**source, division, limit, settings.parts)?;
+    let parts = settings.parts;
     let inputs = block_inputs(alloc, source, query.as_of, parts, limit, division)?;
     let Ok(inputs) = Arc::new(alloc, inputs) else {
         return Err(SourceFault::OutOfMemory);
     };
-    let plan = PlanLink::dividing(query, parts);
+    let plan = PlanLink::new(query, parts);
     let link = BlockLink { plan };
     match run_both(
         rt,

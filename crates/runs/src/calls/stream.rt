@@ -6,37 +6,34 @@ ghost use Rattle.scanning.specs.Scans.{ScanTotalView, with_scans};
 ghost use Rattle.runs.specs.Steps.{IsBatchRead, IsScanOf, IsScanOfAll};
 
 use crate::OutOfMemory;
+use crate::calls::ends::crew_of;
+use block_scan::Division;
 use outcomes::Settings;
 use pipelines::{Crew, FreeGate, run_first};
-use scanning::{ReferenceSample, ScanTotal, batch_inputs};
+use scanning::{ScanTotal, batch_inputs};
 use std::alloc::Global;
 use std::sync::{Arc, Wait};
 use std::thread::{Threads, join_mut};
 use streaming::{Batch, BatchReader, Source, SourceFault};
 
-/// The crew isn't asked for fewer bytes: one thread takes less time over them than several take to be started.
-const SHORT: u64 = 2 << 20;
-
 /// How many bytes the morsels of a batch have, or a little more: enough that each worker has several of
 /// them, and little beside what a day's rows take.
 const BATCH: u64 = 32 << 20;
 
-/// What the scans of all that a source gives add up to, and in how many partitions the rows are: as many as the
-/// settings say, or another number that suits the references of the first batch. The source is read and cut
-/// batch by batch: the morsels of one are the tasks of a pipeline, while the caller reads the next one. So no more than
-/// two batches are in memory, and no bytes of those before. The crew comes back if the source is long enough for one:
-/// the caller's thread scans a short one alone. It waits for the threads.
+/// What the scans of all that a source gives add up to. The source is read and cut batch by batch: the morsels of one
+/// are the tasks of a pipeline, while the caller reads the next one. So no more than two batches are in memory, and no
+/// bytes of those before. The crew comes back if the source is long enough for one: the caller's thread scans a short
+/// one alone. It waits for the threads.
 pub(crate) fn scan_source<R: Threads + Wait + Sync, S: Source>(
     rt: &R,
     alloc: Global,
     source: &mut S,
     as_of: Option<u32>,
     settings: Settings,
-) -> Result<(ScanTotal, u32, Option<Crew>), SourceFault>
+) -> Result<(ScanTotal, Option<Crew>), SourceFault>
     requires source { S.has_failed source.old ≡ false }
-    ensures scanned { IfOk result (λ (total, parts, crew). IsScanOfAll
-        (of_stream S.Source settings.limit settings.morsel source.old source.new) as_of parts total) }
-    ensures parts { IfOk result (λ (total, parts, crew). (0 < parts) × (parts ≤ MOST_PARTITIONS)) }
+    ensures scanned { IfOk result (λ (total, crew). IsScanOfAll
+        (of_stream S.Source settings.limit settings.morsel source.old source.new) as_of settings.parts total) }
     ensures fault { IfErr result
         (IsSourceFault (of_stream S.Source settings.limit settings.morsel source.old source.new)) }
     ensures failed { IsErrOf result SourceFault.ReadFailed ↔ (S.has_failed source.new ≡ true) }
@@ -44,28 +41,16 @@ pub(crate) fn scan_source<R: Threads + Wait + Sync, S: Source>(
     let mut reader = BatchReader::new(alloc, settings.limit, settings.morsel, BATCH)?;
     let mut batch = reader.next_batch(source)?;
     let mut total = ScanTotal::empty(alloc);
-    let parts = partitions_of(&batch, settings.parts);
-    let is_short = batch.is_last && batch.cut.length() < SHORT;
-    let crew = if is_short { None } else { Some(settings.crew) };
+    let division = Division::of(batch.cut.length(), settings.crew.workers);
+    let crew = crew_of(division, settings.crew);
+    let parts = settings.parts;
     while !batch.is_last {
         let (scans, next) = scan_ahead(rt, alloc, &batch, as_of, parts, crew, &mut reader, source);
         batch = next?;
         take_in(&mut total, scans)?;
     }
     take_in(&mut total, scan(rt, alloc, &batch, as_of, parts, crew))?;
-    Ok((total, parts, crew))
-}
-
-/// The number of partitions that some references of the first batch ask for. A source of one batch has `parts`: the
-/// work of any partition takes some hundredths of a second.
-fn partitions_of(batch: &Batch, parts: u32) -> u32
-    requires { (0 < parts) × (parts ≤ MOST_PARTITIONS) }
-    ensures { (0 < result) × (result ≤ MOST_PARTITIONS) }
-{
-    if batch.is_last {
-        return parts;
-    }
-    ReferenceSample::of_cut(&batch.cut).partitions(parts)
+    Ok((total, crew))
 }
 
 /// Adds the scans of a batch to the total.

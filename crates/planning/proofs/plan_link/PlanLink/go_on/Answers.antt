@@ -1,8 +1,7 @@
-use Rattle.std.proofs.Common.{◌*◌, ap, ap₂, ◌∙◌, map, subst, sym, arith}
+use Rattle.std.proofs.Common.{ap, ap₂, ◌∙◌, map, subst, sym, arith}
 use Rattle.std.specs.Arc.{arc_value}
 use Rattle.std.proofs.lemmas.List.{length-map}
 use Rattle.std.proofs.lemmas.List.FromFn.{length-map-range_with_len}
-use Rattle.std.proofs.lemmas.Nat.{mul-le}
 use Rattle.morsel_rows.specs.Partitions.{AreRowsByPlace, joined_partitions}
 use Rattle.buckets.specs.Buckets.{AreNumbered}
 use Rattle.gathering.specs.declared.linked.Linked.TheVariants.{Next}
@@ -11,35 +10,26 @@ use Rattle.planning.proofs.LinkedBuckets.{IsPlanOf, buckets_are, buckets_numbere
 use Rattle.planning.proofs.plan_link.PlanLink.go_on.Goals as goal
 use Rattle.planning.proofs.plan_link.PlanLink.go_on.Goals.{In_ok-plan-2}
 
-planned : (c : In_ok-plan-2) → IsPlanOf c.args.self.now.query (map arc_value c.in_ok-rows.rows.items) (arc_value c.in_ok-plan-2.plan)
+planned : (c : In_ok-plan-2) → IsPlanOf c.args.self.now.query (map arc_value c.args.morsels.items) (arc_value c.in_ok-plan-2.plan)
 planned c =
     grind (arith, c.in_ok-plan.ensures, c.in_ok-plan-2.ensures.ok, c.self.view_is, c.in_ok-names.ensures, c.in_ok-directory_of.ensures, c.deref.ensures.value)
 
 pub buckets_of-requires-clause-rows : goal.buckets_of-requires-clause-rows
 buckets_of-requires-clause-rows c number =
     let of = planned (goal.at.buckets_of-requires-clause-rows c).In_ok-plan-2 in
-    subst (λ l. AreRowsByPlace (joined_partitions l)) (sym (planned_rows_are _ _ _ number of))
-    (c.requires _ _ c.in_ok-rows.ensures.few.0 c.in_ok-rows.ensures.rows number)
+    subst (λ l. AreRowsByPlace (joined_partitions l)) (sym (planned_rows_are _ _ _ number of)) (c.requires number)
 
 pub of-inputs-requires-clause-admissible : goal.of-inputs-requires-clause-admissible
 of-inputs-requires-clause-admissible c lifetimes =
     subst AreNumbered (sym c.in_ok-buckets_of.ensures) (buckets_numbered (arc_value c.in_ok-plan-2.plan) _)
 
 pub of-inputs-requires-clause-few : goal.of-inputs-requires-clause-few
-of-inputs-requires-clause-few c =
-    grind (arith, length-map, length-map-range_with_len, mul-le, c.in_ok-buckets_of.ensures, c.self.invariant, c.self.view_is, c.in_ok-rows.ensures.few)
+of-inputs-requires-clause-few c = grind (arith, length-map, length-map-range_with_len, c.in_ok-buckets_of.ensures, c.self.invariant)
 
 pub returns : goal.returns
 returns c =
-    let rows = map arc_value c.in_ok-rows.rows.items in
-    record {
-      pieces = c.in_ok-rows.pieces;
-      some = c.in_ok-rows.ensures.few.0;
-      whole = c.in_ok-rows.ensures.whole;
-      divided = rows;
-      are = c.in_ok-rows.ensures.rows;
-      is = ap₂ Next
-          (c.of-inputs.ensures ∙ c.in_ok-buckets_of.ensures ∙ buckets_are _ _ _ _ (planned (goal.at.returns c).In_ok-plan-2)
-          ∙ ap (λ (v : LinkView). planned_buckets c.args.self.now.query rows (v.parts * c.in_ok-rows.pieces)) c.self.view_is)
-          (c.in_ok-names.ensures ∙ c.in_ok-directory_of.ensures ∙ ap (λ l. all_directory (map arc_value l)) c.deref.ensures.value);
-    }
+    let morsels = map arc_value c.args.morsels.items in
+    ap₂ Next
+    (c.of-inputs.ensures ∙ c.in_ok-buckets_of.ensures ∙ buckets_are _ _ _ _ (planned (goal.at.returns c).In_ok-plan-2)
+    ∙ ap (λ (v : LinkView). planned_buckets c.args.self.now.query morsels v.parts) c.self.view_is)
+    (c.in_ok-names.ensures ∙ c.in_ok-directory_of.ensures ∙ ap (λ l. all_directory (map arc_value l)) c.deref.ensures.value)

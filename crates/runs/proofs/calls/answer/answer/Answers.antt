@@ -9,7 +9,7 @@ answer_of_outcome-requires-clause-outcome g c lifetimes within =
     let scans = c.in_ok-scans.ensures in
     let are = c.in_ok-inputs.ensures.ok ∙ scans.inputs ∙ ap (λ (m : Meaning). inputs_of m.as_of c.args.parts c.args.cut.now) c.query.view_is in (
       c.args.cut.now,
-      given_of _ c.in_ok-outcome.ensures c.dividing-link.ensures c.requires.parts.0
+      given_of _ c.in_ok-outcome.ensures c.new-link.ensures c.requires.parts.0
           (λ first is. record { are = scans.runs; is = is ∙ ap total_of are }),
     )
 
@@ -18,5 +18,5 @@ returns g c =
     let scans = c.in_ok-scans.ensures in
     let are = c.in_ok-inputs.ensures.ok ∙ scans.inputs ∙ ap (λ (m : Meaning). inputs_of m.as_of c.args.parts c.args.cut.now) c.query.view_is in
     c.answer_of_outcome.ensures c.args.cut.now
-    (given_of _ c.in_ok-outcome.ensures c.dividing-link.ensures c.requires.parts.0
+    (given_of _ c.in_ok-outcome.ensures c.new-link.ensures c.requires.parts.0
     (λ first is. record { are = scans.runs; is = is ∙ ap total_of are }))

@@ -1,5 +1,4 @@
-use Rattle.std.proofs.Common.{subst}
-use Rattle.planning.specs.Planned.{IsLinkedTo}
+use Rattle.std.proofs.Common.{◌∙◌, sym}
 use Rattle.block_scan.proofs.BlocksAndAttempts.{attempts_of}
 use Rattle.runs.proofs.BlocksScanned.{of_one_cut}
 use Rattle.runs.proofs.calls.block_link.BlockLinkLinkBlockWorkBucketWork.link.Goals as goal
@@ -19,5 +18,5 @@ pub returns-in-Next : goal.returns-in-Next
 returns-in-Next g c asked are = (
   c.in-Ok.scans,
   c.in-Ok.ensures.scanned asked are,
-  subst (IsLinkedTo _ c.in-Ok.scans) c.in-Next.is c.in_ok-inputs.ensures,
+  sym c.in-Next.is ∙ c.in_ok-inputs.ensures,
 )
