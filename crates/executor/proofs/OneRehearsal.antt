@@ -1,15 +1,15 @@
 -- Rehearsals over one cut, for one query, by the same schedules, tell the same.
-use Rattle.std.proofs.Common.{◌≡◌, ℕ, List, Option, Some, None, MatchOption, length, refl, subst}
+use Rattle.std.proofs.Common.{◌≡◌, ℕ, List, Result, Option, Some, None, MatchOption, length, refl, subst}
 use Rattle.std.specs.List.{concat}
 use Rattle.day_file.specs.Frames.{PlacedBody}
 use Rattle.day_file.proofs.Laws.{frames_are_one}
 use Rattle.meaning.specs.Meaning.{Meaning}
-use Rattle.answers.specs.Answers.{told_by}
+use Rattle.answers.specs.Answers.{DayFault, IsAnswer, told_by}
 use Rattle.day_rows.specs.Messages.{first_wrong}
 use Rattle.answers.proofs.OneAnswer.{answers_are_one}
 use Rattle.schedules.specs.Schedules.{first_left}
 use Rattle.schedules.specs.declared.event.Event.{Event}
-use Rattle.executor.specs.Rehearsals.{IsFinished, IsRehearsed, TellTheSame}
+use Rattle.executor.specs.Rehearsals.{IsFinished, IsRehearsed, Tells, TellTheSame}
 use Rattle.executor.specs.declared.rehearsing.Rehearsal.{Rehearsal}
 use Rattle.executor.specs.declared.rehearsing.Rehearsal.TheVariants.{Finished, Missing}
 
@@ -37,3 +37,9 @@ rehearsals_are_one runs query parts gatherers events1 events2 one other is is' =
     go None (Some w) second e f = one_finished (concat runs) query one other e f
     go None None (Some task) e f = rw (e, f) (refl, refl)
     go None None None e f = one_finished (concat runs) query one other e f
+
+-- a rehearsal that has the answer has this one
+pub finished_tells : (file : List ℕ) (query : Meaning) (told : Result (List ℕ) DayFault) (rehearsal : Rehearsal)
+    → IsAnswer file query told → IsFinished file query rehearsal → Tells rehearsal told
+finished_tells file query told (Finished answer) is finished = answers_are_one file query (told_by answer) told finished is
+finished_tells file query told (Missing pipeline task) is finished = absurd finished

@@ -1,6 +1,6 @@
 -- What a rehearsal over a cut day file gives.
 -- To be believed of a crate used by itself.
-use Rattle.std.specs.Prelude.{◌≡◌, ℕ, List, length, map, MatchOption}
+use Rattle.std.specs.Prelude.{◌≡◌, ℕ, List, Result, length, map, MatchOption}
 use Rattle.std.specs.List.{concat}
 use Rattle.lists.specs.Least.{numbers_below}
 use Rattle.day_file.specs.Frames.{PlacedBody, StandsFor}
@@ -8,7 +8,7 @@ use Rattle.meaning.specs.Meaning.{Meaning}
 use Rattle.schedules.specs.Schedules.{first_left}
 use Rattle.schedules.specs.declared.event.Event.{Event}
 use Rattle.schedules.specs.declared.event.Event.TheVariants.{Arrive}
-use Rattle.answers.specs.Answers.{IsAnswer, told_by}
+use Rattle.answers.specs.Answers.{DayFault, IsAnswer, told_by}
 use Rattle.day_rows.specs.Messages.{first_wrong}
 use Rattle.executor.specs.declared.rehearsing.Rehearsal.{Rehearsal}
 use Rattle.executor.specs.declared.rehearsing.Rehearsal.TheVariants.{Finished, Missing}
@@ -17,6 +17,11 @@ use Rattle.executor.specs.declared.rehearsing.Rehearsal.TheVariants.{Finished, M
 abbrev pub IsFinished : List ℕ → Meaning → Rehearsal → Type 0
 IsFinished file query (Finished answer) = IsAnswer file query (told_by answer)
 IsFinished file query (Missing pipeline task) = ⊥
+
+-- the rehearsal has this answer
+abbrev pub Tells : Rehearsal → Result (List ℕ) DayFault → Type 0
+Tells (Finished answer) told = told_by answer ≡ told
+Tells (Missing pipeline task) told = ⊥
 
 -- what a rehearsal gives: the first morsel that has not arrived; else, if a length of the file is wrong, the answer,
 -- which says so; else the first partition that has not arrived; else the answer

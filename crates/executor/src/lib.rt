@@ -8,7 +8,9 @@ mod rehearsal_laws;
 mod rehearsing;
 
 pub use answers::one_answer;
-pub use rehearsal_laws::{all_arrived_answers, each_once_answers, one_rehearsal};
+pub use rehearsal_laws::{
+    all_arrived_answers, each_once_answers, one_rehearsal, schedules_and_threads_agree,
+};
 pub use rehearsing::{Rehearsal, rehearse};
 pub use runs::{
     Answer, BlockSource, Counted, CountedSink, Crew, Cut, DayFault, DayFile, DeviceFailed,
