@@ -4,7 +4,6 @@
 //! own in that of their place; breaks and directory rows are few, and stand together.
 #![tactic(auto)]
 
-mod numbers;
 mod partition;
 mod rows;
 

@@ -6,10 +6,10 @@ ghost use Rattle.morsel_rows.specs.Partitions.{in_partitions, no_rows_in};
 ghost use Rattle.morsel_rows.specs.TakenPartitions.{HasTaken, rows_of_taken, rows_taken_at};
 
 use crate::OutOfMemory;
-use crate::numbers::{inverse_of, number_of};
 use crate::partition::Partition;
 use day_rows::{Row, counts, row_of};
 use itch_messages::Message;
+use order_table::partition;
 use row_types::{DirectoryRow, Execution, OrderRow, Sale};
 use std::alloc::{Allocator, Global};
 use std::marker::Model;
@@ -26,8 +26,6 @@ type Taken<A> = Vec<Option<Box<Partition<A>, A>>, A>;
 pub struct MorselRows<A: Allocator = Global> {
     /// How many partitions there are.
     parts: u32,
-    /// By what the partition of a row is estimated.
-    inverse: u64,
     /// Each partition that has taken memory, at its number; empty as long as there is none.
     partitions: Taken<A>,
     /// What is lent of a partition that has taken none.
@@ -62,7 +60,6 @@ impl<A: Allocator + Copy> MorselRows<A> {
         let partitions = with_rooms(alloc, parts, orders)?;
         Ok(MorselRows {
             parts,
-            inverse: inverse_of(parts),
             partitions,
             no_rows: Partition::new(alloc),
             breaks: Vec::new(alloc),
@@ -188,7 +185,7 @@ impl<A: Allocator + Copy> MorselRows<A> {
         ensures added { OnOk result (BecomesJoined (told (Some (Row.Order row))) self.old self.new) }
         ensures unchanged { OnErr result (self.new ≡ self.old) }
     {
-        let number = number_of(row.order_no, self.parts, self.inverse);
+        let number = partition(row.order_no, self.parts) as usize;
         begin(&mut self.partitions, self.parts, number)?;
         match &mut self.partitions[number] {
             Some(part) => part.push_order(row),
@@ -202,7 +199,7 @@ impl<A: Allocator + Copy> MorselRows<A> {
         ensures added { OnOk result (BecomesJoined (told (Some (Row.Execution row))) self.old self.new) }
         ensures unchanged { OnErr result (self.new ≡ self.old) }
     {
-        let number = number_of(row.order_no, self.parts, self.inverse);
+        let number = partition(row.order_no, self.parts) as usize;
         begin(&mut self.partitions, self.parts, number)?;
         match &mut self.partitions[number] {
             Some(part) => part.push_execution(row),
@@ -216,7 +213,7 @@ impl<A: Allocator + Copy> MorselRows<A> {
         ensures added { OnOk result (BecomesJoined (told (Some (Row.Sale row))) self.old self.new) }
         ensures unchanged { OnErr result (self.new ≡ self.old) }
     {
-        let number = number_of(row.place, self.parts, self.inverse);
+        let number = partition(row.place, self.parts) as usize;
         begin(&mut self.partitions, self.parts, number)?;
         match &mut self.partitions[number] {
             Some(part) => part.push_sale(row),
