@@ -20,8 +20,8 @@ def after(seconds, nanoseconds=0):
     return OPEN + seconds * SECOND + nanoseconds
 
 
-# One of each case that could go wrong. AB has two locates; 3 is renamed; 4 has no R; 5 has bytes that no name may have, and is a
-# test security; of 6 nothing says whether it is one.
+# One of each case that could go wrong. AB has two locates; 3 is renamed, and 9 twice; 4 has no R; 5 has bytes that no name may have,
+# and is a test security; of 6 nothing says whether it is one.
 EDGES = [
     frame(b""), message("S", 0, after(-1), "O"), named(1, "AB", 0), named(3, "OLD", 0),
     message("R", 5, 0, "A,B C", "Q", "N", 1, "N", "C", b"Z ", "T", "N", "N", "1", "N", 0, "N"),
@@ -51,6 +51,7 @@ EDGES = [
     trade(128, 1, after(61), 30_000), trade(128, 3, after(61), 30_100), broken(128, 1, after(62)), broken(128, 1, after(90)),
     broken(101, 1, after(62)), executed_at(1, 129, 30_200, 1, after(50)), broken(129, 1, after(3_600)),
     named(2, "AB", after(31)), named(3, "NEW", after(31)),
+    named(9, "BACK"), named(9, "GONE"), named(9, "BACK"),
     frame(b"Z" * 36), frame(b"Y"), trade(130, 1, 2**48 - 1, 30_300), message("S", 0, after(7 * 3_600), "C"), frame(b""),
 ]  # fmt: skip
 SYMBOLS = "AB OLD NEW A?B?C LONGNAME LONG ab #0 #1 #2 #4 #04 #65535 #65536".split()
