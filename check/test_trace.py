@@ -187,8 +187,9 @@ class Trace(Case):
             shown = self.traced(edges, *words.split())
             self.assertEqual(shown, wanted + "\n", words)
             self.holds_bytes(edges, shown)
-        to_a_nanosecond = self.traced(edges, "AB", "09:30:30.0", "09:30:30.000000001")
-        self.assertEqual(re.findall(r"^\d.*,(\d+)$", to_a_nanosecond, re.M), ["124"])
+        for span, numbers in (("30.0 30.000000001", ["124"]), ("29.5 30.1", ["124", "125"])):
+            shown = self.traced(edges, "AB", *(f"09:30:{it}" for it in span.split()))
+            self.assertEqual(re.findall(r"^\d.*,(\d+)$", shown, re.M), numbers)
 
     def test_faults_elsewhere(self):
         """A fault of frames is reported whatever is asked for; one of references if a trade that is asked for needs them."""
