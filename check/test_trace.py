@@ -6,11 +6,13 @@ import os
 import pty
 import random
 import re
+import select
+import subprocess
 import sys
 import unittest
 
 from itch import OPEN, SECOND, attributed, broken, cross, executed, executed_at, frame, message, named, order, padded, replaced, trade
-from run import EXAMPLE, TOP, Case, Ran, program, run
+from run import EXAMPLE, TOP, Case, comes, program, run
 
 TOOL, TEXTS = TOP / "bin/trace_sales", TOP / "check/test_trace.txt"
 WHOLE_DAY = "00:00:00", "24:00:00"
@@ -274,15 +276,16 @@ class Trace(Case):
     def test_progress(self):
         """A terminal shows after a second how much is read, in a line that is gone at the end; what is no terminal gets none."""
         leader, terminal = pty.openpty()
-        tool = f"{{ sleep 1.3; head -c 100000 /dev/zero; }} | {TOOL} - --names"
+        self.addCleanup(os.close, leader)
+        self.addCleanup(os.close, terminal)
         # (a session of its own, whose terminal is the first that it opens)
-        words = ["setsid", "sh", "-c", f"exec 2<>{os.ttyname(terminal)}; {tool}"]
-        self.assertEqual(run(*words), Ran(0, b"locate,name,place,messages,round_lot,test\n", b""))
-        shown = os.read(leader, 1000).decode()
-        self.assertRegex(shown, r"^(\d+ MB read, reading 1 of 1\x1b\[K\r)+\x1b\[K\r$")
-        self.assertEqual(run("sh", "-c", tool).errors, b"")
-        for it in (leader, terminal):
-            os.close(it)
+        words = ["setsid", "sh", "-c", f"exec 2<>{os.ttyname(terminal)}; exec {TOOL} - --names"]
+        with subprocess.Popen(words, stdin=subprocess.PIPE, stdout=subprocess.PIPE, bufsize=0) as tool:
+            self.addCleanup(tool.kill)
+            comes(lambda: tool.stdin.write(b"\0\0") and select.select([leader], [], [], 0.1)[0], "it says how much is read", 30)
+            self.assertEqual(tool.communicate(timeout=60), (b"locate,name,place,messages,round_lot,test\n", None))
+        self.assertRegex(os.read(leader, 1000).decode(), r"^(0 MB read, reading 1 of 1\x1b\[K\r)+\x1b\[K\r$")
+        self.assertEqual(run("sh", "-c", f"{{ head -c 2 /dev/zero; sleep 2; head -c 2 /dev/zero; }} | {TOOL} - --names").errors, b"")
 
 
 if __name__ == "__main__":
