@@ -41,7 +41,7 @@ EDGES = [
     executed_at(1, 110, 999_700, 1, after(3), printable="y"),
     executed_at(99, 111, 999_600, 2, after(3), printable=" "),
     trade(112, 1, after(4), 5), trade(113, 1, after(4), 0), trade(114, 1, after(4), 10_000, 0),
-    cross(115, 1, after(5), 1_000_200, 6_000_000_000),
+    cross(115, 1, after(5), 1_000_200, 2**33),
     cross(116, 1, after(5), 1_000_300, 0, sort="C"),
     cross(117, 2, after(5), 1_000_400, 7, sort="H"),
     broken(117, 0, after(6)), broken(109, 1, after(6)), broken(4_242, 1, after(6)),
@@ -54,7 +54,7 @@ EDGES = [
     broken(101, 1, after(62)), executed_at(1, 129, 30_200, 1, after(50)), broken(129, 1, after(3_600)),
     named(2, "AB", after(31)), named(3, "NEW", after(31)),
     named(9, "BACK"), named(9, "GONE"), named(9, "BACK"),
-    frame(b"Z" * 36), frame(b"Y"), trade(130, 1, 2**48 - 1, 30_300), message("S", 0, after(7 * 3_600), "C"), frame(b""),
+    frame(b"Z" * 36), frame(b"Y"), trade(130, 1, 2**48 - 1, 30_300), message("S", 0, 2**48 - 1, "C"), frame(b""),
 ]  # fmt: skip
 SYMBOLS = "AB OLD NEW A?B?C LONGNAME LONG ab #0 #1 #2 #4 #04 #65535 #65536".split()
 SPANS = [(f"09:{since}", f"09:{until}") for since, until in (("29:59", "30:00"), ("30:00", "30:01"), ("30:59", "31:01"))]
