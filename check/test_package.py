@@ -12,14 +12,15 @@ DOC = "share/doc/itch_bars"
 
 
 class Package(Case):
-    def packed(self, name, **more):
-        """The folder in which a call leaves its files; the program's record may be missing, so it is a copy."""
+    def packed(self, name, mask=0o22):
+        """The folder in which a call leaves its files. The program is a copy, since its record may be missing."""
         for it in ("out", name):
             (self.folder / it).mkdir(exist_ok=True)
         copy, record = self.folder / "out/itch_bars", pathlib.Path(program()).with_name("built_from")
         shutil.copy(program(), copy)
+        copy.chmod(0o777 & ~mask)
         copy.with_name("built_from").write_bytes(record.read_bytes() if record.exists() else b"program\n")
-        self.gives(run(TOP / "bin/package", self.folder / name, env={"ITCH_BARS": str(copy)}, **more))
+        self.gives(run(TOP / "bin/package", self.folder / name, env={"ITCH_BARS": str(copy)}, umask=mask))
         return self.folder / name
 
     def unpacked(self):
@@ -27,7 +28,7 @@ class Package(Case):
         return self.folder / NAME
 
     def test_same_bytes(self):
-        one, other = ({it.name: it.read_bytes() for it in self.packed(f"{mask}", umask=mask).iterdir()} for mask in (0o22, 0o77))
+        one, other = ({it.name: it.read_bytes() for it in self.packed(f"{mask}", mask).iterdir()} for mask in (0o22, 0o77))
         self.assertTrue(one == other and f"{NAME}.tar.gz.sha256" in one)
         self.gives(run("sh", "-c", "sha256sum --quiet -c *.sha256", cwd=self.folder / "18"))
 

@@ -6,11 +6,13 @@ import os
 import pty
 import random
 import re
+import select
+import subprocess
 import sys
 import unittest
 
 from itch import OPEN, SECOND, attributed, broken, cross, executed, executed_at, frame, message, named, order, padded, replaced, trade
-from run import EXAMPLE, TOP, Case, Ran, program, run
+from run import EXAMPLE, TOP, Case, comes, program, run
 
 TOOL, TEXTS = TOP / "bin/trace_sales", TOP / "check/test_trace.txt"
 WHOLE_DAY = "00:00:00", "24:00:00"
@@ -20,8 +22,8 @@ def after(seconds, nanoseconds=0):
     return OPEN + seconds * SECOND + nanoseconds
 
 
-# One of each case that could go wrong. AB has two locates; 3 is renamed; 4 has no R; 5 has bytes that no name may have, and is a
-# test security; of 6 nothing says whether it is one.
+# One of each case that could go wrong. AB has two locates; 3 is renamed, and 9 twice; 4 has no R; 5 has bytes that no name may have,
+# and is a test security; of 6 nothing says whether it is one.
 EDGES = [
     frame(b""), message("S", 0, after(-1), "O"), named(1, "AB", 0), named(3, "OLD", 0),
     message("R", 5, 0, "A,B C", "Q", "N", 1, "N", "C", b"Z ", "T", "N", "N", "1", "N", 0, "N"),
@@ -39,7 +41,7 @@ EDGES = [
     executed_at(1, 110, 999_700, 1, after(3), printable="y"),
     executed_at(99, 111, 999_600, 2, after(3), printable=" "),
     trade(112, 1, after(4), 5), trade(113, 1, after(4), 0), trade(114, 1, after(4), 10_000, 0),
-    cross(115, 1, after(5), 1_000_200, 6_000_000_000),
+    cross(115, 1, after(5), 1_000_200, 2**33),
     cross(116, 1, after(5), 1_000_300, 0, sort="C"),
     cross(117, 2, after(5), 1_000_400, 7, sort="H"),
     broken(117, 0, after(6)), broken(109, 1, after(6)), broken(4_242, 1, after(6)),
@@ -51,7 +53,8 @@ EDGES = [
     trade(128, 1, after(61), 30_000), trade(128, 3, after(61), 30_100), broken(128, 1, after(62)), broken(128, 1, after(90)),
     broken(101, 1, after(62)), executed_at(1, 129, 30_200, 1, after(50)), broken(129, 1, after(3_600)),
     named(2, "AB", after(31)), named(3, "NEW", after(31)),
-    frame(b"Z" * 36), frame(b"Y"), trade(130, 1, 2**48 - 1, 30_300), message("S", 0, after(7 * 3_600), "C"), frame(b""),
+    named(9, "BACK"), named(9, "GONE"), named(9, "BACK"),
+    frame(b"Z" * 36), frame(b"Y"), trade(130, 1, 2**48 - 1, 30_300), message("S", 0, 2**48 - 1, "C"), frame(b""),
 ]  # fmt: skip
 SYMBOLS = "AB OLD NEW A?B?C LONGNAME LONG ab #0 #1 #2 #4 #04 #65535 #65536".split()
 SPANS = [(f"09:{since}", f"09:{until}") for since, until in (("29:59", "30:00"), ("30:00", "30:01"), ("30:59", "31:01"))]
@@ -186,8 +189,9 @@ class Trace(Case):
             shown = self.traced(edges, *words.split())
             self.assertEqual(shown, wanted + "\n", words)
             self.holds_bytes(edges, shown)
-        to_a_nanosecond = self.traced(edges, "AB", "09:30:30.0", "09:30:30.000000001")
-        self.assertEqual(re.findall(r"^\d.*,(\d+)$", to_a_nanosecond, re.M), ["124"])
+        for span, numbers in (("30.0 30.000000001", ["124"]), ("29.5 30.1", ["124", "125"])):
+            shown = self.traced(edges, "AB", *(f"09:30:{it}" for it in span.split()))
+            self.assertEqual(re.findall(r"^\d.*,(\d+)$", shown, re.M), numbers)
 
     def test_faults_elsewhere(self):
         """A fault of frames is reported whatever is asked for; one of references if a trade that is asked for needs them."""
@@ -272,15 +276,16 @@ class Trace(Case):
     def test_progress(self):
         """A terminal shows after a second how much is read, in a line that is gone at the end; what is no terminal gets none."""
         leader, terminal = pty.openpty()
-        tool = f"{{ sleep 1.3; head -c 100000 /dev/zero; }} | {TOOL} - --names"
+        self.addCleanup(os.close, leader)
+        self.addCleanup(os.close, terminal)
         # (a session of its own, whose terminal is the first that it opens)
-        words = ["setsid", "sh", "-c", f"exec 2<>{os.ttyname(terminal)}; {tool}"]
-        self.assertEqual(run(*words), Ran(0, b"locate,name,place,messages,round_lot,test\n", b""))
-        shown = os.read(leader, 1000).decode()
-        self.assertRegex(shown, r"^(\d+ MB read, reading 1 of 1\x1b\[K\r)+\x1b\[K\r$")
-        self.assertEqual(run("sh", "-c", tool).errors, b"")
-        for it in (leader, terminal):
-            os.close(it)
+        words = ["setsid", "sh", "-c", f"exec 2<>{os.ttyname(terminal)}; exec {TOOL} - --names"]
+        with subprocess.Popen(words, stdin=subprocess.PIPE, stdout=subprocess.PIPE, bufsize=0) as tool:
+            self.addCleanup(tool.kill)
+            comes(lambda: tool.stdin.write(b"\0\0") and select.select([leader], [], [], 0.1)[0], "it says how much is read", 30)
+            self.assertEqual(tool.communicate(timeout=60), (b"locate,name,place,messages,round_lot,test\n", None))
+        self.assertRegex(os.read(leader, 1000).decode(), r"^(0 MB read, reading 1 of 1\x1b\[K\r)+\x1b\[K\r$")
+        self.assertEqual(run("sh", "-c", f"{{ head -c 2 /dev/zero; sleep 2; head -c 2 /dev/zero; }} | {TOOL} - --names").errors, b"")
 
 
 if __name__ == "__main__":
