@@ -161,14 +161,14 @@ class Refusals(Tree):
             self.lets(it)
         running, processes = self.held("start")
         os.kill(processes[0], signal.SIGKILL)
-        self.is_refused(running, "could not be built")
+        self.is_refused(running, "could not be built, since `rt ci` has ended with status -9")
 
     def test_a_refused_crate_ends_it_and_the_program_of_before_stays(self):
         self.assertEqual(self.ends(self.build())[0], 0)
         before = self.program.read_bytes(), self.record.read_bytes()
         self.files({"crates/low/src/lib.rt": "wrong"})
         self.asks("refuses_low", "hold_refusal", "hold_try")
-        self.is_refused(self.script(self.day, "sales"), "rt: low NOT PROVED", f"the whole log is {self.program.with_name('build.log')}")
+        self.is_refused(self.script(self.day, "sales"), "rt: low NOT PROVED", f"`rt ci` refuses a crate; the whole log is {self.program.with_name('build.log')}")
         self.assertFalse(any(is_there(it) for it in [*self.comes_to("refusal"), *self.comes_to("try")]))
         self.assertEqual((self.program.read_bytes(), self.record.read_bytes()), before)
 
