@@ -96,9 +96,10 @@ class UpToDate(Tree):
         was = source.stat()
         source.write_text("LOW")
         os.utime(source, ns=(was.st_atime_ns, was.st_mtime_ns))
+        self.is_seen(True, "an edit of the same length and time")
         for it in self.program.parent.iterdir():
             os.utime(it, (later, later))
-        self.is_seen(True, "an edit of the same length and time")
+        self.is_seen(True, "a record of later")
         for text, copy in (("LOW", shutil.copy2), ("low", shutil.copy)):
             source.write_text(text)
             shutil.copytree(self.top, self.folder / "copy", copy_function=copy)
@@ -114,14 +115,11 @@ class UpToDate(Tree):
 
     def test_another_program_record_or_kit(self):
         program, recorded = self.program.read_bytes(), self.record.read_bytes()
-        self.program.write_bytes(program + b"\n")
-        self.is_seen(True, "another program")
-        self.program.write_bytes(program)
-        self.settle()
         for mode, is_outdated in ((0o644, True), (0o755, False)):
             self.program.chmod(mode)
             self.is_seen(is_outdated, "a program that can't be run")
-        for other in (b"", b"what", b"\xff\xff\n", recorded.split(b"\n")[0] + b"\n"):
+        self.settle()
+        for other in (recorded.replace(b"sources ", b"sources 0"), b"", b"what", b"\xff\xff\n", recorded.split(b"\n")[0] + b"\n"):
             self.record.write_bytes(other)
             self.is_seen(True, f"the record {other}")
         self.record.write_bytes(recorded)
@@ -130,6 +128,9 @@ class UpToDate(Tree):
         self.is_seen(True, "another kit")
         self.tells(self.ends(self.script("day", "sales"))[2], "another kit has built the program (kit-1 logic abc), so it is")
         self.is_seen(False, "the kit that has built it")
+        self.settle()
+        self.program.write_bytes(program + b"\n")
+        self.is_seen(True, "another program")
         self.program.unlink()
         self.is_seen(True, "no program")
         self.program.write_bytes(program)
@@ -160,14 +161,14 @@ class Refusals(Tree):
             self.lets(it)
         running, processes = self.held("start")
         os.kill(processes[0], signal.SIGKILL)
-        self.is_refused(running, "could not be built")
+        self.is_refused(running, "could not be built, since `rt ci` has ended with status -9")
 
     def test_a_refused_crate_ends_it_and_the_program_of_before_stays(self):
         self.assertEqual(self.ends(self.build())[0], 0)
         before = self.program.read_bytes(), self.record.read_bytes()
         self.files({"crates/low/src/lib.rt": "wrong"})
         self.asks("refuses_low", "hold_refusal", "hold_try")
-        self.is_refused(self.script(self.day, "sales"), "rt: low NOT PROVED", f"the whole log is {self.program.with_name('build.log')}")
+        self.is_refused(self.script(self.day, "sales"), "rt: low NOT PROVED", f"`rt ci` refuses a crate; the whole log is {self.program.with_name('build.log')}")
         self.assertFalse(any(is_there(it) for it in [*self.comes_to("refusal"), *self.comes_to("try")]))
         self.assertEqual((self.program.read_bytes(), self.record.read_bytes()), before)
 
@@ -207,7 +208,6 @@ class Ends(Tree):
             self.leaves_nothing()
 
     def test_a_killed_call_leaves_a_folder_that_the_next_one_takes_away(self):
-        """The next one of the same repository: another one's may be in use."""
         running, processes = self.held("start", "try")
         running.kill()
         self.ends(running)
@@ -217,12 +217,11 @@ class Ends(Tree):
         self.lets("hold_start", "hold_try")
         shutil.copytree(self.top, self.folder / "other", ignore=shutil.ignore_patterns("out"))
         self.assertEqual(self.ends(self.start(self.folder / "other/bin/build"))[0], 0)
-        self.assertEqual(len(list(self.temporary.iterdir())), 1)
+        self.assertEqual(len(list(self.temporary.iterdir())), 1)  # (that of another repository may be in use)
         self.assertEqual(self.ends(self.script(self.day, "sales"))[:2], (0, self.answer()))
         self.leaves_nothing()
 
-    def test_a_hangup_that_is_ignored_and_an_edit_meanwhile(self):
-        """Under `nohup` a build goes on; a program of sources that were edited meanwhile answers, and is outdated."""
+    def test_a_build_under_nohup_and_an_edit_meanwhile(self):
         self.asks("hold_start")
         running = self.start("bash", "-c", 'trap "" HUP; exec "$@"', "", self.top / "bin/itch_bars", self.day, "sales")
         self.comes_to("start")
@@ -275,8 +274,7 @@ class Tries(Tree):
 
     def test_only_small_regular_files_are_tried(self):
         os.mkfifo(self.here / "pipe")
-        self.file("here/-x", b"a day\n")
-        for name, length in (("long", (16 << 20) + 1), ("just", 16 << 20)):
+        for name, length in (("long", (16 << 20) + 1), ("just", 16 << 20), ("-", 6), ("-x", 6)):
             os.truncate(self.file(f"here/{name}"), length)
         for words in (["-", "sales"], ["long", "sales"], ["pipe", "sales"], ["--workers", "1", "day", "sales"], ["just", "sales"], ["./-x", "sales"]):
             self.asks("hold_start")
