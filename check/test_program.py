@@ -8,12 +8,11 @@ import itertools, os, re, subprocess
 from itch import SECOND, executed, order, trade
 from run import EXAMPLE, TOP, Case, Ran, program, run
 
-AT = 34_201 * SECOND
-DAY = order(1, 7, AT + 3) + executed(1, 9, 7, AT + 5, 40)
+DAY = order(1, 7, 34_201 * SECOND + 3) + executed(1, 9, 7, 34_201 * SECOND + 5, 40)
 HEADER = "time,symbol,kind,price,shares,number\n"
 SALE = HEADER + "09:30:01.000000005,#7,E,410.5000,40,9\n"
-READING, END = "fault: reading failed\n", "fault: place 38: message runs past the end\n"
-WRITING = "fault: writing failed after 0 bytes\n"
+READING, WRITING = "fault: reading failed\n", "fault: writing failed after 0 bytes\n"
+END = "fault: place 38: message runs past the end\n"
 # By blocks of one thread and of several, in morsels, and from the standard input.
 WAYS = ONE, SEVERAL, MORSELS, INPUT = "--workers 1", "--workers 4 --gatherers 3", "--morsel 50", "-"
 # Words that are wrong, the status and the line that they give; then what is wrong with words of the command line.
