@@ -3,7 +3,7 @@ fail, are interrupted, give or take few bytes, are closed or full, or change mea
 line and its status with nothing of an answer; where the output fails, as many first bytes as the line says. What a clause says of
 each source and sink isn't tried again here: this is `main`, std and the system.
 """
-import itertools, os, re, subprocess
+import itertools, os, re
 
 from itch import SECOND, executed, order, trade
 from run import EXAMPLE, TOP, Case, Ran, program, run
@@ -59,8 +59,7 @@ class OfProgram(Case):
             self.gives(self.of(*words), 0, (TOP / "bin" / text).read_bytes())
 
     def test_examples_of_help(self):
-        self.file("day.itch", EXAMPLE.read_bytes())
-        subprocess.run(["gzip", "-k", "day.itch"], cwd=self.folder, check=True)
+        self.gives(self.shell(f"cp '{EXAMPLE}' day.itch && gzip -k day.itch"))
         examples = re.search(r"\nExamples:\n((?:  .*\n)+)", self.of("--help").out.decode())[1].splitlines()
         self.assertGreater(len(examples), 2)
         for it in examples:
