@@ -55,8 +55,8 @@ class OfProgram(Case):
         for words, what in WRONG:
             usage = "" if what.startswith("invalid") else USAGE
             self.gives(self.shell(f'exec "$0" {words}'), 2, "", f"error: {what}\n\n{usage}{MORE}")
-        for text, words in (("help", ["--help"]), ("help", ["day", "-h"]), ("version", ["--version"]), ("version", ["day", "sales", "-V"])):
-            self.gives(self.of(*words), 0, (TOP / "bin" / text).read_bytes())
+        for text, words in (("help", "--help"), ("help", "day -h"), ("version", "--version"), ("version", "day sales -V")):
+            self.gives(self.of(*words.split()), 0, (TOP / "bin" / text).read_bytes())
 
     def test_examples_of_help(self):
         self.gives(self.shell(f"cp '{EXAMPLE}' day.itch && gzip -k day.itch"))
@@ -90,7 +90,7 @@ class OfProgram(Case):
             self.assertEqual((report.opened, {it.kind for it in report.of("read", "pread")}), ([opened], {kind}), words)
 
     def test_what_is_no_day(self):
-        """Folders, which can be opened, a file of the system whose readings fail, one that has no length, and one that is too long."""
+        """Folders, which can be opened, a file of the system whose readings fail, one without a length, and one that is too long."""
         for way in ONE, "--workers 64", "--morsel 1":
             for name in (".", "/proc/self/mem", "no_such_file", "", "day/", "/dev/null/none"):
                 self.gives(self.of(name, "sales", *way.split()), 4, "", READING)
