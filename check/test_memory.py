@@ -11,8 +11,7 @@ from itch import OPEN, breaks, broken, executed, named, names, of_one_partition,
 from run import TOP, Case, library, program, run
 
 MIB = 1 << 20
-# What is held of a stream: two batches, of which the last morsel of each, and what is cut, are some MiB more.
-BATCH = 32 * MIB
+BATCH = 32 * MIB  # of a stream; two are held, and of each the last morsel, and what is cut, are some MiB more
 # Of plain Rust's processor time; runs of each; bytes of a day. The order of its references, what is asked, the words, the plain Rust
 # beside it, and whether it is standard input.
 MOST_TIMES, RUNS, SIZE, FOUR = 3, 3, 50_000_000, ["--workers", "4"]
@@ -55,8 +54,7 @@ SHAPES = {
 class OfMemory(Case):
     def took(self, file, query, workers, way="file", **more):
         """The KiB that a run holds at most and asks for, its allocations, readings and writes."""
-        # (a prime, which is taken as it is)
-        words = ["-" if way == "stream" else file, query, "--workers", workers, "--partitions", 61]
+        words = ["-" if way == "stream" else file, query, "--workers", workers, "--partitions", 61]  # (a prime is taken as it is)
         # All rows are freed by a thread of their own, the next one after those of the second pipeline: the caller waits for it.
         given, first = file if way == "stream" else b"", {"FIRST": 2 * workers + 1}
         ran, report = self.counted(program(), *words, *more.pop("words", []), input=given, preload=first, **more)

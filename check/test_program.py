@@ -3,17 +3,16 @@ fail, are interrupted, give or take few bytes, are closed or full, or change mea
 line and its status with nothing of an answer; where the output fails, as many first bytes as the line says. What a clause says of
 each source and sink isn't tried again here: this is `main`, std and the system.
 """
-import itertools, os, re, subprocess
+import itertools, os, re
 
 from itch import SECOND, executed, order, trade
 from run import EXAMPLE, TOP, Case, Ran, program, run
 
-AT = 34_201 * SECOND
-DAY = order(1, 7, AT + 3) + executed(1, 9, 7, AT + 5, 40)
+DAY = order(1, 7, 34_201 * SECOND + 3) + executed(1, 9, 7, 34_201 * SECOND + 5, 40)
 HEADER = "time,symbol,kind,price,shares,number\n"
 SALE = HEADER + "09:30:01.000000005,#7,E,410.5000,40,9\n"
-READING, END = "fault: reading failed\n", "fault: place 38: message runs past the end\n"
-WRITING = "fault: writing failed after 0 bytes\n"
+READING, WRITING = "fault: reading failed\n", "fault: writing failed after 0 bytes\n"
+END = "fault: place 38: message runs past the end\n"
 # By blocks of one thread and of several, in morsels, and from the standard input.
 WAYS = ONE, SEVERAL, MORSELS, INPUT = "--workers 1", "--workers 4 --gatherers 3", "--morsel 50", "-"
 # Words that are wrong, the status and the line that they give; then what is wrong with words of the command line.
@@ -56,12 +55,11 @@ class OfProgram(Case):
         for words, what in WRONG:
             usage = "" if what.startswith("invalid") else USAGE
             self.gives(self.shell(f'exec "$0" {words}'), 2, "", f"error: {what}\n\n{usage}{MORE}")
-        for text, words in (("help", ["--help"]), ("help", ["day", "-h"]), ("version", ["--version"]), ("version", ["day", "sales", "-V"])):
-            self.gives(self.of(*words), 0, (TOP / "bin" / text).read_bytes())
+        for text, words in (("help", "--help"), ("help", "day -h"), ("version", "--version"), ("version", "day sales -V")):
+            self.gives(self.of(*words.split()), 0, (TOP / "bin" / text).read_bytes())
 
     def test_examples_of_help(self):
-        self.file("day.itch", EXAMPLE.read_bytes())
-        subprocess.run(["gzip", "-k", "day.itch"], cwd=self.folder, check=True)
+        self.gives(self.shell(f"cp '{EXAMPLE}' day.itch && gzip -k day.itch"))
         examples = re.search(r"\nExamples:\n((?:  .*\n)+)", self.of("--help").out.decode())[1].splitlines()
         self.assertGreater(len(examples), 2)
         for it in examples:
@@ -92,7 +90,7 @@ class OfProgram(Case):
             self.assertEqual((report.opened, {it.kind for it in report.of("read", "pread")}), ([opened], {kind}), words)
 
     def test_what_is_no_day(self):
-        """Folders, which can be opened, a file of the system whose readings fail, one that has no length, and one that is too long."""
+        """Folders, which can be opened, a file of the system whose readings fail, one without a length, and one that is too long."""
         for way in ONE, "--workers 64", "--morsel 1":
             for name in (".", "/proc/self/mem", "no_such_file", "", "day/", "/dev/null/none"):
                 self.gives(self.of(name, "sales", *way.split()), 4, "", READING)
@@ -130,8 +128,8 @@ class OfProgram(Case):
         """A file grows, is replaced or shrinks before each of its readings in turn: the answer is that to what it had before or has
         then, or to whole messages from its start; or what was read ends within one."""
         example, sale = EXAMPLE.read_bytes(), trade(9)
-        longer, _ = self.file("longer", example, sale), self.file("sale", sale)
-        place, fronts, may_come = 0, [], [self.of(EXAMPLE, "sales"), self.of(longer, "sales")]
+        self.file("sale", sale)
+        place, fronts, may_come = 0, [], [self.of(it, "sales") for it in (EXAMPLE, self.file("longer", example, sale))]
         while place <= len(example):
             fronts.append(self.of("-", "sales", input=example[:place]))
             place += 2 + int.from_bytes(example[place : place + 2], "big")
@@ -140,8 +138,9 @@ class OfProgram(Case):
             (1_000, "cat sale >>changing", may_come), (100_000, "cat sale >>changing", may_come),
         )):
             for reading in itertools.count(1):
-                ran, report = self.over(way, self.file("changing", example), GIVES=gives, AT=reading, COMMAND=change)
-                if len(report.of("read", "pread")) < reading:
+                changing = self.file("changing", example)
+                ran, _ = self.over(way, changing, GIVES=gives, AT=reading, COMMAND=change)
+                if changing.read_bytes() == example:
                     break
                 is_cut = ran[:2] == (1, b"") and re.fullmatch(rb"fault: place \d+: message runs past the end\n", ran.errors)
                 self.assertTrue(ran in may_come or may_come is fronts and is_cut, f"{way}, {change} {reading}: {ran}")

@@ -12,12 +12,9 @@ from itch import OPEN, message, order, trades
 from run import Case, program
 
 MIB = 1 << 20
-# What is read at once of a block, and for a guess of where a frame begins, or behind a block's end.
-BUFFER, SEEN = 126_976, 4_096
-# What is read of a stream at once, and how long its batches are.
-PIECE, BATCH = 65_536, 32 * MIB
-# No file of a run here is longer, so what is asked for there is the byte at the limit.
-LIMIT = 64 << 30
+BUFFER, SEEN = 126_976, 4_096  # is read at once of a block; for a guess of where a frame begins, or behind a block's end
+PIECE, BATCH = 65_536, 32 * MIB  # is read of a stream at once; how long its batches are
+LIMIT = 64 << 30  # No file of a run here is longer: only the byte at the limit is asked for there.
 
 
 class Threads:
@@ -55,7 +52,7 @@ class OfThreads(Case):
         """Runs the words on these threads, and returns what was done."""
         ran, report = self.counted(program(), *words, preload=preload, **more)
         self.assertEqual((ran.status, ran.errors), (0, b""), words)
-        self.assertEqual((report.started(), report.alone), (threads.count, []), words)
+        self.assertEqual((report.started, report.alone), (threads.count, []), words)
         # Each thread takes its share of the room for lines, and little beside it: the keys of bars. So the caller has no more.
         rooms = [report.threads[number] for number in threads.text]
         share = len(ran.out) / (len(rooms) + 1)
@@ -120,7 +117,7 @@ class OfThreads(Case):
         for morsel, number in itertools.product(([], ["--morsel", 500_000]), range(1, count + 1)):
             words = [program(), file, "sales", "--workers", 2, "--gatherers", 2, *morsel]
             report = self.counted(*words, preload={"LATE": number})[1]
-            self.assertEqual((report.started(), report.begun), (count, [count]), f"{number} is late: {words}")
+            self.assertEqual((report.started, report.begun), (count, [count]), f"{number} is late: {words}")
 
     def test_messages_of_all_lengths(self):
         """A guess knows the longest message and the shortest, which stand beside trades at the opening."""
@@ -148,26 +145,25 @@ class OfThreads(Case):
         for length, is_short in ((2 * MIB - 2, True), (2 * MIB, False)):
             file = self.file("day", bytes(length))
             for name, given, morsel in ((file, b"", []), ("-", file, []), (file, b"", ["--morsel", MIB])):
-                started = self.counted(program(), name, "bars 1 m", "--workers", 4, *morsel, input=given)[1].started()
+                started = self.counted(program(), name, "bars 1 m", "--workers", 4, *morsel, input=given)[1].started
                 self.assertEqual(started == 0, is_short, f"{length} bytes of {name}, {started} threads")
 
     def test_fault(self):
         """What is read when the fault of a stream is found isn't scanned: for a day of one batch no thread is started."""
         ran, report = self.counted(program(), "-", "sales", "--workers", 3, input=day()[:-1])
-        self.assertEqual((ran.status, report.started()), (1, 0))
+        self.assertEqual((ran.status, report.started), (1, 0))
 
     def test_waiting(self):
         """A caller that waits takes no processor: here its one worker waits for a thread that is never started."""
-        preload = {"MEET": "p1-2", "PATIENCE": 8}
-        ran, report = self.counted(program(), self.file("day", day()), "sales", "--workers", 1, preload=preload, seconds=1)
+        words = [program(), self.file("day", day()), "sales", "--workers", 1]
+        ran, report = self.counted(*words, preload={"MEET": "p1-2", "PATIENCE": 8}, seconds=1)
         self.assertEqual((ran.status, report.alone), (0, [1]))
 
     def test_partitions(self):
         """Each partition is a task, which costs two to eight allocations, though no row is there, wherever one begins."""
-        # (so long that room is taken for 16 rows or more of each partition, however many there are)
+        # (so long that room is taken for 16 rows or more of each partition; primes are taken as they are)
         empty = self.file("empty", bytes(262_144))
         for words, given in (([empty], b""), ([empty, "--morsel", 262_144], b""), (["-"], empty)):
             words = [program(), *words, "sales", "--workers", 1, "--partitions"]
-            # (primes, which are taken as they are)
             few, some, more = (self.counted(*words, count, input=given)[1].heap.allocations for count in (2, 67, 131))
             self.assertTrue(2 * 65 <= some - few < 8 * 65 and 2 * 64 <= more - some < 8 * 64, f"{words}: {few} {some} {more}")
