@@ -159,6 +159,7 @@ impl<A: Allocator + Clone> BarTable<A> {
 
     /// Takes in the bars of `other`, and joins those of one locate and start. It is refused if
     /// there is no memory for the bars of both or to sort them, and then leaves the table as it was.
+    /// Of a key that one of both alone has, the sums fit by the type of its bar.
     pub fn merge<B: Allocator>(&mut self, other: &BarTable<B>) -> Result<(), OutOfMemory>
         requires sums { AllSumsFit (self.old ++ other.now) }
         ensures merged { OnOk result (IsUnionOf (self.old ++ other.now) self.new) }
