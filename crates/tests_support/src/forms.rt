@@ -64,6 +64,19 @@ impl Form {
         }
     }
 
+    /// Appends the form's frame.
+    pub fn append_to(self, alloc: Global, out: &mut Vec<u8>) -> Result<(), OutOfMemory> {
+        if let Form::Bytes(bytes) = self {
+            return out.extend_from_slice(bytes);
+        }
+        let Some(message) = self.message() else {
+            return Ok(());
+        };
+        let mut body = Vec::new(alloc);
+        append(&mut body, &message)?;
+        append_frame(out, &body)
+    }
+
     fn order(self) -> Option<Message>
         ensures { IfSome result (λ message. is_skipped message ≡ false) }
     {
@@ -217,16 +230,10 @@ impl Day {
 
     // One frame more.
     fn put(&mut self, alloc: Global, form: Form) -> Result<(), OutOfMemory> {
-        if let Form::Bytes(bytes) = form {
-            return self.bytes.extend_from_slice(bytes);
+        if let Some(message) = form.message() {
+            let place = self.bytes.len() as u64;
+            self.messages.push(Placed { place, message })?;
         }
-        let Some(message) = form.message() else {
-            return Ok(());
-        };
-        let place = self.bytes.len() as u64;
-        self.messages.push(Placed { place, message })?;
-        let mut body = Vec::new(alloc);
-        append(&mut body, &message)?;
-        append_frame(&mut self.bytes, &body)
+        form.append_to(alloc, &mut self.bytes)
     }
 }
