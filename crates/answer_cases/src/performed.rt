@@ -58,11 +58,13 @@ fn performed<R: Threads + Wait + Sync>(
     reading: Reading,
 ) -> io::Result<Vec<u8>> {
     let (mut text, mut line) = (Vec::new(alloc), Vec::new(alloc));
-    let mut out = CountedSink::of(&mut text);
-    let mut errors = CountedSink::of(&mut line);
     let status = match command(alloc, words) {
-        Err(fault) => explain(&fault, &mut out, &mut errors),
-        Ok(job) => status_of(rt, alloc, &job, day, reading, &mut out, &mut errors),
+        Err(fault) => explain(
+            &fault,
+            &mut CountedSink::of(&mut text),
+            &mut CountedSink::of(&mut line),
+        ),
+        Ok(job) => status_of(rt, alloc, &job, day, reading, &mut text, &mut line),
     };
     let mut told = format!(in alloc; "status {status}\n")?.into_bytes();
     append_lines(&mut told, text.as_slice())?;
@@ -83,15 +85,19 @@ fn append_lines(out: &mut Vec<u8>, text: &[u8]) -> io::Result<()> {
     Ok(())
 }
 
+/// The status of a job; what it writes to the two streams is appended to the text and to the line.
 fn status_of<R: Threads + Wait + Sync>(
     rt: &R,
     alloc: Global,
     job: &Job,
     day: &[u8],
     reading: Reading,
-    out: &mut CountedSink<&mut Vec<u8>>,
-    errors: &mut CountedSink<&mut Vec<u8>>,
+    text: &mut Vec<u8>,
+    line: &mut Vec<u8>,
 ) -> u8 {
+    let mut out = CountedSink::of(text);
+    let mut errors = CountedSink::of(line);
+    let (out, errors) = (&mut out, &mut errors);
     match reading {
         Reading::Stream => {
             let mut source = Counted::of(day);
@@ -99,15 +105,8 @@ fn status_of<R: Threads + Wait + Sync>(
         }
         Reading::Opened => perform_opened(rt, alloc, job, Some(Counted::of(day)), out, errors),
         Reading::Blocks => {
-            perform_blocks(
-                rt,
-                alloc,
-                job,
-                in_memory(day),
-                day.len() as u64,
-                out,
-                errors,
-            )
+            let (source, length) = (in_memory(day), day.len() as u64);
+            perform_blocks(rt, alloc, job, source, length, out, errors)
         }
     }
 }
