@@ -537,11 +537,6 @@ pub fn count_morsels(file: &[u8], target: u64) -> Option<u64> {
     Some(count + u64::from(held > 0))
 }
 
-/// The places where the frames of a file stand.
-pub fn places_of(file: &[u8]) -> Vec<u64> {
-    frames_of(file).0.iter().map(|frame| frame.place).collect()
-}
-
 /// Whether a file is truncated.
 pub fn is_truncated(file: &[u8]) -> bool {
     frames_of(file).1.is_some()

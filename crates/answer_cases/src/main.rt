@@ -1,57 +1,80 @@
-//! Answers queries over small day files, each in several ways, so that the answers can be compared with
-//! those of a reader that isn't proved. `fuzz/CASES.md` says how a case is written, and what is told of it.
+//! Answers queries over small days in many ways. It writes the text of the cases that it reads again, with the answers
+//! that it finds in place of those that stand there: so a text whose answers are right comes back as it is. The head of
+//! `stdin` says how a case is written.
 #![tactic(auto)]
 
+mod answers;
 mod case;
-mod chosen;
-mod left;
-mod lines;
-mod told;
+mod events;
+mod meanings;
+mod performed;
 mod values;
 mod ways;
-mod written;
 
-use case::{case_of, next_case, next_values, next_way};
-use lines::Lines;
+use answers::append_answers;
+use case::Case;
 use std::alloc::Global;
-use std::io;
+use std::io::{self, BufRead, BufReader, Write};
 use std::sync::Wait;
 use std::thread::Threads;
-use values::tell_each;
-use ways::tell;
+
+/// Behind this line the answers of a case stand, up to an empty line.
+const ANSWERS: &str = "----";
 
 fn main(rt: HostRuntime) -> io::Result<()> {
-    let mut input = rt.stdin();
     let mut out = rt.stdout();
-    for _ in 0..u64::MAX {
-        let Some(bytes) = next_case(rt.alloc(), &mut input)? else {
-            break;
-        };
-        let text = answers_to(&rt, rt.alloc(), bytes.as_slice())?;
-        io::Write::write_all(&mut out, text.as_slice())?;
-        io::Write::flush(&mut out)?;
+    let mut copied = Copied {
+        text: Vec::new(rt.alloc()),
+        case: Case::new(rt.alloc()),
+        usual: Vec::new(rt.alloc()),
+        is_answered: false,
+    };
+    for line in BufReader::new(rt.alloc(), rt.reader())?.lines(rt.alloc()) {
+        let line = line?;
+        copied.take(&rt, rt.alloc(), line.as_str())?;
+        if line.is_empty() {
+            out.write_all(copied.text.as_slice())?;
+            out.flush()?;
+            copied.text.clear();
+        }
     }
-    Ok(())
+    out.write_all(copied.text.as_slice())?;
+    out.flush()
 }
 
-/// The lines of all ways in which the case is to be answered.
-fn answers_to<R: Threads + Wait + Sync>(
-    rt: &R,
-    alloc: Global,
-    bytes: &[u8],
-) -> io::Result<Vec<u8>> {
-    let (case, mut left) = case_of(bytes)?;
-    let mut lines = Lines::new(alloc);
-    for _ in 0..u64::MAX {
-        if left.bytes.is_empty() {
-            break;
+/// What was read and not written yet, the case at hand, and the ways of cases that name none.
+#[derive(Drop)]
+struct Copied {
+    text: Vec<u8>,
+    case: Case,
+    usual: Vec<String>,
+    is_answered: bool,
+}
+
+impl Copied {
+    /// Takes in a line.
+    fn take<R: Threads + Wait + Sync>(
+        &mut self,
+        rt: &R,
+        alloc: Global,
+        line: &str,
+    ) -> io::Result<()> {
+        if line.is_empty() {
+            self.case = Case::new(alloc);
+            self.is_answered = false;
         }
-        let values = next_values(&mut left)?;
-        let way = next_way(alloc, &mut left)?;
-        match values {
-            None => tell(rt, alloc, &case, &way, &mut lines)?,
-            Some(values) => tell_each(rt, alloc, &case, values, &way, &mut lines)?,
+        if self.is_answered {
+            return Ok(());
+        }
+        self.text.extend_from_slice(line.as_bytes())?;
+        self.text.push(b'\n')?;
+        if line == ANSWERS {
+            self.is_answered = true;
+            return append_answers(rt, alloc, &self.case, self.usual.as_slice(), &mut self.text);
+        }
+        match line.strip_prefix("usually ") {
+            Some(way) => Ok(self.usual.push(String::from_str(alloc, way)?)?),
+            None => self.case.read(alloc, line),
         }
     }
-    lines.into_text(alloc)
 }

@@ -1,49 +1,70 @@
-//! A file of which some bytes have other values by turns.
-use crate::case::{Case, Values, Way};
-use crate::lines::Lines;
-use crate::ways::tell;
+//! What is changed of a case by turns.
+use crate::events::range_of;
 use std::alloc::Global;
 use std::io;
-use std::sync::Wait;
-use std::thread::Threads;
+use tests_support::{not_written_so, number, overwrite};
 
-/// Adds what a case gives in one way with each of the values.
-pub(crate) fn tell_each<R: Threads + Wait + Sync>(
-    rt: &R,
-    alloc: Global,
-    case: &Case<'_>,
-    values: Values,
-    way: &Way,
-    lines: &mut Lines,
-) -> io::Result<()> {
-    let mut file = Vec::from_slice(alloc, case.file)?;
-    let mut value = values.first;
-    for _ in values.first..=values.last {
-        if value > values.last {
-            break;
-        }
-        set(file.as_mut_slice(), values, value);
-        let changed = Case {
-            query: case.query,
-            file: file.as_slice(),
-        };
-        tell(rt, alloc, &changed, way, lines)?;
-        value = value.saturating_add(values.step.max(1));
-    }
-    Ok(())
+/// What has each of the values.
+#[derive(Clone, Copy)]
+pub(crate) enum Varied {
+    /// The byte at this place.
+    Byte(usize),
+    /// The number of two bytes at this place.
+    Pair(usize),
+    /// How many bytes are left of the day.
+    Length,
+    /// The size of morsels.
+    Morsel,
 }
 
-/// Gives the byte or the two bytes at the place this value.
-fn set(file: &mut [u8], values: Values, value: u32) {
-    let [_, _, high, low] = value.to_be_bytes();
-    let bytes = if values.is_pair {
-        [high, low]
-    } else {
-        [low, low]
+/// What has each of the values from the first to the last, by this step.
+#[derive(Clone, Copy)]
+pub(crate) struct Values {
+    pub(crate) varied: Varied,
+    pub(crate) first: u32,
+    pub(crate) last: u32,
+    pub(crate) step: u32,
+}
+
+/// The values of a text: `byte 2 0..255`, `pair 0 0..65535/31` (each 31st), `length 0..112`, `morsel 1..112`.
+pub(crate) fn values_of(alloc: Global, text: &str) -> io::Result<Values> {
+    let words: Vec<&str> = text.split_whitespace().collect(alloc)?;
+    let (varied, values) = match *words.as_slice() {
+        ["byte", place, values] => (Varied::Byte(number(place)?), values),
+        ["pair", place, values] => (Varied::Pair(number(place)?), values),
+        ["length", values] => (Varied::Length, values),
+        ["morsel", values] => (Varied::Morsel, values),
+        _ => return Err(not_written_so()),
     };
-    let count = if values.is_pair { 2 } else { 1 };
-    let own = file.iter_mut().skip(values.place as usize).take(count);
-    for (byte, new) in own.zip(bytes) {
-        *byte = new;
+    let (values, step) = values.split_once('/').unwrap_or((values, "1"));
+    let (first, last) = range_of(values)?;
+    Ok(Values {
+        varied,
+        first,
+        last,
+        step: number(step)?,
+    })
+}
+
+impl Varied {
+    /// The bytes of a day if this has the value.
+    pub(crate) fn day(self, alloc: Global, day: &[u8], value: u32) -> io::Result<Vec<u8>> {
+        let bytes = value.to_be_bytes();
+        let mut changed = Vec::from_slice(alloc, day)?;
+        match self {
+            Varied::Byte(place) => overwrite(changed.as_mut_slice(), place, 0, &bytes[3..]),
+            Varied::Pair(place) => overwrite(changed.as_mut_slice(), place, 0, &bytes[2..]),
+            Varied::Length => changed.truncate(value as usize),
+            Varied::Morsel => {}
+        }
+        Ok(changed)
+    }
+
+    /// The size of morsels if this has the value.
+    pub(crate) fn morsel(self, value: u32) -> Option<u64> {
+        match self {
+            Varied::Morsel => Some(u64::from(value)),
+            _ => None,
+        }
     }
 }

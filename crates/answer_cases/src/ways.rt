@@ -1,144 +1,108 @@
 //! Each way in which a case is answered.
-use crate::case::{Case, Schedule, Way};
-use crate::chosen::tell_chosen;
-use crate::left::no_case;
-use crate::lines::Lines;
-use crate::told::{append_answer, append_fault, append_rehearsal, append_text};
-use crate::written::{tell_repeated, tell_written};
-use day_file::{CutFault, cut};
+use crate::case::Case;
+use crate::events::falling;
+use crate::meanings::append_fault;
+use command_line::command;
+use day_file::{CutFault, cut, cut_at};
 use executor::{
-    Counted, CountedSink, DayFault, DayFile, Division, FreeGate, LONGEST_FILE, Query, RunFault,
-    Settings, answer, answer_blocks, parse, plain, run, run_blocks,
+    Answer, Counted, CountedSink, Cut, DayFault, DayFile, Division, FreeGate, LONGEST_FILE, Query,
+    Rehearsal, RunFault, Settings, answer, answer_blocks, parse, plain, rehearse, run, run_blocks,
 };
 use std::alloc::Global;
 use std::io;
 use std::sync::{Arc, Wait};
 use std::thread::Threads;
-use tests_support::in_memory;
+use tests_support::{in_memory, not_written_so};
 
-/// Adds what a case gives in one way.
-pub(crate) fn tell<R: Threads + Wait + Sync>(
+/// The answer, or the line of the fault, in a way: the name of a call, and the options of the program's words; with
+/// this size of morsels in place of its own, if there is one.
+pub(crate) fn answer_by<R: Threads + Wait + Sync>(
     rt: &R,
     alloc: Global,
-    case: &Case<'_>,
-    way: &Way,
-    lines: &mut Lines,
-) -> io::Result<()> {
-    match way {
-        Way::Written => tell_written(alloc, case.query, lines),
-        Way::Repeated(repeat) => tell_repeated(alloc, case.query, *repeat, lines),
-        Way::Chosen(schedule, numbers) => tell_cuts(alloc, case, schedule, numbers, lines),
-        _ => {
-            let mut line = Vec::new(alloc);
-            answer_by(rt, alloc, case, way, &mut line)?;
-            lines.add(alloc, line)
-        }
-    }
-}
-
-/// Appends what is told of a case in a way that has one line.
-fn answer_by<R: Threads + Wait + Sync>(
-    rt: &R,
-    alloc: Global,
-    case: &Case<'_>,
-    way: &Way,
-    out: &mut Vec<u8>,
-) -> io::Result<()> {
-    match way {
-        Way::Run(settings) => by_run(rt, alloc, case, *settings, out),
-        Way::Expected(settings, length) => by_length(rt, alloc, case, *length, *settings, out),
-        _ => match parse(alloc, case.query) {
-            Ok(query) => by_parsed(rt, alloc, case, &query, way, out),
-            Err(fault) => append_fault(alloc, out, &RunFault::Query(fault)),
+    case: &Case,
+    query: &str,
+    day: &[u8],
+    way: &str,
+    morsel: Option<u64>,
+) -> io::Result<Vec<u8>> {
+    let (name, options) = way.split_once(' ').unwrap_or((way, ""));
+    let settings = settings_of(alloc, options, morsel)?;
+    let mut out = Vec::new(alloc);
+    match name {
+        "run" => by_run(rt, alloc, day, query, settings, &mut out)?,
+        "run_blocks" => by_run_blocks(rt, alloc, day, query, settings, &mut out)?,
+        _ => match parse(alloc, query) {
+            Err(fault) => append_fault(alloc, &mut out, &RunFault::Query(fault))?,
+            Ok(query) => by_parsed(rt, alloc, case, &query, day, name, settings, &mut out)?,
         },
     }
+    Ok(out)
 }
 
-/// Appends what is told where the query was read apart.
+/// The settings that options of the program's words give.
+fn settings_of(alloc: Global, options: &str, morsel: Option<u64>) -> io::Result<Settings> {
+    let mut words = Vec::new(alloc);
+    for word in ["itch_bars", "-", "sales"] {
+        words.push(String::from_str(alloc, word)?)?;
+    }
+    for word in options.split_whitespace() {
+        words.push(String::from_str(alloc, word)?)?;
+    }
+    if let Some(morsel) = morsel {
+        words.push(format!(in alloc; "--morsel={morsel}")?)?;
+    }
+    match command(alloc, words.as_slice()) {
+        Ok(job) => Ok(job.settings),
+        Err(_) => Err(not_written_so()),
+    }
+}
+
+/// Appends what comes of a query that was read apart.
 fn by_parsed<R: Threads + Wait + Sync>(
     rt: &R,
     alloc: Global,
-    case: &Case<'_>,
+    case: &Case,
     query: &Query,
-    way: &Way,
-    out: &mut Vec<u8>,
-) -> io::Result<()> {
-    let file = day_file_of(alloc, case.file)?;
-    match way {
-        Way::Cut(settings) => by_cut(rt, alloc, &file, query, *settings, out),
-        Way::Blocks(settings) => by_blocks(rt, alloc, case, query, *settings, out),
-        Way::Rehearsed(morsel, schedule) => {
-            by_schedule(alloc, &file, query, *morsel, schedule, out)
-        }
-        _ => append_answer(alloc, out, &plain(alloc, &file, query)?),
-    }
-}
-
-/// The day file of these bytes.
-fn day_file_of(alloc: Global, bytes: &[u8]) -> io::Result<DayFile> {
-    let bytes = Vec::from_slice(alloc, bytes)?;
-    if bytes.len() as u64 > LONGEST_FILE {
-        return Err(no_case());
-    }
-    Ok(DayFile::of_bytes(bytes))
-}
-
-/// Adds what rehearsals over cuts give. The query has no fault.
-fn tell_cuts(
-    alloc: Global,
-    case: &Case<'_>,
-    schedule: &Schedule,
-    numbers: &[u32],
-    lines: &mut Lines,
-) -> io::Result<()> {
-    let Ok(query) = parse(alloc, case.query) else {
-        return Err(no_case());
-    };
-    let file = day_file_of(alloc, case.file)?;
-    tell_chosen(alloc, &file, &query, schedule, numbers, lines)
-}
-
-/// Appends what threads answer over a cut.
-fn by_cut<R: Threads + Wait + Sync>(
-    rt: &R,
-    alloc: Global,
-    file: &DayFile,
-    query: &Query,
+    day: &[u8],
+    name: &str,
     settings: Settings,
     out: &mut Vec<u8>,
 ) -> io::Result<()> {
-    let Settings {
-        crew,
-        morsel,
-        parts,
-        ..
-    } = settings;
-    match cut(alloc, file, morsel) {
+    if name == "answer_blocks" {
+        return by_blocks(rt, alloc, day, query, settings, out);
+    }
+    let bytes = Vec::from_slice(alloc, day)?;
+    if bytes.len() as u64 > LONGEST_FILE {
+        return Err(not_written_so());
+    }
+    let file = DayFile::of_bytes(bytes);
+    if name == "plain" {
+        return append_answer(alloc, out, &plain(alloc, &file, query)?);
+    }
+    let made = match &case.ends {
+        Some(ends) => cut_at(alloc, &file, ends.as_slice()),
+        None => cut(alloc, &file, settings.morsel),
+    };
+    match made {
+        Err(fault) => append_fault(alloc, out, &run_fault_of(fault)),
+        Ok(cut) if name == "rehearse" => by_rehearsal(alloc, case, &cut, query, settings, out),
         Ok(cut) => {
-            let found = answer(rt, alloc, &cut, query, parts, crew, &FreeGate)?;
+            let found = answer(
+                rt,
+                alloc,
+                &cut,
+                query,
+                settings.parts,
+                settings.crew,
+                &FreeGate,
+            )?;
             append_answer(alloc, out, &found)
         }
-        Err(fault) => append_fault(alloc, out, &run_fault_of(fault)),
-    }
-}
-
-/// Appends what a rehearsal gives.
-fn by_schedule(
-    alloc: Global,
-    file: &DayFile,
-    query: &Query,
-    morsel: u64,
-    schedule: &Schedule,
-    out: &mut Vec<u8>,
-) -> io::Result<()> {
-    match cut(alloc, file, morsel.max(1)) {
-        Ok(cut) => append_rehearsal(alloc, out, &cut, query, schedule),
-        Err(fault) => append_fault(alloc, out, &run_fault_of(fault)),
     }
 }
 
 /// A cut's fault, as a run reports it.
-pub(crate) fn run_fault_of(fault: CutFault) -> RunFault {
+fn run_fault_of(fault: CutFault) -> RunFault {
     match fault {
         CutFault::Truncated { place } => RunFault::Day(DayFault::Truncated { place }),
         CutFault::TooManyMorsels => RunFault::TooManyMorsels,
@@ -146,66 +110,85 @@ pub(crate) fn run_fault_of(fault: CutFault) -> RunFault {
     }
 }
 
+fn append_answer(alloc: Global, out: &mut Vec<u8>, answer: &Answer) -> io::Result<()> {
+    match answer {
+        Answer::Printed(text) => Ok(out.extend_from_slice(text.joined(alloc)?.as_slice())?),
+        Answer::Faulty(fault) => append_fault(alloc, out, &RunFault::Day(*fault)),
+    }
+}
+
+/// Appends what a rehearsal gives by the events of the case, or by ones in which each task arrives once.
+fn by_rehearsal(
+    alloc: Global,
+    case: &Case,
+    cut: &Cut,
+    query: &Query,
+    settings: Settings,
+    out: &mut Vec<u8>,
+) -> io::Result<()> {
+    let gatherers = settings.crew.gatherers;
+    let parts = settings.parts;
+    let all_morsels = falling(alloc, cut.count(), gatherers)?;
+    let all_parts = falling(alloc, parts, gatherers)?;
+    let first = case.first.as_ref().unwrap_or(&all_morsels).as_slice();
+    let second = case.second.as_ref().unwrap_or(&all_parts).as_slice();
+    match rehearse(alloc, cut, query, parts, gatherers, first, second)? {
+        Rehearsal::Finished(answer) => append_answer(alloc, out, &answer),
+        Rehearsal::Missing { pipeline, task } => {
+            let line = format!(in alloc; "missing: pipeline {pipeline}, task {task}\n")?;
+            Ok(out.extend_from_slice(line.as_bytes())?)
+        }
+    }
+}
+
 /// Appends what a whole run writes, or its fault.
 fn by_run<R: Threads + Wait + Sync>(
     rt: &R,
     alloc: Global,
-    case: &Case<'_>,
+    day: &[u8],
+    query: &str,
     settings: Settings,
     out: &mut Vec<u8>,
 ) -> io::Result<()> {
-    let mut written = Vec::new(alloc);
-    let mut source = Counted::of(case.file);
-    let mut sink = CountedSink::of(&mut written);
-    let told = run(rt, alloc, &mut source, case.query, settings, &mut sink);
-    append_told(alloc, out, told, written.as_slice())
+    let mut source = Counted::of(day);
+    let mut sink = CountedSink::of(&mut *out);
+    match run(rt, alloc, &mut source, query, settings, &mut sink) {
+        Ok(()) => Ok(()),
+        Err(fault) => append_fault(alloc, out, &fault),
+    }
+}
+
+/// Appends what a whole run by blocks writes, if no byte is expected, or its fault.
+fn by_run_blocks<R: Threads + Wait + Sync>(
+    rt: &R,
+    alloc: Global,
+    day: &[u8],
+    query: &str,
+    settings: Settings,
+    out: &mut Vec<u8>,
+) -> io::Result<()> {
+    let mut sink = CountedSink::of(&mut *out);
+    match run_blocks(rt, alloc, in_memory(day), 0, query, settings, &mut sink) {
+        Ok(()) => Ok(()),
+        Err(fault) => append_fault(alloc, out, &fault),
+    }
 }
 
 /// Appends what threads answer over blocks of as many bytes as a morsel has.
 fn by_blocks<R: Threads + Wait + Sync>(
     rt: &R,
     alloc: Global,
-    case: &Case<'_>,
+    day: &[u8],
     query: &Query,
     settings: Settings,
     out: &mut Vec<u8>,
 ) -> io::Result<()> {
-    let source = Arc::new(alloc, in_memory(case.file))?;
+    let source = Arc::new(alloc, in_memory(day))?;
     let bytes = settings.morsel.max(1);
-    let blocks = (case.file.len() as u64 / bytes).clamp(1, 65_536) as u32;
+    let blocks = (day.len() as u64 / bytes).clamp(1, 65_536) as u32;
     let division = Division { bytes, blocks };
     match answer_blocks(rt, alloc, &source, division, query, settings, &FreeGate) {
         Ok(answer) => append_answer(alloc, out, &answer),
-        Err(fault) => append_fault(alloc, out, &fault),
-    }
-}
-
-/// Appends what a whole run by blocks writes, where so many bytes are expected, or its fault.
-fn by_length<R: Threads + Wait + Sync>(
-    rt: &R,
-    alloc: Global,
-    case: &Case<'_>,
-    length: u64,
-    settings: Settings,
-    out: &mut Vec<u8>,
-) -> io::Result<()> {
-    let mut written = Vec::new(alloc);
-    let source = in_memory(case.file);
-    let mut sink = CountedSink::of(&mut written);
-    let told = run_blocks(rt, alloc, source, length, case.query, settings, &mut sink);
-    append_told(alloc, out, told, written.as_slice())
-}
-
-/// Appends what was written, and the fault if there is one.
-fn append_told(
-    alloc: Global,
-    out: &mut Vec<u8>,
-    told: Result<(), RunFault>,
-    written: &[u8],
-) -> io::Result<()> {
-    append_text(out, written)?;
-    match told {
-        Ok(()) => Ok(()),
         Err(fault) => append_fault(alloc, out, &fault),
     }
 }

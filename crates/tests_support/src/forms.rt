@@ -43,12 +43,6 @@ pub enum Form {
     T(u16, u16, u32, u32, u32, u64),
     /// Shares, the price and the match number.
     Q(u64, u32, u64),
-    /// A locate and its stock, and the seconds of the time.
-    LateR(u16, [u8; 8], u16),
-    /// An order's reference and its price, and the seconds of the time.
-    LateA(u64, u32, u16),
-    /// A match number, and the seconds of the time.
-    LateB(u64, u16),
     Bytes(&'static [u8]),
 }
 
@@ -59,9 +53,21 @@ impl Form {
     {
         match self {
             Form::A(..) | Form::F(..) | Form::U(..) | Form::B(..) | Form::R(..) => self.order(),
-            Form::LateA(..) | Form::LateB(..) | Form::LateR(..) => self.late(),
             _ => self.sale(),
         }
+    }
+
+    /// Appends the form's frame.
+    pub fn append_to(self, alloc: Global, out: &mut Vec<u8>) -> Result<(), OutOfMemory> {
+        if let Form::Bytes(bytes) = self {
+            return out.extend_from_slice(bytes);
+        }
+        let Some(message) = self.message() else {
+            return Ok(());
+        };
+        let mut body = Vec::new(alloc);
+        append(&mut body, &message)?;
+        append_frame(out, &body)
     }
 
     fn order(self) -> Option<Message>
@@ -69,7 +75,11 @@ impl Form {
     {
         let header = Header::of(7, 0, OPENING);
         match self {
-            Form::R(locate, stock) => Some(Message::Directory(listed(locate, stock, 0))),
+            Form::R(locate, stock) => Some(Message::Directory(Directory {
+                header: Header::of(locate, 0, 0),
+                stock,
+                rest: [b' '; 20],
+            })),
             Form::A(order_no, price) => Some(Message::Add(added(header, order_no, price, None))),
             Form::F(order_no, price) => {
                 let attribution = Some(*b"NSDQ");
@@ -83,25 +93,6 @@ impl Form {
                 price,
             })),
             Form::B(trade_no) => Some(Message::Broken(Broken { header, trade_no })),
-            _ => None,
-        }
-    }
-
-    fn late(self) -> Option<Message>
-        ensures { IfSome result (λ message. is_skipped message ≡ false) }
-    {
-        match self {
-            Form::LateR(locate, stock, seconds) => {
-                Some(Message::Directory(listed(locate, stock, seconds)))
-            }
-            Form::LateA(order_no, price, seconds) => {
-                let header = sent(7, seconds);
-                Some(Message::Add(added(header, order_no, price, None)))
-            }
-            Form::LateB(trade_no, seconds) => {
-                let header = sent(7, seconds);
-                Some(Message::Broken(Broken { header, trade_no }))
-            }
             _ => None,
         }
     }
@@ -145,20 +136,6 @@ impl Form {
             })),
             _ => None,
         }
-    }
-}
-
-/// The header with this locate and so many seconds.
-fn sent(locate: u16, seconds: u16) -> Header {
-    Header::of(locate, 0, u64::from(seconds) * 1_000_000_000)
-}
-
-/// The body of a stock directory.
-fn listed(locate: u16, stock: [u8; 8], seconds: u16) -> Directory {
-    Directory {
-        header: sent(locate, seconds),
-        stock,
-        rest: [b' '; 20],
     }
 }
 
@@ -217,16 +194,10 @@ impl Day {
 
     // One frame more.
     fn put(&mut self, alloc: Global, form: Form) -> Result<(), OutOfMemory> {
-        if let Form::Bytes(bytes) = form {
-            return self.bytes.extend_from_slice(bytes);
+        if let Some(message) = form.message() {
+            let place = self.bytes.len() as u64;
+            self.messages.push(Placed { place, message })?;
         }
-        let Some(message) = form.message() else {
-            return Ok(());
-        };
-        let place = self.bytes.len() as u64;
-        self.messages.push(Placed { place, message })?;
-        let mut body = Vec::new(alloc);
-        append(&mut body, &message)?;
-        append_frame(&mut self.bytes, &body)
+        form.append_to(alloc, &mut self.bytes)
     }
 }

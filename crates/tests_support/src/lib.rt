@@ -1,11 +1,12 @@
 //! What the tests of several crates share: sources, readers and writers that give or take few bytes
 //! a call and fail at some call, bytes in memory as a file that is read at places, and day files that are made of
-//! one form for each frame.
+//! one form for each frame, which may be written as text.
 #![tactic(auto)]
 
 mod days;
 mod forms;
 mod memory;
+mod notation;
 mod readers;
 mod trickle;
 mod writers;
@@ -16,6 +17,7 @@ pub use days::{
 };
 pub use forms::{Day, Form, Placed};
 pub use memory::{Memory, in_memory};
+pub use notation::{append_day, append_text, fields_of, not_written_so, number, overwrite};
 pub use readers::{Broken, Interrupted};
 pub use trickle::Trickle;
 pub use writers::InterruptedWriter;
