@@ -1,7 +1,7 @@
 //! The tests of what answers a query: of the calls' devices, of the threads that there are and what they run, and of
 //! refused memory. The answers to days, by every crew and by rehearsals over days whose pieces arrive in any order, are
 //! repeated, lost and merged, are those of the stored run of `answer_cases`. And of what the stored run of
-//! `command_cases` can't see of the program's words, statuses and lines.
+//! `answer_cases` can't see of the program's words, statuses and lines.
 #![tactic(auto)]
 
 #[cfg(test)]

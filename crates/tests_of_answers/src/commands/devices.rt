@@ -1,4 +1,4 @@
-//! What comes of devices that `command_cases` hasn't got, and of want of memory for the words.
+//! What comes of devices that `answer_cases` hasn't got, and of want of memory for the words.
 ghost use Rattle.std.specs.Prelude.{◌≡◌, false};
 
 use command_line::{
