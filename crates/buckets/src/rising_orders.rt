@@ -13,8 +13,8 @@ use order_table::{OrderRow, PricesExecutions, Referenced, Spread, point_of};
 use std::alloc::Global;
 use std::marker::Model;
 
-/// How many lists to either side of the one where a reference is expected are looked at first: lists have nearly as many
-/// rows each.
+/// How many lists to either side of the one where a reference is expected are looked at first. Lists have nearly as
+/// many rows each.
 const NEAR: usize = 1;
 
 /// The rows of one list, one or more, and the reference of the last, which is the greatest.

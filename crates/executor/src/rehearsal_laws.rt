@@ -13,10 +13,11 @@ ghost use Rattle.executor.specs.declared.rehearsing.Rehearsal.{Rehearsal as TheR
 
 use runs::{BlockSource, FileBlocks, ReadsAt};
 
-/// One answer of each day and query, whichever way it is found: by one thread (`plain`), by threads over any cut of the
-/// day (`answer`), by threads over a file that holds its bytes (`answer_blocks`), and by any two schedules over any cut,
-/// with pieces that are repeated, lost, reordered and merged, once each task of both pipelines has arrived (`rehearse`).
-/// The premises on `plain`, `answer`, `blocks` and `rehearsed` are what these calls promise, whatever the crew.
+/// One answer of each day and query, whichever way it is found: by one thread (`plain`), by threads over any cut of
+/// the day (`answer`), by threads over a file that holds its bytes (`answer_blocks`), and by any two schedules over
+/// any cut, with pieces that are repeated, lost, reordered and merged, once each task of both pipelines has arrived
+/// (`rehearse`). The premises on `plain`, `answer`, `blocks` and `rehearsed` are what these calls promise, whatever
+/// the crew.
 pub fn schedules_and_threads_agree<F: ReadsAt>()
     ensures { let device = ⟦<FileBlocks<F> as BlockSource>⟧ in
         (day : List ℕ) (query : Meaning) (plain answer blocks : Result (List ℕ) TheDayFault)

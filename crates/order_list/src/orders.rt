@@ -74,8 +74,8 @@ impl<A: Allocator> OrderList<A> {
         push(&mut self.wide, Wide::of(row))
     }
 
-    /// Takes room for wide rows, in place of what lean ones leave. If there is but one lean row, as where references are
-    /// any numbers, it is made wide, so that no memory of lean rows is left between that of others.
+    /// Takes room for wide rows, in place of what lean ones leave. If there is but one lean row, as where references
+    /// are any numbers, it is made wide, so that no memory of lean rows is left between that of others.
     #[cold]
     #[inline(never)]
     fn begin_wide(&mut self) -> Result<(), OutOfMemory>
