@@ -1,4 +1,4 @@
-use Rattle.std.proofs.Common.{subst, sym, ◌∙◌}
+use Rattle.std.proofs.Common.{subst}
 use Rattle.answers.proofs.OneAnswer.{answers_are_one}
 use Rattle.answers.specs.Answers.{IsAnswer}
 use Rattle.block_scan.proofs.KnownFiles.{known_whole}
@@ -11,7 +11,7 @@ pub returns : goal.returns
 returns g c = λ day query plain answer blocks cut limit file runs parts gatherers events1 events2 rehearsed is same by_threads holds (read, gave, may, by_blocks) whole done arrived1 arrived2. (
   answers_are_one day query answer plain (subst (λ d. IsAnswer d query answer) same by_threads) is,
   answers_are_one day query blocks plain
-  (subst (λ d. IsAnswer d query blocks) (known_whole file.contents day holds read gave.gave gave.ended) by_blocks) is,
+      (subst (λ d. IsAnswer d query blocks) (known_whole file.contents day holds read gave.gave gave.ended) by_blocks) is,
   finished_tells day query plain rehearsed is
-  (subst (λ d. IsFinished d query rehearsed) whole (all_arrived runs query parts gatherers events1 events2 rehearsed done arrived1 arrived2)),
+      (subst (λ d. IsFinished d query rehearsed) whole (all_arrived runs query parts gatherers events1 events2 rehearsed done arrived1 arrived2)),
 )
