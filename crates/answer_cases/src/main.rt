@@ -3,16 +3,16 @@
 //! `stdin` says how a case is written.
 #![tactic(auto)]
 
-mod answers;
 mod case;
 mod events;
+mod found_answers;
 mod meanings;
 mod performed;
 mod values;
 mod ways;
 
-use answers::append_answers;
 use case::Case;
+use found_answers::append_answers;
 use std::alloc::Global;
 use std::io::{self, BufRead, BufReader, Write};
 use std::sync::Wait;
