@@ -5,7 +5,7 @@
 //! The mixture is that of a trading day: 45 of 100 messages add an order, 43 delete one, 5 replace one, 4 execute
 //! one. The word says in which order references are given out. Two of them are chosen by somebody who wants a run to be
 //! slow: `colliding` draws them in no order until the hash that a map of `plain.rs` gives them ends in zeros; `reversed`
-//! turns the bits of rising ones, so that all are multiples of a great power of two and far apart, of one partition.
+//! turns the bits of rising ones: multiples of a great power of two, far apart, all in one partition of `plain.rs`.
 //! `executions` is a file of few orders, each executed over and over, so that nearly every message is a trade. A seed
 //! gives the same bytes each time.
 use std::io::{self, BufWriter, Write};
