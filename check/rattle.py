@@ -23,8 +23,8 @@ def crates():
 
 
 def is_product(crate):
-    """Whether others may use the crate, or it is the program: not one of tests, of cases or of the example."""
-    return not crate.startswith(("tests", "example")) and not crate.endswith("_cases")
+    """Whether others may use the crate, or it is the program: not one of tests or of cases."""
+    return not crate.startswith("tests") and not crate.endswith("_cases")
 
 
 def edits_of(crate):

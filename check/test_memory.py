@@ -7,7 +7,7 @@ nothing else is left, so up to twice as much is read, asked for and held: theirs
 """
 import importlib.machinery, importlib.util, os, resource, shutil, warnings
 
-from itch import OPEN, breaks, broken, executed, named, names, of_one_partition, order, orders, rising, scattered, time_of, trade, trades
+from itch import OPEN, breaks, broken, executed, named, names, multiples_of_256, order, orders, rising, scattered, time_of, trade, trades
 from run import TOP, Case, library, program, run
 
 MIB = 1 << 20
@@ -76,7 +76,7 @@ class OfMemory(Case):
     def test_one_remainder(self):
         """References that are all the same modulo 256 take what others take, with as many partitions as no option says."""
         asked = []
-        for reference in (scattered, of_one_partition):
+        for reference in (scattered, multiples_of_256):
             day = self.file("day", *orders(150_000, reference))
             asked.append(self.counted(program(), day, "bars 1 m", "--workers", 1)[1].heap.bytes)
         self.assertLessEqual(max(asked), 1.25 * min(asked))

@@ -3,6 +3,7 @@
 # Call: bash recipes/keep.sh data/example.itch "bars 5 m where symbol in MSFT" record
 set -eu -o pipefail
 day=$1 query=$2 name=$3 status=0
+: <"$day"
 program=$(readlink -f "$(command -v itch_bars)")
 top=${program%/bin/itch_bars}
 # (in the repository that is a script, which runs the program; bin/build ends at once if it is up to date)

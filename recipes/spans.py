@@ -5,6 +5,9 @@ import sys
 import pandas as pd
 
 orders = pd.read_csv(sys.argv[1], keep_default_na=False, dtype=str)
+wrong = orders.order[~orders.side.str.contains("^[BbSs]")]
+if len(wrong):
+    sys.exit(f"order {wrong.iloc[0]}: a side begins with B or S")
 sales = pd.read_csv(sys.argv[2], keep_default_na=False, quoting=3, dtype={"symbol": str, "price": str})
 sales["at"] = pd.to_timedelta(sales.time)
 sales["notional"] = sales.price.str.replace(".", "", regex=False).astype("int64") * sales.shares
@@ -18,6 +21,7 @@ for order in orders.itertuples():
     volume = span.shares.sum()
     vwap = span.notional.sum() / volume / 10000 if volume else 0
     arrival = own.price.iloc[since - 1] if since else ""
-    cost, arrival_cost = (f"{(float(order.price) / float(it) - 1) * sign * 10000:.2f}" if it else "" for it in (vwap, arrival))
+    price = float(order.price or 0)
+    cost, arrival_cost = (f"{(price / float(it) - 1) * sign * 10000:.2f}" if it and price else "" for it in (vwap, arrival))
     share = f"{100 * float(order.shares) / volume:.1f}" if volume else ""
     print(order.order, order.symbol, volume, f"{vwap:.6f}" if volume else "", share, cost, arrival, arrival_cost, sep=",")

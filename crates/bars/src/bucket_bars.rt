@@ -12,7 +12,7 @@ use row_types::Sale;
 use std::alloc::Global;
 use std::marker::Model;
 
-/// As many sales as a bar has at least, on average, where bars are made. They are made while the sales are still there:
+/// The least number of sales a bar, on average, for which bars are made. They are made while the sales are still there:
 /// of two sales a bar both together would take more than twice what the sales take.
 const SALES_A_BAR: usize = 3;
 

@@ -2,9 +2,8 @@
 
 /// What hears of each run. A gate may wait: a run starts only when its call of `before` returns.
 pub trait Gate: Sync {
-    /// Called before each run of a task, on the thread that will run it, but for runs ahead. Pipelines are 1 and 2.
-    /// Round 0 is the task's first giving to a worker, 1 its second, and 2 the caller's own run of a task that no piece
-    /// covers. A pipeline that begins with pieces has no round 0: a run ahead was the task's first giving.
+    /// Called before each run of a task, on the thread that will run it. Pipelines are 1 and 2. Round 0 is the task's
+    /// first giving to a worker, 1 its second, and 2 the caller's own run of a task that no piece covers.
     fn before(&self, pipeline: u8, task: u32, round: u8);
 
     /// Called once a pipeline, by the caller's thread, after all tasks of the pipeline are covered
