@@ -12,7 +12,7 @@ import re
 import sys
 import unittest
 
-from rattle import TOP, cited_by, crates, definitions, edits_of, functions_of, ghost_members
+from rattle import TOP, assumed_in, cited_by, code_of, crates, definitions, edits_of, functions_of, ghost_members
 from rattle import is_derived, is_product, is_silent_on_refusals, kit, named_in, rested_on, sources
 
 PRODUCT = [crate for crate in crates() if is_product(crate)]
@@ -168,6 +168,28 @@ class Edits(unittest.TestCase):
             for edit in edits_of(crate):
                 self.assertIsNone(kit().read_edit(str(edit), str(TOP / "crates" / crate))[1], edit)
                 self.assertIn(edit.stem.partition("__")[0], names, edit)
+
+
+# docs/BASE.md
+
+
+class Base(unittest.TestCase):
+    def test_the_page_says_what_the_log_says(self):
+        log = TOP / "crates/itch_bars/out/build.log"
+        lines, words = assumed_in(log.read_text() if log.exists() else "")
+        if not lines:
+            self.skipTest("bin/build has kept no log of a build here")
+        page = TOP / "docs/BASE.md"
+        self.assertEqual([], [line for line in lines if f"\n    {line}\n" not in page.read_text()])
+        stand = [words_in(row[0])[0] for row in rows_below(page, "| Word | What it means | In a build |") if row[2] == "stands"]
+        self.assertEqual(sorted(words), sorted(stand))
+
+    def test_threads_share_what_the_kit_gives_alone(self):
+        own = re.compile(r"\b(Atomic\w*|atomic|\w*Cell|cell|Mutex\w*|RwLock\w*|Condvar|Barrier|Once|OnceLock|LazyLock|Perch|static|unsafe)\b|\bOrdering::")
+        for path in (path for crate in PRODUCT for path in sources(crate)):
+            self.assertEqual([], [it[0] for it in own.finditer(re.sub(r"'static\b", "", code_of(path.read_text())))], path)
+        for name, user in (("atomic_table", "dispatcher"), ("crossbeam_channel", "crew_threads")):
+            self.assertEqual([user], [crate for crate in PRODUCT if name in crates()[crate]], name)
 
 
 # What pages name and quote.
