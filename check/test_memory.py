@@ -147,21 +147,21 @@ class OfSpeed(Case):
 
 
 FIGURES = """
-rising         file      1       4306      15439       3937         53          6
-rising         file      4       5170      21187       5996         83          9
-rising         file     64       6159      25812       7993        105         59
-rising         stream    1       8358      32134       4467         86          6
-scattered      file      1       4784      20155       4762         53          6
-scattered      stream    1       8858      36916       5387         86          6
-scattered      stream    4      10742      43964       7813         86          9
-one_order      file      1      20631      46686        828         37         16
-one_order      stream    1      20631      60220        983         62         16
-trades         file      1      15817      40013       2609         39         12
-trades         file      4      15841      54514       4729         77         13
-trades         stream    1      15791      53758       3239         65         12
-names          file      1       7254      16480       1148         39          2
-names          stream    1       7233      30230       1300         65          2
-breaks         file      1       5054      22280       3410         57          2
-breaks         stream    1      10569      40385       3562         93          2
-breaks         stream    4      12840      49259       5114         93          5
+rising         file    1       4307      15412       3364         53          6
+rising         file    4       4314      15423       3398         53          9
+rising         file   64       4363      15543       4010         53         59
+rising         stream  1       8409      32248       3911         86          6
+scattered      file    1       5204      21821       3914         53          6
+scattered      stream  1       9380      38828       4520         86          6
+scattered      stream  4      10742      43964       5179         86          9
+one_order      file    1      20631      51107       1184         37         16
+one_order      stream  1      20631      68383       1456         62         16
+trades         file    1      15817      38993       2612         39         12
+trades         file    4      15841      39087       2637         39         13
+trades         stream  1      15790      52787       3236         65         12
+names          file    1       7255      16774       1466         39          2
+names          stream  1       7234      30608       1740         65          2
+breaks         file    1       5054      21402       3528         57          2
+breaks         stream  1      10639      39580       3806         93          2
+breaks         stream  4      12840      39614       3849         93          5
 """
