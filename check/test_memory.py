@@ -3,7 +3,7 @@ that cost most; sees that what was read is let go, and that time doesn't grow as
 nothing else sees memory that is never given back, or is taken again for each partition or worker, or a search that begins anew at
 each step. Counts are those of preload.c, whatever the machine's speed and load; bounds of processor time are many times what is
 taken. With one worker no figure moves by a hundredth. With several a task on which one works for long is given to another when
-nothing else is left, so more may be read, asked for and held: theirs are a quarter above the most of five runs on a busy machine.
+nothing else is left, so more may be read, asked for and held: theirs are at least the most of many runs on a busy machine.
 """
 import importlib.machinery, importlib.util, os, resource, shutil, warnings
 
@@ -148,20 +148,20 @@ class OfSpeed(Case):
 
 FIGURES = """
 rising         file    1       4307      15412       3364         53          6
-rising         file    4       5392      19278       4247         66          9
-rising         file   64       5453      19428       5012         66         59
+rising         file    4       5392      21187       5996         83          9
+rising         file   64       6159      25812       7993        105         59
 rising         stream  1       8409      32248       3911         86          6
 scattered      file    1       5204      21821       3914         53          6
 scattered      stream  1       9380      38828       4520         86          6
-scattered      stream  4      12622      51916       6473        107          9
+scattered      stream  4      12622      51916       7813        107          9
 one_order      file    1      20631      51107       1184         37         16
 one_order      stream  1      20631      68383       1456         62         16
 trades         file    1      15817      38993       2612         39         12
-trades         file    4      19797      48858       3296         48         13
+trades         file    4      19797      54514       4729         77         13
 trades         stream  1      15790      52787       3236         65         12
 names          file    1       7255      16774       1466         39          2
 names          stream  1       7234      30608       1740         65          2
 breaks         file    1       5054      21402       3528         57          2
 breaks         stream  1      10639      39580       3806         93          2
-breaks         stream  4      13953      49517       4811        116          5
+breaks         stream  4      13953      49517       5114        116          5
 """
