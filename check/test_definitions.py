@@ -188,7 +188,7 @@ class Base(unittest.TestCase):
         own = re.compile(r"\b(Atomic\w*|atomic|\w*Cell|cell|Mutex\w*|RwLock\w*|Condvar|Barrier|Once|OnceLock|LazyLock|Perch|static|unsafe)\b|\bOrdering::")
         for path in (path for crate in PRODUCT for path in sources(crate)):
             self.assertEqual([], [it[0] for it in own.finditer(re.sub(r"'static\b", "", code_of(path.read_text())))], path)
-        for name, user in (("atomic_table", "dispatcher"), ("crossbeam_channel", "crew_threads")):
+        for name, user in (("atomic_table", "dispatcher"), ("crossbeam_channel", "pipelines")):
             self.assertEqual([user], [crate for crate in PRODUCT if name in crates()[crate]], name)
 
 

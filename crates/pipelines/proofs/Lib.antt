@@ -1,2 +1,3 @@
 -- Lemmas that several proofs share, those of crates above among them.
 pub mod OneOutcome
+pub mod ByNumber

@@ -1,16 +1,28 @@
-//! Two pipelines of work, of which the second works on what a link makes of the first one's total.
+//! Pipelines of work on threads: one (`run_pipeline`), or two, of which the second works on what a link makes
+//! of the first one's total (`run_pair`; `run_both`, also on the caller's thread alone).
 //!
-//! `run_pair` runs them on threads: workers claim tasks of a dispatcher, run them and send the
-//! pieces to gatherers, of which the caller's thread is the first. Neither the crew nor the schedule of
-//! its threads changes the answer. `run_both` may also run them on the caller's thread alone.
+//! Workers claim tasks of a dispatcher, run them and send the pieces to gatherers, of which the
+//! caller's thread is the first. The caller runs itself what no worker brought. Neither the crew nor the
+//! schedule of its threads changes a total or an answer.
 #![tactic(auto)]
 
+mod by_number;
+mod channel_port;
+mod employ;
+mod gatherers;
 mod outcome;
 pub mod outcome_law;
 mod pair;
+mod pipeline;
 
-pub use crew_threads::{Crew, FreeGate, Gate, Port, work};
+pub use channel_port::ChannelPort;
 pub use dispatcher::{Dispatcher, Seat};
+pub use gatherers::{
+    Gatherer, channel_of, gather_all, gather_until_covered, merge_all, start_gatherers,
+};
 pub use gathering::{Gathering, Inputs, Link, Linked, OutOfMemory, Piece, Work};
 pub use outcome::Outcome;
+pub use outcomes::Crew;
 pub use pair::{run_both, run_first, run_pair, run_second};
+pub use pipeline::run_pipeline;
+pub use workers::{FreeGate, Gate, Port, run_missing, run_task, work};

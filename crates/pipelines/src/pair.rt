@@ -5,11 +5,13 @@ ghost use Rattle.gathering.specs.Totals.{IsTotal};
 ghost use Rattle.pipelines.specs.Outcomes.{IsOutcome};
 
 use crate::outcome::Outcome;
-use crew_threads::{Crew, Gate, run_pipeline};
+use crate::pipeline::run_pipeline;
 use gathering::{Inputs, Link, Linked, OutOfMemory, Work};
+use outcomes::Crew;
 use std::alloc::Global;
 use std::sync::{Arc, Wait};
 use std::thread::{self, Threads};
+use workers::Gate;
 
 /// Runs the first pipeline, links its total, and runs the second pipeline, each as `run_pipeline` does. It waits for
 /// the pieces, and at the end for all workers. It is refused if memory was refused to the caller's thread.

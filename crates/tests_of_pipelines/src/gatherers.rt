@@ -4,10 +4,10 @@ ghost use Rattle.std.specs.Prelude.{◌≡◌, ◌<◌, ◌≤◌, length};
 ghost use Rattle.lists.specs.declared.limits.TheConstants.{MOST_TASKS};
 
 use crate::threads::outcome;
-use crew_threads::{
-    channel_of, gather_all, gather_until_covered, merge_all, run_missing, start_gatherers,
+use pipelines::{
+    Crew, Gate, Gathering, OutOfMemory, Outcome, Piece, channel_of, gather_all,
+    gather_until_covered, merge_all, run_missing, start_gatherers,
 };
-use pipelines::{Crew, Gate, Gathering, OutOfMemory, Outcome, Piece};
 use std::alloc::Global;
 use std::process::Abort;
 use std::sync::atomic::{AtomicBool, AtomicU64, Ordering};

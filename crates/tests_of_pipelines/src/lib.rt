@@ -1,6 +1,5 @@
-//! Tests of what `gathering` and `dispatcher` give their callers; and of `crew_threads`, `pipelines` and `schedules`,
-//! of what their contracts don't say: which runs are made, on which threads, in which order, and what comes if memory
-//! is refused.
+//! Tests of what `gathering` and `dispatcher` give their callers; and of `pipelines` and `schedules`, of what their
+//! contracts don't say: which runs are made, on which threads, in which order, and what comes if memory is refused.
 #![tactic(auto)]
 
 #[cfg(test)]

@@ -1,10 +1,9 @@
 //! Workers on the thread of the test.
 ghost use Rattle.std.specs.Prelude.{◌≡◌};
 
-use crew_threads::ChannelPort;
 use dispatcher::Dispatcher;
 use linked_list_allocator::LocalHeap;
-use pipelines::{FreeGate, Piece, Port, work};
+use pipelines::{ChannelPort, FreeGate, Piece, Port, work};
 use std::alloc::Global;
 use std::test::Fail;
 use tests_works::{KeepingPort, NUMBERS, Sum, Watch, inputs_of};

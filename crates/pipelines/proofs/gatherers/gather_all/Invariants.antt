@@ -1,5 +1,5 @@
 use Rattle.std.proofs.Common.{◌≡◌}
-use Rattle.crew_threads.proofs.gatherers.gather_all.Given as goal
+use Rattle.pipelines.proofs.gatherers.gather_all.Given as goal
 
 abbrev pub invariant-loop-piece : goal.invariant-loop-piece
 invariant-loop-piece g l = l.gathering.inputs ≡ l.initial.gathering.inputs

@@ -1,6 +1,6 @@
 use Rattle.std.proofs.lemmas.Result.{on_ok_weaker}
-use Rattle.crew_threads.proofs.ByNumber.{added, can_add}
-use Rattle.crew_threads.proofs.by_number.ByNumberWork.add.Goals as goal
+use Rattle.pipelines.proofs.ByNumber.{added, can_add}
+use Rattle.pipelines.proofs.by_number.ByNumberWork.add.Goals as goal
 
 pub add-requires : goal.add-requires
 add-requires g c = can_add g.W.Work.Gives g.W.Work.IsTotalOf g.W.Work.IsAdmissible g.K.Known.inputs c.requires

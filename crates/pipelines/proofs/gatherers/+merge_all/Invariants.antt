@@ -1,5 +1,5 @@
 use Rattle.std.proofs.Common.{vec_len}
-use Rattle.crew_threads.proofs.gatherers.+merge_all.Given as goal
+use Rattle.pipelines.proofs.gatherers.+merge_all.Given as goal
 
 abbrev pub decreases-merge_all : goal.decreases-merge_all
 decreases-merge_all g l = vec_len l.others

@@ -3,7 +3,7 @@ use Rattle.std.specs.Arc.{arc_value}
 use Rattle.std.proofs.lemmas.List.{take_all}
 use Rattle.std.proofs.lemmas.List.FromFn.{length-range_with_len}
 use Rattle.std.proofs.lemmas.Result.{IfOk-weaker}
-use Rattle.crew_threads.proofs.pipeline.run_known.Goals as goal
+use Rattle.pipelines.proofs.pipeline.run_known.Goals as goal
 
 pub returns-clause-total : goal.returns-clause-total
 returns-clause-total g c =

@@ -2,7 +2,7 @@ use Rattle.std.proofs.Common.{Some}
 use Rattle.std.proofs.lemmas.List.Elements.{All-pop}
 use Rattle.std.specs.Arc.{arc_value}
 use Rattle.dispatcher.specs.Seats.{IsSeatOf, IsUnused}
-use Rattle.crew_threads.proofs.pipeline.Pipeline.start_each.Goals as goal
+use Rattle.pipelines.proofs.pipeline.Pipeline.start_each.Goals as goal
 
 pub loop-seat-preserved : goal.loop-seat-preserved
 loop-seat-preserved g c =

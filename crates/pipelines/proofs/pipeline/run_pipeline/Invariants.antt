@@ -1,4 +1,4 @@
-use Rattle.crew_threads.proofs.pipeline.run_pipeline.Given as goal
+use Rattle.pipelines.proofs.pipeline.run_pipeline.Given as goal
 
 -- the name is that of the inputs that are handed over
 abbrev pub ghosts-run_known : goal.ghosts-run_known
