@@ -33,7 +33,7 @@ SUBJECTS = {
     "Frames and sources of bytes": ["sources", "day_file", "streaming", "block_scan"],
     "Orders (sections 1.3, 1.4.5)": ["order_table"],
     "Trades and sales (sections 1.4.1, 1.4.2, 1.5)": ["row_types", "probe"],
-    "Names, listings and texts (section 1.2.1)": ["ranges", "time_and_sales"],
+    "Names, listings and texts (section 1.2.1)": ["time_and_sales"],
     "Bars": ["bars"],
     "Queries": ["meaning", "query", "canonical_query"],
     "Answers": ["day_rows", "answers"],

@@ -1,5 +1,5 @@
 ghost use Rattle.std.specs.Prelude.{◌≡◌, ◌↔◌, ◌<◌, ◌≤◌, ◌^◌, IfOk, IfSome, IsErr, IsNone, length};
-ghost use Rattle.ranges.specs.Ranges.{all_items};
+ghost use Rattle.time_and_sales.specs.Ranges.{all_items};
 
 use crate::OutOfMemory;
 use std::alloc::{AllocError, Allocator, Global};
@@ -13,7 +13,7 @@ pub struct Text<A: Allocator = Global> {
 
 impl<A: Allocator> Model for Text<A> {
     ghost use Rattle.std.specs.Prelude.{ℕ, List, ◌<◌, ◌^◌, length};
-    ghost use Rattle.ranges.specs.Ranges.{all_items};
+    ghost use Rattle.time_and_sales.specs.Ranges.{all_items};
 
     ghost Value = { List ℕ };
 

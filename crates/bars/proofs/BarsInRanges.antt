@@ -13,8 +13,8 @@ use Rattle.std.proofs.lemmas.List.Elements.{filter-append, filter_agree, filter_
 use Rattle.std.proofs.lemmas.List.Sorted.{IsNonDecreasingBy-from_all_adjacent}
 use Rattle.lists.proofs.Lists.{filter_of_filter, flat_map_next}
 use Rattle.lists.proofs.Order.{Contains-filter}
-use Rattle.ranges.specs.Ranges.{is_in_first}
-use Rattle.ranges.proofs.RangesJoined.{in_first_alike, none_pass}
+use Rattle.time_and_sales.specs.Ranges.{is_in_first}
+use Rattle.time_and_sales.proofs.RangesJoined.{in_first_alike, none_pass}
 use Rattle.row_types.specs.declared.trade.Sale.{Sale}
 use Rattle.time_and_sales.proofs.SortedByPlace.{no_sale}
 use Rattle.bars.specs.Bars.{Key, Bar, key_cmp, under, joined_all, joined_bar, IsByKey, IsUnionOf, AllSumsFit}

@@ -2,7 +2,7 @@
 ghost use Rattle.std.specs.Prelude.{◌≡◌, ◌<◌, ◌++◌, All, IfOk, OnOk, List, filter, map};
 ghost use Rattle.std.specs.List.Sorted.{IsSorted};
 ghost use Rattle.lists.specs.declared.limits.TheConstants.{TIME_LIMIT};
-ghost use Rattle.ranges.specs.Ranges.{all_items, is_in_first};
+ghost use Rattle.time_and_sales.specs.Ranges.{all_items, is_in_first};
 ghost use Rattle.time_and_sales.specs.Lent.{lent};
 ghost use Rattle.time_and_sales.specs.Names.{names_by};
 ghost use Rattle.bars.specs.Bars.{AllSumsFit, FitIfTraded, IsTraded, IsUnionOf, all_bars, key_cmp};
@@ -17,10 +17,9 @@ use crate::form::Form;
 use crate::joined_lines::joined_lines;
 use crate::keyed::{Keyed, append_bars, append_sales};
 use crate::located::ByLocate;
-use ranges::{numbers_of, texts_in_ranges, within};
 use std::alloc::Global;
 use std::thread::Threads;
-use time_and_sales::Names;
+use time_and_sales::{Names, numbers_of, texts_in_ranges, within};
 
 /// About how many sales and bars a range has at most. Their keys then stay in a processor's nearer caches while they
 /// are sorted, and take little memory.

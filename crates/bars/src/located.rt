@@ -1,8 +1,8 @@
 //! What is of a locate, in the order of locates.
 
 use crate::bar::Bar;
-use ranges::Numbered;
 use row_types::Sale;
+use time_and_sales::Numbered;
 
 /// The order of sales and of bars by locate.
 pub(crate) struct ByLocate;

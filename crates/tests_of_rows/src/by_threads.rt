@@ -1,9 +1,9 @@
 //! Texts that threads make in ranges, whatever the number of threads.
 
 use crate::bar_ranges::joined;
-use ranges::{OutOfMemory, texts_in_ranges};
 use std::alloc::{AllocError, Global};
 use std::test::Fail;
+use time_and_sales::{OutOfMemory, texts_in_ranges};
 
 /// The text of the first range: a letter for its first bound, and how many bounds follow.
 fn letter_of(alloc: Global, bounds: &[u64]) -> Result<Vec<u8>, OutOfMemory> {

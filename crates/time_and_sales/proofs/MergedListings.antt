@@ -19,7 +19,7 @@ use Rattle.std.proofs.lemmas.Iterator.Consumers.{YieldsList-from_copied}
 use Rattle.std.proofs.lemmas.Map.Keys.{Less-from_sorted}
 use Rattle.itertools.specs.KMerge.{SourcesGive, kmerge_steps}
 use Rattle.itertools.specs.declared.kmerge_impl.KMergeBy.{KMergeBy}
-use Rattle.ranges.specs.Ranges.{all_items}
+use Rattle.time_and_sales.specs.Ranges.{all_items}
 use Rattle.row_types.specs.declared.trade.Sale.{Sale}
 use Rattle.row_types.specs.SalesByPlace.{place_cmp, IsByPlace}
 use Rattle.time_and_sales.specs.Lent.{all_sales}

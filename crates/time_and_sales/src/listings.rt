@@ -1,13 +1,13 @@
 //! A listing: sales by place.
 ghost use Rattle.std.specs.Prelude.{◌≡◌, List, [], ◌++◌, nat_lt, IsOk, IfOk, OnOk, OnErr, All, ⊤};
 ghost use Rattle.std.specs.List.Sorted.{IsPermutation};
-ghost use Rattle.ranges.specs.Ranges.{all_items};
+ghost use Rattle.time_and_sales.specs.Ranges.{all_items};
 ghost use Rattle.row_types.specs.SalesByPlace.{IsByPlace};
 ghost use Rattle.time_and_sales.specs.Lent.{AreApart, all_sales};
 
 use crate::OutOfMemory;
+use crate::numbered::Numbered;
 use itertools::{Itertools, MergePredicate};
-use ranges::Numbered;
 use row_types::Sale;
 use std::alloc::{Allocator, Global};
 use std::marker::Model;

@@ -1,5 +1,5 @@
 use Rattle.std.proofs.Common.{◌≡◌, take}
-use Rattle.ranges.specs.Ranges.{all_items}
+use Rattle.time_and_sales.specs.Ranges.{all_items}
 use Rattle.answers.proofs.text.join.Given as goal
 
 -- the bytes of the pieces so far

@@ -1,5 +1,5 @@
 use Rattle.std.proofs.Common.{◌≡◌, length, take}
-use Rattle.ranges.specs.Ranges.{all_items}
+use Rattle.time_and_sales.specs.Ranges.{all_items}
 use Rattle.answers.proofs.text.length_of.Given as goal
 
 -- how many bytes the pieces so far have

@@ -1,7 +1,7 @@
 use Rattle.std.proofs.Common.{All, map, filter, ap}
 use Rattle.std.proofs.lemmas.List.Elements.{All-filter, All-map}
 use Rattle.std.proofs.lemmas.Result.{on_ok_weaker}
-use Rattle.ranges.specs.Ranges.{is_in_first}
+use Rattle.time_and_sales.specs.Ranges.{is_in_first}
 use Rattle.row_types.specs.declared.trade.Sale.{Sale}
 use Rattle.bars.specs.Bars.{IsTraded}
 use Rattle.bars.specs.Steps.{AreJoinedAlike, AreUnmade, bar_at, bar_of_one, bars_of_form}

@@ -4,7 +4,7 @@ use Rattle.std.proofs.lemmas.List.Folds.{flat_map-map}
 use Rattle.time_and_sales.specs.Lent.{lent}
 use Rattle.bars.specs.Bars.{Bar, all_bars}
 use Rattle.bars.specs.Steps.{bar_at}
-use Rattle.ranges.specs.Ranges.{is_in_first}
+use Rattle.time_and_sales.specs.Ranges.{is_in_first}
 use Rattle.bars.proofs.BarsInRanges.{first_as_locate, gathering, locate_of, sums_within}
 use Rattle.bars.proofs.JoinedTables.{traded_more}
 use Rattle.bars.proofs.bars_in_ranges.gathered.Goals as goal

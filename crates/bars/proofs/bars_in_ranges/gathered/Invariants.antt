@@ -1,5 +1,5 @@
 use Rattle.std.proofs.Common.{List, map, take, filter, flat_map, Bor, All}
-use Rattle.ranges.specs.Ranges.{is_in_first}
+use Rattle.time_and_sales.specs.Ranges.{is_in_first}
 use Rattle.time_and_sales.specs.Lent.{lent}
 use Rattle.bars.specs.Bars.{Bar, IsTraded, all_bars}
 use Rattle.bars.specs.Steps.{AreJoinedAlike, bar_at}

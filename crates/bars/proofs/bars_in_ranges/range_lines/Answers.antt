@@ -2,7 +2,7 @@ use Rattle.std.proofs.Common.{◌<◌, filter}
 use Rattle.std.proofs.lemmas.Result.{IfOk-weaker}
 use Rattle.std.proofs.lemmas.List.Elements.{All-filter}
 use Rattle.lists.specs.declared.limits.TheConstants.{TIME_LIMIT}
-use Rattle.ranges.specs.Ranges.{is_in_first}
+use Rattle.time_and_sales.specs.Ranges.{is_in_first}
 use Rattle.time_and_sales.specs.Lent.{lent}
 use Rattle.bars.specs.Bars.{Bar, all_bars}
 use Rattle.bars.proofs.BarsInRanges.{first_as_locate, IsUnionOf-within, locate_of, starts_alike}

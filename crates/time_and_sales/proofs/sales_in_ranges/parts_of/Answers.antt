@@ -1,7 +1,7 @@
 use Rattle.std.proofs.Common.{arith}
 use Rattle.std.proofs.lemmas.List.Elements.{All-push}
 use Rattle.std.proofs.lemmas.List.Kept.{IsStrictlySortedBy-filter}
-use Rattle.ranges.specs.Ranges.{is_in_first}
+use Rattle.time_and_sales.specs.Ranges.{is_in_first}
 use Rattle.row_types.specs.SalesByPlace.{place_cmp, IsByPlace}
 use Rattle.time_and_sales.proofs.MergedListings.{rest_of}
 use Rattle.time_and_sales.proofs.SalesInRanges.{loops}

@@ -1,5 +1,5 @@
 use Rattle.std.proofs.Common.{◌≡◌, All, filter, map, take}
-use Rattle.ranges.specs.Ranges.{is_in_first}
+use Rattle.time_and_sales.specs.Ranges.{is_in_first}
 use Rattle.row_types.specs.SalesByPlace.{IsByPlace}
 use Rattle.time_and_sales.specs.Lent.{lent}
 use Rattle.time_and_sales.proofs.MergedListings.{rest_of}

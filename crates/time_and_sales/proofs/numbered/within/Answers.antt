@@ -1,6 +1,6 @@
 use Rattle.std.proofs.Common.{filter, get_or, ltb, sym, ap, ◌∙◌, arith}
-use Rattle.ranges.proofs.RangesJoined.{no_bound, two_bounds}
-use Rattle.ranges.proofs.numbered.within.Goals as goal
+use Rattle.time_and_sales.proofs.RangesJoined.{no_bound, two_bounds}
+use Rattle.time_and_sales.proofs.numbered.within.Goals as goal
 
 pub returns-in-empty : goal.returns-in-empty
 returns-in-empty g c = sym (no_bound g.N.Numbered.number_of c.args.bounds.now c.args.items.now (omega (arith, c.in-empty.len_below)))

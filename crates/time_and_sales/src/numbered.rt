@@ -1,7 +1,7 @@
 //! Items in the order of a number that each of them has, and the search for a range of numbers.
 ghost use Rattle.std.specs.Prelude.{◌≡◌, ℕ, ◌-◌, ◌≤◌, IfOk, filter, length, nat_lt, not};
 ghost use Rattle.std.specs.List.Sorted.{IsNonDecreasingBy};
-ghost use Rattle.ranges.specs.Ranges.{is_in_first};
+ghost use Rattle.time_and_sales.specs.Ranges.{is_in_first};
 
 use crate::OutOfMemory;
 use std::alloc::Global;

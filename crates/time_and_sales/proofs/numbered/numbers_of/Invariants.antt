@@ -1,5 +1,5 @@
 use Rattle.std.proofs.Common.{◌<◌, ◌≤◌, length, max}
-use Rattle.ranges.proofs.numbered.numbers_of.Given as goal
+use Rattle.time_and_sales.proofs.numbered.numbers_of.Given as goal
 
 -- each part so far but the first has one number at most
 abbrev pub invariant-loop-part : goal.invariant-loop-part

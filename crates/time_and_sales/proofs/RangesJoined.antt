@@ -11,8 +11,8 @@ use Rattle.std.proofs.lemmas.List.Concat.{flat_map-append}
 use Rattle.std.proofs.lemmas.List.Elements.{filter-append, All-head, All-tail}
 use Rattle.std.proofs.lemmas.List.Kept.{IsNonDecreasingBy-filter}
 use Rattle.lists.proofs.Lists.{filter_of_filter}
-use Rattle.ranges.specs.Ranges.{GivesRanges, all_items, greatest_so_far, is_in_first}
-use Rattle.ranges.specs.Turns.{AreTextsOf}
+use Rattle.time_and_sales.specs.Ranges.{GivesRanges, all_items, greatest_so_far, is_in_first}
+use Rattle.time_and_sales.specs.Turns.{AreTextsOf}
 
 -- ---- what a search finds
 

@@ -1,7 +1,7 @@
 use Rattle.std.proofs.Common.{rules}
 use Rattle.std.proofs.lemmas.Result.{IfOk-weaker}
-use Rattle.ranges.proofs.RangesJoined.{ranges_join}
-use Rattle.ranges.proofs.texts.texts_in_ranges.Goals as goal
+use Rattle.time_and_sales.proofs.RangesJoined.{ranges_join}
+use Rattle.time_and_sales.proofs.range_texts.texts_in_ranges.Goals as goal
 
 pub returns : goal.returns
 returns g c =

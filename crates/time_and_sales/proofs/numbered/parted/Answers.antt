@@ -1,7 +1,7 @@
 use Rattle.std.proofs.Common.{rules, ltb, ◌∙◌}
 use Rattle.std.proofs.lemmas.List.Sorted.{IsNonDecreasingBy-drop, IsPartitionPoint-from_clause, IsPartitionedBy-ltb}
-use Rattle.ranges.proofs.RangesJoined.{failing_back, passing_front}
-use Rattle.ranges.proofs.numbered.parted.Goals as goal
+use Rattle.time_and_sales.proofs.RangesJoined.{failing_back, passing_front}
+use Rattle.time_and_sales.proofs.numbered.parted.Goals as goal
 
 pub returns : goal.returns
 returns g c =

@@ -1,6 +1,6 @@
 use Rattle.std.proofs.Common.{◌-◌, arith}
-use Rattle.ranges.proofs.RangesJoined.{texts_join}
-use Rattle.ranges.proofs.texts.+halves.Goals as goal
+use Rattle.time_and_sales.proofs.RangesJoined.{texts_join}
+use Rattle.time_and_sales.proofs.range_texts.+halves.Goals as goal
 
 pub returns : goal.returns
 returns g t c =

@@ -1,6 +1,6 @@
 use Rattle.std.proofs.Common.{◌≡◌, ◌++◌, ◌∷◌, drop}
-use Rattle.ranges.specs.Ranges.{greatest_so_far}
-use Rattle.ranges.proofs.texts.bounds_of.Given as goal
+use Rattle.time_and_sales.specs.Ranges.{greatest_so_far}
+use Rattle.time_and_sales.proofs.range_texts.bounds_of.Given as goal
 
 -- the bounds so far, and those that are to come
 abbrev pub invariant-loop-number : goal.invariant-loop-number

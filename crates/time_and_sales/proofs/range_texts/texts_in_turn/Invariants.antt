@@ -1,5 +1,5 @@
-use Rattle.ranges.specs.Turns.{AreTextsOf}
-use Rattle.ranges.proofs.texts.texts_in_turn.Given as goal
+use Rattle.time_and_sales.specs.Turns.{AreTextsOf}
+use Rattle.time_and_sales.proofs.range_texts.texts_in_turn.Given as goal
 
 -- the texts of the ranges so far
 abbrev pub invariant-loop-number : goal.invariant-loop-number

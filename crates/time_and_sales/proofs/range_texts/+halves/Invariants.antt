@@ -1,5 +1,5 @@
 use Rattle.std.proofs.Common.{◌+◌, ◌*◌}
-use Rattle.ranges.proofs.texts.+halves.Given as goal
+use Rattle.time_and_sales.proofs.range_texts.+halves.Given as goal
 
 abbrev pub decreases-texts_on_threads : goal.decreases-texts_on_threads
 decreases-texts_on_threads g l = 2 * l.threads

@@ -1,8 +1,8 @@
 //! The text of items in ranges of numbers, which threads make side by side.
 ghost use Rattle.std.specs.Prelude.{◌≡◌, ℕ, ◌∷◌, ◌≤◌, IfOk, List, flat_map, length};
 ghost use Rattle.std.specs.List.Sorted.{IsNonDecreasingBy};
-ghost use Rattle.ranges.specs.Ranges.{GivesRanges, all_items, greatest_so_far};
-ghost use Rattle.ranges.specs.Turns.{AreTextsOf};
+ghost use Rattle.time_and_sales.specs.Ranges.{GivesRanges, all_items, greatest_so_far};
+ghost use Rattle.time_and_sales.specs.Turns.{AreTextsOf};
 
 use crate::OutOfMemory;
 use std::alloc::Global;

@@ -1,7 +1,7 @@
 use Rattle.std.proofs.Common.{◌++◌, ap, sym, ◌∙◌}
 use Rattle.std.proofs.lemmas.List.{append-nil, at_drop_all}
-use Rattle.ranges.specs.Ranges.{greatest_so_far}
-use Rattle.ranges.proofs.texts.bounds_of.Goals as goal
+use Rattle.time_and_sales.specs.Ranges.{greatest_so_far}
+use Rattle.time_and_sales.proofs.range_texts.bounds_of.Goals as goal
 
 pub returns : goal.returns
 returns c =

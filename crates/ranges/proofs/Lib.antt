@@ -1,2 +1,0 @@
-mod MadeTexts
-pub mod RangesJoined
