@@ -1,3 +1,4 @@
 mod EachOnce
 mod OneRehearsal
 mod Rehearsed
+pub mod Steps

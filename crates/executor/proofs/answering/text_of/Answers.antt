@@ -2,7 +2,7 @@ use Rattle.std.proofs.Common.{arith}
 use Rattle.std.proofs.lemmas.Bool.Decides.{nat_tests}
 use Rattle.bars.proofs.SumsAreBounded.{table_is_writable}
 use Rattle.answers.proofs.SelectedSales.{listing_places, times_fit}
-use Rattle.sequential.proofs.answering.text_of.Goals as goal
+use Rattle.executor.proofs.answering.text_of.Goals as goal
 
 pub text_of_sales-requires : goal.text_of_sales-requires
 text_of_sales-requires g c = rw c.items-sales.ensures.value (times_fit c.args.listing.now c.requires.stamped)

@@ -12,7 +12,7 @@ ghost use Rattle.time_and_sales.specs.Names.{names_by};
 ghost use Rattle.answers.specs.Answers.{IsAnswer, IsAnswerToMessages, IsTextOfSales, told_by};
 ghost use Rattle.day_rows.specs.DayRows.{IsStamped};
 ghost use Rattle.day_rows.specs.Messages.{Placed};
-ghost use Rattle.sequential.specs.Steps.{AreOfDay, AreOfMessages, AreTradesOf, IfDay, IsReferenceFault};
+ghost use Rattle.executor.specs.Steps.{AreOfDay, AreOfMessages, AreTradesOf, IfDay, IsReferenceFault};
 
 use crate::OutOfMemory;
 use crate::refused::Refused;

@@ -1,6 +1,6 @@
 ghost use Rattle.std.specs.Prelude.{◌≡◌};
 ghost use Rattle.outcomes.specs.declared.day_fault.DayFault.TheVariants.{Truncated as AtPlace};
-ghost use Rattle.sequential.specs.declared.refused.Refused.TheVariants.{Day, OutOfMemory as Memory};
+ghost use Rattle.executor.specs.declared.refused.Refused.TheVariants.{Day, OutOfMemory as Memory};
 
 use answers::DayFault;
 use day_file::Truncated;

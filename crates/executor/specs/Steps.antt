@@ -8,8 +8,8 @@ use Rattle.answers.specs.Answers.{DayFault, FaultOr, HasCounted, repeated_at, un
 use Rattle.day_rows.specs.DayRows.{AreByPlace, AreStamped, IsStamped, rows_of}
 use Rattle.day_rows.specs.Messages.{Placed, executions, order_rows, own_priced_sales}
 use Rattle.morsel_rows.specs.Partitions.{MorselRowsView, in_partitions}
-use Rattle.sequential.specs.declared.refused.Refused.{Refused}
-use Rattle.sequential.specs.declared.refused.Refused.TheVariants.{Day, OutOfMemory}
+use Rattle.executor.specs.declared.refused.Refused.{Refused}
+use Rattle.executor.specs.declared.refused.Refused.TheVariants.{Day, OutOfMemory}
 
 -- P of the day's fault; nothing is said if memory was refused
 abbrev pub IfDay : Refused → (DayFault → Type 0) → Type 0

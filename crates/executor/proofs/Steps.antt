@@ -15,9 +15,9 @@ use Rattle.day_rows.proofs.RowsOfFrames.{rows_more, wrong_more}
 use Rattle.morsel_rows.specs.MoreRows.{BecomesJoined}
 use Rattle.morsel_rows.specs.Partitions.{MorselRowsView, PartitionView, in_partitions}
 use Rattle.morsel_rows.proofs.JoinedPartitions.{one_partition}
-use Rattle.sequential.specs.Steps.{AreOfDay, AreOfMessages, IfDay, IsReferenceFault}
-use Rattle.sequential.specs.declared.refused.Refused.{Refused}
-use Rattle.sequential.specs.declared.refused.Refused.TheVariants.{Day, OutOfMemory}
+use Rattle.executor.specs.Steps.{AreOfDay, AreOfMessages, IfDay, IsReferenceFault}
+use Rattle.executor.specs.declared.refused.Refused.{Refused}
+use Rattle.executor.specs.declared.refused.Refused.TheVariants.{Day, OutOfMemory}
 
 -- what a loop over frames has collected of the messages that count
 pub record IsCollecting (as_of : Option ℕ) (all left : List PlacedBody) (rows : MorselRowsView) : Type 0 where

@@ -6,9 +6,9 @@ use Rattle.day_rows.specs.Messages.{executions, order_rows, own_priced_sales}
 use Rattle.day_rows.proofs.RowsByPlace.{executions_distinct, orders_distinct}
 use Rattle.day_rows.proofs.StampedSales.{fits_all}
 use Rattle.morsel_rows.specs.Partitions.{PartitionView}
-use Rattle.sequential.specs.Steps.{IsReferenceFault}
-use Rattle.sequential.proofs.Steps.{fault_answers, has_partition, on_day, whole_partition}
-use Rattle.sequential.proofs.answering.trades_of.Goals as goal
+use Rattle.executor.specs.Steps.{IsReferenceFault}
+use Rattle.executor.proofs.Steps.{fault_answers, has_partition, on_day, whole_partition}
+use Rattle.executor.proofs.answering.trades_of.Goals as goal
 
 pub unwrap-all-requires : goal.unwrap-all-requires
 unwrap-all-requires g c = has_partition c.requires.0 c.partition.result _ c.requires.1 c.partition.ensures

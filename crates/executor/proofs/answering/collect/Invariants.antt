@@ -1,6 +1,6 @@
 use Rattle.std.proofs.Common.{◌≡◌}
-use Rattle.sequential.proofs.Steps.{IsCollecting}
-use Rattle.sequential.proofs.answering.collect.Given as goal
+use Rattle.executor.proofs.Steps.{IsCollecting}
+use Rattle.executor.proofs.answering.collect.Given as goal
 
 -- the frames so far have right lengths, and have given their rows
 abbrev pub invariant-loop-frame : goal.invariant-loop-frame

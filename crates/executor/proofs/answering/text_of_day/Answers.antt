@@ -10,8 +10,8 @@ use Rattle.day_rows.specs.Messages.{directory_rows, executions, own_priced_sales
 use Rattle.day_rows.proofs.RowsByPlace.{kept_apart}
 use Rattle.day_rows.proofs.StampedSales.{fits_listing}
 use Rattle.morsel_rows.specs.Partitions.{MorselRowsView}
-use Rattle.sequential.proofs.Steps.{day_answers, on_day}
-use Rattle.sequential.proofs.answering.text_of_day.Goals as goal
+use Rattle.executor.proofs.Steps.{day_answers, on_day}
+use Rattle.executor.proofs.answering.text_of_day.Goals as goal
 
 pub trades_of-requires : goal.trades_of-requires
 trades_of-requires g c = let of = c.in_ok-rows.ensures.rows in (of.messages, of.of)

@@ -18,8 +18,8 @@ use Rattle.day_rows.proofs.RowsByPlace.{messages_by_place}
 use Rattle.day_rows.proofs.RowsOfFrames.{right_length, wrong_first}
 use Rattle.day_rows.proofs.StampedMessages.{stamped_rows}
 use Rattle.morsel_rows.specs.Partitions.{in_partitions}
-use Rattle.sequential.proofs.Steps.{collects}
-use Rattle.sequential.proofs.answering.collect.Goals as goal
+use Rattle.executor.proofs.Steps.{collects}
+use Rattle.executor.proofs.answering.collect.Goals as goal
 
 -- a file that is truncated, whose first frame begins at 0
 truncated_at : (bytes : List ℕ) {truncated : Option ℕ} (place : ℕ) → truncated ≡ Some place
