@@ -40,7 +40,7 @@ SUBJECTS = {
     "Runs": ["runs", "sinks", "executor"],
     "The command line": ["arguments", "reports", "command_line"],
     "Sharing work": ["gathering", "dispatcher", "workers", "pipelines", "schedules"],
-    "Works": ["order_list", "morsel_rows", "scanning", "buckets", "planning", "joining"],
+    "Works": ["order_list", "morsel_rows", "scanning", "buckets", "planning"],
 }
 BEGINS, ENDS = "<!-- {}: check/test_definitions.py writes what follows -->", "<!-- to here -->"
 DOCUMENT = TOP / "docs/DEFINITIONS.md"

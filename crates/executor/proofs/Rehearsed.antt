@@ -19,7 +19,7 @@ use Rattle.day_file.proofs.Kept.{length-numbered}
 use Rattle.buckets.specs.BucketRows.{BucketView}
 use Rattle.buckets.specs.Buckets.{total_found}
 use Rattle.buckets.specs.FoundRows.{TotalView}
-use Rattle.joining.specs.Gathered.{AreGatheredOf}
+use Rattle.planning.specs.AllBuckets.{AreGatheredOf}
 use Rattle.planning.specs.Planned.{LinkView, linked_to, planned_bucket}
 use Rattle.planning.proofs.LinkedBuckets.{halt_of, next_of}
 use Rattle.executor.specs.Rehearsals.{IsRehearsed}

@@ -8,15 +8,14 @@ ghost use Rattle.bars.specs.Bars.{AreBarsOf, AreBarsOfEach, FitIfTraded, IsTrade
 ghost use Rattle.meaning.specs.declared.query.What.TheVariants.{Bars, Sales};
 ghost use Rattle.answers.specs.Answers.{IsAnswerToMessages, told_by};
 ghost use Rattle.day_rows.specs.Messages.{Placed};
-ghost use Rattle.joining.specs.Gathered.{AreGatheredOf, AreProductsOf, IsTextOfAll, listing_of};
+ghost use Rattle.planning.specs.AllBuckets.{AreGatheredOf, AreProductsOf, IsTextOfAll, listing_of};
 
 use crate::OutOfMemory;
 use answers::{Answer, Text, text_of_bars, text_of_sales};
 use bars::{BarTable, BucketBars};
 use buckets::{BucketTotal, Product};
-use joining::{fault_of, tables};
 use meaning::{Query, What};
-use planning::DayPlan;
+use planning::{DayPlan, fault_of, tables};
 use std::alloc::Global;
 use std::sync::Arc;
 use time_and_sales::{Listing, Names};

@@ -1,1 +1,2 @@
+pub mod AllBuckets
 pub mod Planned

@@ -1,11 +1,16 @@
-//! From the rows of all morsels to buckets.
+//! From the rows of all morsels to buckets, and from what all buckets have found to the answer: the first fault in the
+//! references, or the text.
 #![tactic(auto)]
 
+mod fault_and_tables;
 mod kept;
 mod plan_link;
 mod plan_making;
+mod ranged_answer;
 
 pub use buckets::DayNames;
+pub use fault_and_tables::{fault_of, tables};
 pub use kept::DayPlan;
 pub use lists::OutOfMemory;
 pub use plan_link::PlanLink;
+pub use ranged_answer::answer_in_ranges;

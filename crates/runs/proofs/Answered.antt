@@ -15,7 +15,7 @@ use Rattle.scanning.specs.declared.wrong.WrongLength.{WrongLength}
 use Rattle.buckets.specs.BucketRows.{BucketView}
 use Rattle.buckets.specs.Buckets.{total_found}
 use Rattle.buckets.specs.FoundRows.{TotalView}
-use Rattle.joining.specs.Gathered.{AreGatheredOf}
+use Rattle.planning.specs.AllBuckets.{AreGatheredOf}
 use Rattle.planning.specs.Planned.{LinkView, linked_to}
 use Rattle.planning.proofs.LinkedBuckets.{halt_of, next_of}
 use Rattle.runs.specs.Steps.{IsOutcomeOf, IsScanOf}

@@ -30,8 +30,8 @@ use Rattle.buckets.specs.BucketRows.{BucketView}
 use Rattle.buckets.specs.Buckets.{found, total_found}
 use Rattle.buckets.specs.FoundRows.{FoundView, TotalView, all_found, found_of}
 use Rattle.buckets.specs.Plans.{rising, selection_of}
-use Rattle.joining.specs.Gathered.{AreGatheredOf, found_in}
-use Rattle.joining.proofs.AnswerOfBuckets.{map_below}
+use Rattle.planning.specs.AllBuckets.{AreGatheredOf, found_in}
+use Rattle.planning.proofs.AnswerOfBuckets.{map_below}
 use Rattle.planning.specs.Planned.{all_directory, planned_bucket, planned_buckets}
 use Rattle.planning.proofs.MorselsOfCuts.{breaks_are, counted_in, directory_is, input_of, partition_is, told_of, wrong_is}
 

@@ -1,8 +1,8 @@
 use Rattle.std.proofs.Common.{◌∙◌, ap, sym}
 use Rattle.meaning.specs.Meaning.{Meaning}
-use Rattle.joining.proofs.AnswerOfBuckets.{fault_answers, text_gathered}
-use Rattle.joining.proofs.BucketsOfMessages.{lists_in}
-use Rattle.joining.proofs.ProductsJoined.{gathered_products}
+use Rattle.planning.proofs.AnswerOfBuckets.{fault_answers, text_gathered}
+use Rattle.planning.proofs.BucketsOfMessages.{lists_in}
+use Rattle.planning.proofs.ProductsJoined.{gathered_products}
 use Rattle.executor.proofs.joined.answer_of.Goals as goal
 
 pub returns-in-Some : goal.returns-in-Some

@@ -1,7 +1,7 @@
 use Rattle.std.proofs.Common.{◌≡◌, ◌++◌, filter_map, map}
 use Rattle.std.specs.Arc.{arc_value}
 use Rattle.std.specs.Vec.Iter.{into_iter_items}
-use Rattle.joining.specs.Gathered.{listing_of}
+use Rattle.planning.specs.AllBuckets.{listing_of}
 use Rattle.executor.proofs.joined.listings.Given as goal
 
 -- the listings so far, and those of what is left

@@ -1,7 +1,7 @@
 use Rattle.std.proofs.Common.{◌<◌}
 use Rattle.std.proofs.lemmas.List.Sorted.{All-permutation, IsPermutation-trans}
 use Rattle.lists.specs.declared.limits.TheConstants.{TIME_LIMIT}
-use Rattle.joining.proofs.ProductsJoined.{listings_apart, listings_are, listings_times, on_ok}
+use Rattle.planning.proofs.ProductsJoined.{listings_apart, listings_are, listings_times, on_ok}
 use Rattle.executor.proofs.joined.text_of_listings.Goals as goal
 
 pub merge_all-requires : goal.merge_all-requires

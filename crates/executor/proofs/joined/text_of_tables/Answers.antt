@@ -1,7 +1,7 @@
 use Rattle.time_and_sales.specs.Lent.{all_sales, lent}
 use Rattle.bars.specs.Bars.{AreBarsOfEach}
 use Rattle.bars.proofs.SumsAreBounded.{table_is_writable}
-use Rattle.joining.proofs.ProductsJoined.{on_ok, tables_are, tables_sums, times_fit}
+use Rattle.planning.proofs.ProductsJoined.{on_ok, tables_are, tables_sums, times_fit}
 use Rattle.executor.proofs.joined.text_of_tables.Goals as goal
 
 pub merged-requires : goal.merged-requires

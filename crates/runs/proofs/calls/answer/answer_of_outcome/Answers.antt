@@ -1,7 +1,7 @@
 use Rattle.std.proofs.Common.{sym, subst}
 use Rattle.std.proofs.lemmas.Result.{IfOk-weaker}
 use Rattle.answers.specs.Answers.{told_by}
-use Rattle.joining.specs.Gathered.{AreGatheredOf}
+use Rattle.planning.specs.AllBuckets.{AreGatheredOf}
 use Rattle.runs.proofs.Answered.{finished, stopped}
 use Rattle.runs.proofs.calls.answer.answer_of_outcome.Goals as goal
 

@@ -3,8 +3,8 @@ use Rattle.std.proofs.Common.{append-nil}
 use Rattle.std.specs.Arc.{arc_value}
 use Rattle.std.proofs.lemmas.List.{map_more, map_push}
 use Rattle.std.proofs.lemmas.List.Elements.{filter_map-append}
-use Rattle.joining.proofs.listed.tables.Goals as goal
-use Rattle.joining.proofs.listed.tables.Goals.{in-Tabled+in_ok-push-in-Tabled, in-Listed}
+use Rattle.planning.proofs.fault_and_tables.tables.Goals as goal
+use Rattle.planning.proofs.fault_and_tables.tables.Goals.{in-Tabled+in_ok-push-in-Tabled, in-Listed}
 
 pub loop-product-preserved : goal.loop-product-preserved
 loop-product-preserved c =

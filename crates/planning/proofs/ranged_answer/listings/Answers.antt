@@ -3,8 +3,8 @@ use Rattle.std.proofs.Common.{append-nil}
 use Rattle.std.specs.Arc.{arc_value}
 use Rattle.std.proofs.lemmas.List.{map_more, map_push}
 use Rattle.std.proofs.lemmas.List.Elements.{filter_map-append}
-use Rattle.joining.proofs.ranged_answer.listings.Goals as goal
-use Rattle.joining.proofs.ranged_answer.listings.Goals.{in-Listed+in_ok-push-in-Listed, in-Tabled}
+use Rattle.planning.proofs.ranged_answer.listings.Goals as goal
+use Rattle.planning.proofs.ranged_answer.listings.Goals.{in-Listed+in_ok-push-in-Listed, in-Tabled}
 
 pub loop-product-preserved : goal.loop-product-preserved
 loop-product-preserved c =

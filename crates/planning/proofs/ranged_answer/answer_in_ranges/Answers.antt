@@ -1,10 +1,10 @@
 use Rattle.std.proofs.Common.{◌∙◌, ap, map, sym}
 use Rattle.std.specs.Arc.{arc_value}
 use Rattle.meaning.specs.Meaning.{Meaning}
-use Rattle.joining.proofs.AnswerOfBuckets.{fault_answers, text_gathered}
-use Rattle.joining.proofs.BucketsOfMessages.{lists_in}
-use Rattle.joining.proofs.ProductsJoined.{gathered_products}
-use Rattle.joining.proofs.ranged_answer.answer_in_ranges.Goals as goal
+use Rattle.planning.proofs.AnswerOfBuckets.{fault_answers, text_gathered}
+use Rattle.planning.proofs.BucketsOfMessages.{lists_in}
+use Rattle.planning.proofs.ProductsJoined.{gathered_products}
+use Rattle.planning.proofs.ranged_answer.answer_in_ranges.Goals as goal
 
 pub returns-in-Some : goal.returns-in-Some
 returns-in-Some g c messages of =

@@ -6,8 +6,8 @@ use Rattle.bars.specs.Steps.{bars_of}
 use Rattle.bars.proofs.BarsOfSales.{bars_of_are}
 use Rattle.buckets.specs.Products.{by_place}
 use Rattle.buckets.proofs.ProductsOfSales.{by_place_is, by_place_rises}
-use Rattle.joining.proofs.ProductsJoined.{listing_of_all, listings_apart, listings_times, tables_starts, tables_sums, tables_union}
-use Rattle.joining.proofs.ranged_answer.text_of.Goals as goal
+use Rattle.planning.proofs.ProductsJoined.{listing_of_all, listings_apart, listings_times, tables_starts, tables_sums, tables_union}
+use Rattle.planning.proofs.ranged_answer.text_of.Goals as goal
 
 -- ---- listings
 

@@ -32,10 +32,10 @@ use Rattle.day_rows.proofs.StampedSales.{fits_all}
 use Rattle.morsel_rows.specs.Partitions.{partition_of}
 use Rattle.buckets.specs.FoundRows.{FoundView, sales_in}
 use Rattle.buckets.specs.Products.{product_of}
-use Rattle.joining.specs.Gathered.{AreProductsOf, Product, found_in}
+use Rattle.planning.specs.AllBuckets.{AreProductsOf, Product, found_in}
 use Rattle.buckets.specs.Plans.{rising, selection_of}
 use Rattle.buckets.proofs.RisingNumbers.{rising_among}
-use Rattle.joining.proofs.Selecting.{selection_agrees}
+use Rattle.planning.proofs.Selecting.{selection_agrees}
 
 -- ---- faults
 

@@ -1,8 +1,8 @@
 use Rattle.std.proofs.Common.{◌≡◌, filter_map, map, take}
 use Rattle.std.specs.Arc.{arc_value}
 use Rattle.time_and_sales.specs.Lent.{lent}
-use Rattle.joining.specs.Gathered.{table_of}
-use Rattle.joining.proofs.listed.tables.Given as goal
+use Rattle.planning.specs.AllBuckets.{table_of}
+use Rattle.planning.proofs.fault_and_tables.tables.Given as goal
 
 -- the tables of the products so far
 abbrev pub invariant-loop-product : goal.invariant-loop-product

@@ -2,7 +2,7 @@
 ghost use Rattle.std.specs.Prelude.{◌≡◌, IfOk, filter_map, map};
 ghost use Rattle.std.specs.Arc.{arc_value};
 ghost use Rattle.time_and_sales.specs.Lent.{lent};
-ghost use Rattle.joining.specs.Gathered.{fault_from, table_of};
+ghost use Rattle.planning.specs.AllBuckets.{fault_from, table_of};
 
 use crate::OutOfMemory;
 use bars::BucketBars;

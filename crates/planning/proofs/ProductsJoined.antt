@@ -21,8 +21,8 @@ use Rattle.day_rows.specs.Messages.{Placed}
 use Rattle.buckets.specs.FoundRows.{TotalView}
 use Rattle.buckets.specs.Products.{by_place, product_of}
 use Rattle.buckets.proofs.ProductsOfSales.{by_place_is}
-use Rattle.joining.specs.Gathered.{AreGatheredOf, AreProductsOf, Product, listing_of, table_of}
-use Rattle.joining.proofs.BucketsOfMessages.{lists_in, lists_listed}
+use Rattle.planning.specs.AllBuckets.{AreGatheredOf, AreProductsOf, Product, listing_of, table_of}
+use Rattle.planning.proofs.BucketsOfMessages.{lists_in, lists_listed}
 
 -- what each product gives
 given : {Y : Type 0} (f : Product → Option Y) (what : What) (g : List Sale → Y) → ((sales : List Sale) → f (product_of what sales) ≡ Some (g sales))

@@ -25,8 +25,8 @@ use Rattle.answers.proofs.AnswerOfSteps.{text_answers, text_asked}
 use Rattle.day_rows.proofs.RowsByPlace.{kept_distinct}
 use Rattle.day_rows.proofs.TradesOfRows.{kept_are_sales, listing_is}
 use Rattle.buckets.specs.FoundRows.{TotalView}
-use Rattle.joining.specs.Gathered.{AreGatheredOf, IsTextOfAll, fault_from}
-use Rattle.joining.proofs.BucketsOfMessages.{lists_are, lists_in, repeated_found, unknown_found}
+use Rattle.planning.specs.AllBuckets.{AreGatheredOf, IsTextOfAll, fault_from}
+use Rattle.planning.proofs.BucketsOfMessages.{lists_are, lists_in, repeated_found, unknown_found}
 
 -- ---- faults
 

@@ -6,10 +6,10 @@ ghost use Rattle.time_and_sales.specs.Lent.{all_sales, lent};
 ghost use Rattle.time_and_sales.specs.Names.{names_by};
 ghost use Rattle.answers.specs.Answers.{IsAnswerToMessages, told_by};
 ghost use Rattle.day_rows.specs.Messages.{Placed};
-ghost use Rattle.joining.specs.Gathered.{AreGatheredOf, AreProductsOf, IsTextOfAll, listing_of};
+ghost use Rattle.planning.specs.AllBuckets.{AreGatheredOf, AreProductsOf, IsTextOfAll, listing_of};
 
 use crate::OutOfMemory;
-use crate::listed::{fault_of, tables};
+use crate::fault_and_tables::{fault_of, tables};
 use answers::{Answer, Text, text_of_listings, text_of_tables};
 use buckets::{BucketTotal, DayNames, Product};
 use meaning::{Query, What};

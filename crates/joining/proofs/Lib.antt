@@ -1,4 +1,0 @@
-pub mod AnswerOfBuckets
-pub mod BucketsOfMessages
-pub mod ProductsJoined
-pub mod Selecting
