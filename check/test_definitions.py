@@ -20,8 +20,7 @@ PRODUCT = [crate for crate in crates() if is_product(crate)]
 PROGRAM = {
     "command_line": ["perform", "perform_blocks", "perform_opened"],
     "runs": ["run", "run_blocks"],
-    "arguments": ["command", "reading_fault"],
-    "reports": ["explain"],
+    "arguments": ["command", "reading_fault", "explain"],
 }
 DEVICES = ["sources/src/counted.rt", "block_scan/src/file_blocks.rt", "sinks/src/counted_sink.rt"]
 # How the second line of a file of specs/ begins, or is, by the first of these kinds that one of its definitions is of.
@@ -38,7 +37,7 @@ SUBJECTS = {
     "Queries": ["meaning", "query", "canonical_query"],
     "Answers": ["day_rows", "answers"],
     "Runs": ["runs", "sinks", "executor"],
-    "The command line": ["arguments", "reports", "command_line"],
+    "The command line": ["arguments", "command_line"],
     "Sharing work": ["gathering", "dispatcher", "workers", "pipelines", "schedules"],
     "Works": ["order_list", "morsel_rows", "scanning", "buckets", "planning"],
 }

@@ -1,5 +1,6 @@
 mod Examples
 mod Found
+mod LineParts
 mod Numbers
 pub mod Texts
 mod Whole

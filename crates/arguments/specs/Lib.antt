@@ -1,1 +1,3 @@
 pub mod Arguments
+pub mod FaultLines
+pub mod Reports

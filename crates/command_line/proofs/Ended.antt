@@ -1,7 +1,7 @@
 -- What a run's outcome says of its status, and its status of the errors.
 use Rattle.std.proofs.Common.{◌≡◌, ◌==◌, Result, Ok, Err, refl, arith}
-use Rattle.reports.specs.FaultLines.{status_of}
-use Rattle.reports.specs.Reports.{Device, Reported, status_of_outcome}
+use Rattle.arguments.specs.FaultLines.{status_of}
+use Rattle.arguments.specs.Reports.{Device, Reported, status_of_outcome}
 use Rattle.runs.specs.Runs.{is_read_failed}
 use Rattle.outcomes.specs.declared.run_fault.RunFault.{RunFault}
 use Rattle.outcomes.specs.declared.run_fault.RunFault.TheVariants as fault

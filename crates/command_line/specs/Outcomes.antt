@@ -9,8 +9,8 @@ use Rattle.streaming.specs.declared.Source.{Ghosts as SourceOf}
 use Rattle.runs.specs.Runs.{Ran, is_write_failed}
 use Rattle.outcomes.specs.declared.run_fault.RunFault.{RunFault}
 use Rattle.outcomes.specs.declared.run_fault.RunFault.TheVariants as fault
-use Rattle.reports.specs.Reports.{Reported, Told, status_of, status_of_outcome}
-pub use Rattle.reports.specs.Reports.{Device, device}
+use Rattle.arguments.specs.Reports.{Reported, Told, status_of, status_of_outcome}
+pub use Rattle.arguments.specs.Reports.{Device, device}
 
 -- what the program did to its devices, and its status
 module _ (job : Job) (out errors : Device) (status : ℕ) where

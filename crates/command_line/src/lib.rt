@@ -3,9 +3,8 @@
 
 mod performing;
 
-pub use arguments::{Job, WordsFault, command, reading_fault};
+pub use arguments::{Job, WordsFault, command, explain, reading_fault, tell};
 pub use performing::{perform, perform_blocks, perform_opened};
-pub use reports::{explain, tell};
 pub use runs::{
     BlockSource, Counted, CountedSink, Crew, DayFault, DeviceFailed, FileBlocks, LONGEST_FILE,
     QueryFault, ReadsAt, RunFault, Settings, Sink, Source,

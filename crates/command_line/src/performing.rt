@@ -2,11 +2,10 @@ ghost use Rattle.std.specs.Prelude.{◌≡◌, ◌==◌, false, MatchOption};
 ghost use Rattle.command_line.specs.Outcomes.{Did, DidNotOpen};
 ghost use Rattle.block_scan.specs.Blocks.{of_blocks};
 ghost use Rattle.streaming.specs.Readings.{of_stream};
-ghost use Rattle.reports.specs.FaultLines.{status_of};
-ghost use Rattle.reports.specs.Reports.{device};
+ghost use Rattle.arguments.specs.FaultLines.{status_of};
+ghost use Rattle.arguments.specs.Reports.{device};
 
-use arguments::Job;
-use reports::{report, tell};
+use arguments::{Job, report, tell};
 use runs::{BlockSource, RunFault, Sink, Source, run, run_blocks};
 use std::alloc::Global;
 use std::sync::Wait;

@@ -6,7 +6,7 @@ use Rattle.arguments.specs.declared.arguments.WordsFault.TheVariants as words
 use Rattle.outcomes.specs.declared.run_fault.RunFault.{RunFault}
 use Rattle.outcomes.specs.declared.run_fault.RunFault.TheVariants as fault
 use Rattle.sinks.specs.declared.sink.Sink.{Ghosts as SinkOf}
-pub use Rattle.reports.specs.FaultLines.{line_of, status_of}
+pub use Rattle.arguments.specs.FaultLines.{line_of, status_of}
 
 -- an outcome's status
 abbrev pub status_of_outcome : Result (Unit {0}) RunFault → ℕ

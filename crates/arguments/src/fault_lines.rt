@@ -2,7 +2,7 @@
 ghost use Rattle.std.specs.Prelude.{◌≡◌, ◌+◌, ◌≤◌, ◌++◌, codes, length};
 ghost use Rattle.std.specs.Fmt.{decimal};
 ghost use Rattle.arrayvec.specs.ArrayVec.{array_vec_len};
-ghost use Rattle.reports.specs.FaultLines.{day_fault_text, line_of, query_fault_text, report_of, status_of};
+ghost use Rattle.arguments.specs.FaultLines.{day_fault_text, line_of, query_fault_text, report_of, status_of};
 
 use arrayvec::ArrayVec;
 use itoa::Buffer;

@@ -1,8 +1,8 @@
 use Rattle.std.proofs.Common.{codes}
 use Rattle.std.specs.Fmt.{decimal}
 use Rattle.lists.specs.declared.limits.TheConstants.{MOST_MORSELS}
-use Rattle.reports.proofs.LineParts.{one_number}
-use Rattle.reports.proofs.lines.push_fault.Goals as goal
+use Rattle.arguments.proofs.LineParts.{one_number}
+use Rattle.arguments.proofs.fault_lines.push_fault.Goals as goal
 
 pub returns-in-TooLong-clause-items : goal.returns-in-TooLong-clause-items
 returns-in-TooLong-clause-items c = rw c.in-TooLong.is (one_number c.args.line.now.items

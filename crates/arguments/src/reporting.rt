@@ -1,10 +1,10 @@
-//! How it is told on the program's devices why there is no answer, or no job.
+//! Reports on the program's devices why there is no answer, or no job.
 ghost use Rattle.std.specs.Prelude.{◌≡◌, false};
-ghost use Rattle.reports.specs.FaultLines.{line_of, status_of};
-ghost use Rattle.reports.specs.Reports.{Delivered, Explained, Reported, device, status_of_outcome};
+ghost use Rattle.arguments.specs.FaultLines.{line_of, status_of};
+ghost use Rattle.arguments.specs.Reports.{Delivered, Explained, Reported, device, status_of_outcome};
 
-use crate::lines::{line_of, status_of};
-use arguments::WordsFault;
+use crate::arguments::WordsFault;
+use crate::fault_lines::{line_of, status_of};
 use outcomes::RunFault;
 use sinks::{Sink, WriteFailed, deliver};
 

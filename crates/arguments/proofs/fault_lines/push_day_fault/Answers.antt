@@ -1,7 +1,7 @@
 use Rattle.std.proofs.Common.{codes}
 use Rattle.std.specs.Fmt.{decimal}
-use Rattle.reports.proofs.LineParts.{one_number, two_lengths, two_more}
-use Rattle.reports.proofs.lines.push_day_fault.Goals as goal
+use Rattle.arguments.proofs.LineParts.{one_number, two_lengths, two_more}
+use Rattle.arguments.proofs.fault_lines.push_day_fault.Goals as goal
 
 pub returns-in-Truncated-clause-items : goal.returns-in-Truncated-clause-items
 returns-in-Truncated-clause-items c = rw c.in-Truncated.is (one_number c.args.line.now.items

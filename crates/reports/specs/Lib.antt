@@ -1,2 +1,0 @@
-pub mod FaultLines
-pub mod Reports
