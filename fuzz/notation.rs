@@ -234,7 +234,7 @@ impl Case {
 }
 
 /// A canonical text of more bytes is written only if it isn't the text that was read.
-const LONG: usize = 1_000;
+const LONG_TEXT: usize = 1_000;
 
 /// What a query means: its canonical text and its numbers, or its fault. The canonical text has to mean the same.
 fn meaning(query: &[u8]) -> Vec<u8> {
@@ -243,7 +243,7 @@ fn meaning(query: &[u8]) -> Vec<u8> {
         Ok((text, numbers)) => {
             let again = slow_reader::slow_query(text.as_bytes());
             assert!(again.is_ok_and(|(again, others)| again == text && others == numbers), "no canonical text: {text}");
-            let is_long = text.len() > LONG && text.as_bytes() == query;
+            let is_long = text.len() > LONG_TEXT && text.as_bytes() == query;
             format!("{}{numbers}\n", if is_long { "the very text" } else { &text }).into_bytes()
         }
     }

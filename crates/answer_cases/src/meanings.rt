@@ -6,7 +6,7 @@ use std::alloc::Global;
 use std::io;
 
 /// A canonical text of more bytes is written only if it isn't the text that was read.
-const LONG: usize = 1_000;
+const LONG_TEXT: usize = 1_000;
 
 /// Appends the canonical text of what a text means, and its numbers, or its fault. If the canonical text means
 /// something else, that follows.
@@ -29,7 +29,7 @@ fn append_read(alloc: Global, out: &mut Vec<u8>, text: &str) -> io::Result<Vec<u
     match parse(alloc, text) {
         Ok(query) => {
             write(&mut written, &query)?;
-            if written.len() > LONG && written.as_slice() == text.as_bytes() {
+            if written.len() > LONG_TEXT && written.as_slice() == text.as_bytes() {
                 out.extend_from_slice(b"the very text")?;
             } else {
                 out.extend_from_slice(written.as_slice())?;

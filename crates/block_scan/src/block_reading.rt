@@ -19,16 +19,14 @@ use scanning::OpenScan;
 use std::alloc::Global;
 use streaming::SourceFault;
 
-/// The bytes of the buffer that a block is read through: a little less than 128 KiB, as which the C library takes
-/// it of its heap. A larger one would be mapped, and when it is freed lists of its size come of the heap, too, and
-/// leave gaps there.
-const BUFFER: usize = 126_976;
+/// The bytes of the buffer that a block is read through: just below glibc's mmap threshold of 128 KiB. A larger buffer
+/// would be mapped; freeing it raises the threshold, and lists of its size then fragment the heap.
+const BUFFER_BYTES: usize = 126_976;
 
-const _: () = prove!(LONGEST_FRAME < BUFFER);
+const _: () = prove!(LONGEST_FRAME < BUFFER_BYTES);
 
-/// How many bytes are looked at for where a frame begins, and how many behind its target a piece reads at a
-/// time, since its last frame mostly ends there.
-pub(crate) const SEEN: usize = 4_096;
+/// How many bytes behind its target a piece reads at a time, since its last frame mostly ends there.
+const BYTES_PAST_TARGET: u64 = 4_096;
 
 /// The piece of a block, from the place on where a frame seems to begin.
 pub(crate) fn scan_block<S: BlockSource>(
@@ -47,9 +45,9 @@ pub(crate) fn scan_block<S: BlockSource>(
 
 /// A buffer.
 pub(crate) fn zeros(alloc: Global) -> Result<Vec<u8>, OutOfMemory>
-    ensures { IfOk result (λ zeros. vec_len zeros ≡ BUFFER) }
+    ensures { IfOk result (λ zeros. vec_len zeros ≡ BUFFER_BYTES) }
 {
-    vec![in alloc; 0u8; BUFFER]
+    vec![in alloc; 0u8; BUFFER_BYTES]
 }
 
 /// Reads from the start on, and scans the whole frames that it reads, up to the first one that begins at or after the
@@ -104,7 +102,7 @@ fn scan_frames<S: BlockSource>(
     let mut filled = 0;
     while place < target {
         let read = place + filled as u64;
-        let most = target.saturating_sub(read).saturating_add(SEEN as u64);
+        let most = target.saturating_sub(read).saturating_add(BYTES_PAST_TARGET);
         let count = read_some(source, request.limit, read, most, &mut buffer[filled..])?;
         if count == 0 {
             let tail = if filled == 0 { Tail::Whole } else { Tail::Cut };

@@ -4,14 +4,14 @@ ghost use Rattle.lists.specs.declared.limits.TheConstants.{LONGEST_FILE, MOST_TA
 
 use lists::limits::{LONGEST_FILE, MOST_TASKS};
 
-/// The least and the most bytes of a block, if the source isn't longer than is expected: large enough that
+/// The bytes of the smallest block and of the largest, if the source isn't longer than is expected: large enough that
 /// what a block costs beside its bytes is nothing, small enough that threads end together.
-const LEAST: u64 = 1 << 20;
+const SMALLEST_BLOCK: u64 = 1 << 20;
 
-const MOST: u64 = 8 << 20;
+const LARGEST_BLOCK: u64 = 8 << 20;
 
 /// How many blocks each worker is to have.
-const EACH: u64 = 8;
+const BLOCKS_A_WORKER: u64 = 8;
 
 /// A number of blocks of one length in bytes, of which the last goes on to the source's end.
 #[derive(Clone, Copy)]
@@ -25,7 +25,8 @@ impl Division {
     /// The blocks of a source that is expected to have `length` bytes, for this many workers.
     pub fn of(length: u64, workers: u32) -> Self {
         let length = length.min(LONGEST_FILE);
-        let bytes = (length / (EACH * u64::from(workers.max(1)))).clamp(LEAST, MOST);
+        let share = length / (BLOCKS_A_WORKER * u64::from(workers.max(1)));
+        let bytes = share.clamp(SMALLEST_BLOCK, LARGEST_BLOCK);
         let blocks = (length / bytes).clamp(1, u64::from(MOST_TASKS)) as u32;
         Division { bytes, blocks }
     }

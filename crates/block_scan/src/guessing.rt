@@ -2,18 +2,20 @@
 ghost use Rattle.std.specs.Prelude.{◌≤◌, length, IfErr, IfOk};
 ghost use Rattle.lists.specs.declared.limits.TheConstants.{LONGEST_FILE};
 
-use crate::block_reading::SEEN;
 use crate::block_source::BlockSource;
 use day_file::{DeviceFailed, Frames};
 use itch_messages::read;
 
+/// How many bytes are looked at for where a frame begins.
+const LOOKED_AT: usize = 4_096;
+
 /// How many frames in a row must look like messages.
-const CHAIN: usize = 16;
+const FRAMES_IN_A_ROW: usize = 16;
 
-/// The shortest and the longest body of a message.
-const SHORTEST: usize = 12;
+/// The bytes of the shortest body of a message, and of the longest.
+const SHORTEST_BODY: usize = 12;
 
-const LONGEST: usize = 50;
+const LONGEST_BODY: usize = 50;
 
 /// A place from this one on where a frame seems to begin, within the limit. Nothing more is
 /// promised of it: what is found from there on counts only if the piece before it ends there.
@@ -26,7 +28,7 @@ pub(crate) fn guess<S: BlockSource>(source: &S, from: u64, limit: u64) -> Result
     if from == 0 {
         return Ok(0);
     }
-    let mut seen = [0u8; SEEN];
+    let mut seen = [0u8; LOOKED_AT];
     let count = source.read_at(from, &mut seen)?;
     let offset = likely_offset(&seen[..count]);
     Ok(limit.min(from.saturating_add(offset as u64)))
@@ -50,7 +52,7 @@ fn is_likely(bytes: &[u8]) -> bool
     requires { length bytes.now ≤ LONGEST_FILE }
 {
     let mut frames = Frames::of(0, bytes);
-    for _ in 0..CHAIN {
+    for _ in 0..FRAMES_IN_A_ROW {
         match frames.next() {
             Some(frame) if is_body(frame.body) => {}
             _ => return false,
@@ -62,5 +64,6 @@ fn is_likely(bytes: &[u8]) -> bool
 /// Whether this looks like the body of a message: a capital letter, and the length of its type.
 fn is_body(body: &[u8]) -> bool {
     let length = body.len();
-    length >= SHORTEST && length <= LONGEST && body[0].is_ascii_uppercase() && read(body).is_ok()
+    let is_of_a_type = length >= SHORTEST_BODY && length <= LONGEST_BODY;
+    is_of_a_type && body[0].is_ascii_uppercase() && read(body).is_ok()
 }

@@ -15,7 +15,7 @@ use std::marker::Model;
 
 /// How many lists to either side of the one where a reference is expected are looked at first. Lists have nearly as
 /// many rows each.
-const NEAR: usize = 1;
+const NEAR_LISTS: usize = 1;
 
 /// The rows of one list, one or more, and the reference of the last, which is the greatest.
 #[derive(Drop)]
@@ -74,7 +74,7 @@ impl<'a> RisingOrders<'a> {
     fn first(&self, order_no: u64) -> Option<OrderRow>
         ensures { result ≡ first_row self.now order_no }
     {
-        let at = point_of(self.lists.as_slice(), self.spread, NEAR, order_no);
+        let at = point_of(self.lists.as_slice(), self.spread, NEAR_LISTS, order_no);
         match self.lists.get(at) {
             Some(list) => list.rows.first(order_no),
             None => None,

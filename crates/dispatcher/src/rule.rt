@@ -7,7 +7,7 @@ use atomic_table::{Join, Play, Split, TableRule};
 use std::collections::LinkedList;
 
 /// The word that counts the claims.
-pub(crate) const COUNT: usize = 0;
+pub(crate) const CLAIMS_WORD: usize = 0;
 
 /// The word of a task, which is 1 if the task is marked.
 pub(crate) fn mark_word(task: u32) -> usize

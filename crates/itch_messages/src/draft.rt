@@ -6,12 +6,12 @@ ghost use Rattle.itch_messages.specs.Layout.{number_bytes};
 use std::marker::Model;
 
 /// The length of the longest body, in bytes: a trade's.
-const LONGEST: usize = 44;
+const LONGEST_BODY: usize = 44;
 
 /// The bytes of a body so far, at most as many as the longest body has.
 #[derive(Drop)]
 pub struct Draft {
-    bytes: [u8; LONGEST],
+    bytes: [u8; LONGEST_BODY],
     len: usize,
 }
 
@@ -31,7 +31,7 @@ impl Draft {
         ensures { result ≡ [] }
     {
         Draft {
-            bytes: [0; LONGEST],
+            bytes: [0; LONGEST_BODY],
             len: 0,
         }
     }

@@ -4,7 +4,7 @@ ghost use Rattle.std.specs.List.{find};
 ghost use Rattle.std.specs.List.Sorted.{IsNonDecreasingBy, IsPartitionPoint};
 
 /// How many rows to either side of the one where a reference is expected are looked at first.
-const NEAR: usize = 8;
+const NEAR_ROWS: usize = 8;
 
 /// A row that has a reference, or that stands for one that has.
 pub trait Referenced {
@@ -68,7 +68,7 @@ pub fn first_of<R: Referenced>(rows: &[R], spread: Spread, reference: u64) -> Op
         (find (λ row. R.reference_of row == reference) rows.now ≡ None)
         (λ row. find (λ row. R.reference_of row == reference) rows.now ≡ Some row.now) }
 {
-    let at = point_of(rows, spread, NEAR, reference);
+    let at = point_of(rows, spread, NEAR_ROWS, reference);
     match rows.get(at) {
         Some(row) if row.reference() == reference => Some(row),
         _ => None,

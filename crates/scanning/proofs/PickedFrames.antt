@@ -18,7 +18,7 @@ use Rattle.lists.specs.Least.{least_by}
 use Rattle.lists.specs.declared.limits.TheConstants.{LONGEST_FILE, MOST_PARTITIONS}
 use Rattle.morsel_rows.specs.Partitions.{in_partitions}
 use Rattle.scanning.specs.Scans.{AreTakenIn, ScanView, TakesIn, scan_of, wrong_at}
-use Rattle.scanning.specs.declared.open_scan.TheConstants.{AT_ONCE}
+use Rattle.scanning.specs.declared.open_scan.TheConstants.{FRAMES_AT_ONCE}
 use Rattle.scanning.specs.declared.wrong.WrongLength.{WrongLength}
 
 -- ---- frames taken in
@@ -90,8 +90,8 @@ pub record IsPicking (as_of : Option ℕ) (all left : List PlacedBody) (walked c
   pub front : List PlacedBody
   pub takes : TakesIn as_of front old new
   pub read_is : filter reads (front ++ bodies (take count picked)) ≡ filter reads done
-  pub few : count ≤ AT_ONCE
-  pub long : length picked ≡ AT_ONCE
+  pub few : count ≤ FRAMES_AT_ONCE
+  pub long : length picked ≡ FRAMES_AT_ONCE
 
 -- a truth value as a number
 pub one_if : (b : Bool) → bool_byte b ≡ cond b 1 0
@@ -104,13 +104,13 @@ picked_more : (room next : ℕ) (picked : List Frame) (frame : Frame) (b : Bool)
 picked_more room next picked frame true below e = grind (arith, take_more_set, map-append)
 picked_more room next picked frame false below e = grind (arith, take-set, append-nil)
 
-few_more : (room next : ℕ) (b : Bool) → room < AT_ONCE → next ≡ room + cond b 1 0 → next ≤ AT_ONCE
+few_more : (room next : ℕ) (b : Bool) → room < FRAMES_AT_ONCE → next ≡ room + cond b 1 0 → next ≤ FRAMES_AT_ONCE
 few_more room next b below e = grind arith
 
 read_once : (frame : PlacedBody) → filter reads (cond (reads frame) (frame ∷ []) []) ≡ filter reads (frame ∷ [])
 read_once frame = grind arith
 
-pub starts_picking : (as_of : Option ℕ) (all : List PlacedBody) (picked : List Frame) (old : ScanView) → length picked ≡ AT_ONCE
+pub starts_picking : (as_of : Option ℕ) (all : List PlacedBody) (picked : List Frame) (old : ScanView) → length picked ≡ FRAMES_AT_ONCE
     → IsPicking as_of all all 0 0 picked old old
 starts_picking as_of all picked old long = record {
   done = [];
@@ -155,7 +155,7 @@ module _ {as_of : Option ℕ} {all left : List PlacedBody} {walked count : ℕ} 
   with_room room (inr (none, takes)) = (so_far.done, done_taken takes, rw (none, append-nil) refl)
 
   -- with one frame more
-  pub picks_more : (room next : ℕ) (frame : Frame) (rest : List PlacedBody) → AreTaken as_of picked count room scan new → room < AT_ONCE
+  pub picks_more : (room next : ℕ) (frame : Frame) (rest : List PlacedBody) → AreTaken as_of picked count room scan new → room < FRAMES_AT_ONCE
       → left ≡ placed_body frame ∷ rest → next ≡ room + cond (reads (placed_body frame)) 1 0
       → IsPicking as_of all rest (walked + (2 + length frame.body.now)) next (set picked room frame) old new
   picks_more room next frame rest taken below step next_is =

@@ -5,7 +5,7 @@ ghost use Rattle.day_file.specs.Frames.{spelling};
 ghost use Rattle.day_file.specs.Placed.{placed_body};
 ghost use Rattle.itch_messages.specs.Body.{kind_of};
 ghost use Rattle.scanning.specs.Scans.{AreTakenIn, TakesIn, scan_of};
-ghost use Rattle.scanning.specs.declared.open_scan.TheConstants.{AT_ONCE, BYTES_AN_ORDER, MOST_AT_ONCE};
+ghost use Rattle.scanning.specs.declared.open_scan.TheConstants.{BYTES_AN_ORDER, FRAMES_AT_ONCE, MOST_BYTES_AT_ONCE};
 
 use crate::OutOfMemory;
 use crate::output::Scanned;
@@ -23,10 +23,10 @@ use std::marker::Model;
 const BYTES_AN_ORDER: u64 = 57;
 
 /// The most bytes that room is taken for at once, so that a long block takes no more.
-const MOST_AT_ONCE: u64 = 32 << 20;
+const MOST_BYTES_AT_ONCE: u64 = 32 << 20;
 
 /// How many frames are picked before they are taken in.
-const AT_ONCE: usize = 256;
+const FRAMES_AT_ONCE: usize = 256;
 
 /// What the frames that were taken in so far give: the rows of their messages that count, and the least wrong length.
 #[derive(Drop)]
@@ -77,7 +77,7 @@ impl OpenScan {
         let mut picked = [Frame {
             place: 0,
             body: &[],
-        }; AT_ONCE];
+        }; FRAMES_AT_ONCE];
         let mut count = 0;
         let mut walked = 0;
         for frame in frames {
@@ -99,17 +99,17 @@ impl OpenScan {
     fn make_room(
         &mut self,
         as_of: Option<u32>,
-        picked: &[Frame<'_>; AT_ONCE],
+        picked: &[Frame<'_>; FRAMES_AT_ONCE],
         count: usize,
     ) -> Result<usize, OutOfMemory>
-        requires { count ≤ AT_ONCE }
-        ensures room { IfOk result (λ left. left < AT_ONCE) }
+        requires { count ≤ FRAMES_AT_ONCE }
+        ensures room { IfOk result (λ left. left < FRAMES_AT_ONCE) }
         ensures taken { IfOk result (λ left. ((left ≡ count) × (self.new ≡ self.old))
             ⊎ ((left ≡ 0) × TakesIn as_of (map placed_body (take count picked.now)) self.old self.new)) }
         ensures some { OnErr result ((walked : ℕ) ×
             AreTakenIn as_of (map placed_body (take count picked.now)) 0 walked self.old self.new) }
     {
-        if count < AT_ONCE {
+        if count < FRAMES_AT_ONCE {
             return Ok(count);
         }
         self.take_in_each(as_of, &picked[..count])?;
@@ -199,7 +199,7 @@ impl OpenScan {
 fn orders_of(bytes: u64, parts: u32) -> u64
     requires { 0 < parts }
     ensures all { result * parts * BYTES_AN_ORDER ≤ bytes }
-    ensures most { result * parts * BYTES_AN_ORDER ≤ MOST_AT_ONCE }
+    ensures most { result * parts * BYTES_AN_ORDER ≤ MOST_BYTES_AT_ONCE }
 {
-    bytes.min(MOST_AT_ONCE) / BYTES_AN_ORDER / u64::from(parts)
+    bytes.min(MOST_BYTES_AT_ONCE) / BYTES_AN_ORDER / u64::from(parts)
 }

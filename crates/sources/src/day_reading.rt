@@ -5,7 +5,7 @@ use crate::{DayFile, DeviceFailed, LONGEST_FILE, OutOfMemory, Source};
 use std::alloc::Allocator;
 
 /// The most bytes that one call asks of a source.
-const PIECE: u64 = 65_536;
+const LARGEST_PIECE: u64 = 65_536;
 
 /// Why a day file could not be read from a source.
 #[derive(Clone, Copy, Debug, PartialEq, Eq)]
@@ -76,7 +76,7 @@ pub fn read_day<S: Source, A: Allocator>(
 {
     let mut bytes = Vec::new(alloc);
     while bytes.len() as u64 <= limit {
-        let room = (limit + 1 - bytes.len() as u64).min(PIECE);
+        let room = (limit + 1 - bytes.len() as u64).min(LARGEST_PIECE);
         if read_piece(source, &mut bytes, room as usize)? == 0 {
             return Ok(DayFile::of_bytes(bytes));
         }

@@ -13,7 +13,7 @@ use std::thread::yield_now;
 
 /// How often a worker looks for the mark of a task that it is given again: for some milliseconds. Whoever runs the task
 /// has mostly ended by then, and if not, it is run a second time, so that nothing waits for ever.
-const LOOKS: u32 = 1 << 10;
+const LOOKS_AT_A_MARK: u32 = 1 << 10;
 
 /// Claims until no task is left, and runs each task that is not marked yet: it calls the gate,
 /// makes the task's piece, sends it, and marks the task once the port took it.
@@ -66,7 +66,7 @@ fn is_done(dispatcher: &Dispatcher, seat: &mut Seat, task: u32, round: u8) -> bo
         (seen_tasks seat.new ≡ seen_tasks seat.old ++ task ∷ [])
         (seen_tasks seat.new ≡ seen_tasks seat.old) }
 {
-    let again = if round == 0 { 0 } else { LOOKS };
+    let again = if round == 0 { 0 } else { LOOKS_AT_A_MARK };
     for _ in 0..again {
         if dispatcher.is_marked(seat, task) {
             return true;

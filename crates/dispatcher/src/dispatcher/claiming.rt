@@ -5,7 +5,7 @@ ghost use Rattle.dispatcher.specs.Seats.{marked_tasks, seen_tasks, tasks_of};
 
 use super::Dispatcher;
 use crate::Seat;
-use crate::rule::{COUNT, ClaimStep};
+use crate::rule::{CLAIMS_WORD, ClaimStep};
 use std::alloc::Allocator;
 
 /// The answer to a claim. Each claim of a dispatcher has a number of its own, from 0 on.
@@ -32,7 +32,7 @@ impl<A: Allocator> Dispatcher<A> {
         ensures seen { seen_tasks seat.new ≡ seen_tasks seat.old }
     {
         let words = &self.table.shared;
-        let number = words.fetch_add::<ClaimStep>(&mut seat.inner, COUNT, 1);
+        let number = words.fetch_add::<ClaimStep>(&mut seat.inner, CLAIMS_WORD, 1);
         let tasks = u64::from(self.tasks);
         if number < 2 * tasks {
             Claim::Task {

@@ -8,7 +8,7 @@ ghost use Rattle.dispatcher.specs.Seats.{IsSeatOf, claims, marked_tasks, seats_o
 ghost use Rattle.dispatcher.specs.declared.rule.View.{View as TheView};
 
 use super::Dispatcher;
-use crate::rule::{COUNT, EachOnce, SeatJoin, Size, View, mark_word};
+use crate::rule::{CLAIMS_WORD, EachOnce, SeatJoin, Size, View, mark_word};
 use crate::{Marks, OutOfMemory, Seat, SettleRefused, Tally};
 use atomic_table::{Closed, Shared};
 use std::alloc::Allocator;
@@ -46,7 +46,7 @@ impl<A: Allocator + Clone> Dispatcher<A> {
         let Dispatcher { table, tasks, .. } = self;
         let all = gather(&table.shared, seats);
         let closed = table.close_with(all);
-        let count = closed.word(COUNT);
+        let count = closed.word(CLAIMS_WORD);
         read_marks(&closed, &mut flags, tasks);
         closed.free();
         Ok(Tally {

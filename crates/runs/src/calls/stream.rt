@@ -18,7 +18,7 @@ use streaming::{Batch, BatchReader, Source, SourceFault};
 
 /// How many bytes the morsels of a batch have, or a little more: enough that each worker has several of
 /// them, and little beside what a day's rows take.
-const BATCH: u64 = 32 << 20;
+const BATCH_BYTES: u64 = 32 << 20;
 
 /// What the scans of all that a source gives add up to. The source is read and cut batch by batch: the morsels of one
 /// are the tasks of a pipeline, while the caller reads the next one. So no more than two batches are in memory, and no
@@ -38,7 +38,7 @@ pub(crate) fn scan_source<R: Threads + Wait + Sync, S: Source>(
         (IsSourceFault (of_stream S.Source settings.limit settings.morsel source.old source.new)) }
     ensures failed { IsErrOf result SourceFault.ReadFailed ↔ (S.has_failed source.new ≡ true) }
 {
-    let mut reader = BatchReader::new(alloc, settings.limit, settings.morsel, BATCH)?;
+    let mut reader = BatchReader::new(alloc, settings.limit, settings.morsel, BATCH_BYTES)?;
     let mut batch = reader.next_batch(source)?;
     let mut total = ScanTotal::empty(alloc);
     let division = Division::of(batch.cut.length(), settings.crew.workers);
