@@ -6,8 +6,8 @@ ghost use Rattle.buckets.specs.Buckets.{AreNumbered, exact_bucket, found, total_
 
 use crate::OutOfMemory;
 use crate::bucket::Bucket;
-use crate::found::{BucketTotal, Found};
-use crate::making::product;
+use crate::bucket_total::{BucketTotal, Found};
+use crate::product_making::product;
 use crate::trading::{Traded, trade};
 use gathering::Work;
 use lists::earlier;

@@ -6,20 +6,20 @@
 #![tactic(auto)]
 
 mod bucket;
+mod bucket_total;
 mod bucket_work;
-mod found;
-mod making;
 mod names;
 mod needed;
 mod partition_rows;
 mod plan;
 mod product;
+mod product_making;
 mod rising_orders;
 mod trading;
 
 pub use bucket::Bucket;
+pub use bucket_total::{BucketTotal, Found};
 pub use bucket_work::BucketWork;
-pub use found::{BucketTotal, Found};
 pub use lists::OutOfMemory;
 pub use names::DayNames;
 pub use plan::Plan;

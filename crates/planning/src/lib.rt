@@ -2,15 +2,15 @@
 //! references, or the text.
 #![tactic(auto)]
 
+mod day_plan;
 mod fault_and_tables;
-mod kept;
 mod plan_link;
 mod plan_making;
 mod ranged_answer;
 
 pub use buckets::DayNames;
+pub use day_plan::DayPlan;
 pub use fault_and_tables::{fault_of, tables};
-pub use kept::DayPlan;
 pub use lists::OutOfMemory;
 pub use plan_link::PlanLink;
 pub use ranged_answer::answer_in_ranges;

@@ -7,7 +7,7 @@ ghost use Rattle.morsel_rows.specs.Partitions.{AreRowsByPlace, joined_partitions
 ghost use Rattle.planning.specs.Planned.{LinkView, all_directory, linked_to, planned_buckets};
 
 use crate::OutOfMemory;
-use crate::kept::DayPlan;
+use crate::day_plan::DayPlan;
 use crate::plan_making::{buckets_of, directory_of, plan};
 use buckets::{BucketWork, DayNames};
 use gathering::{Inputs, Link, Linked};

@@ -5,8 +5,8 @@
 mod cut_inputs;
 mod input;
 mod open_scan;
-mod output;
 mod scan_work;
+mod scanned;
 mod total;
 mod wrong;
 
@@ -14,7 +14,7 @@ pub use cut_inputs::{batch_inputs, scan_inputs};
 pub use input::ScanInput;
 pub use lists::OutOfMemory;
 pub use open_scan::OpenScan;
-pub use output::Scanned;
 pub use scan_work::ScanWork;
+pub use scanned::Scanned;
 pub use total::ScanTotal;
 pub use wrong::WrongLength;

@@ -8,7 +8,7 @@ ghost use Rattle.scanning.specs.Scans.{AreTakenIn, TakesIn, scan_of};
 ghost use Rattle.scanning.specs.declared.open_scan.TheConstants.{BYTES_AN_ORDER, FRAMES_AT_ONCE, MOST_BYTES_AT_ONCE};
 
 use crate::OutOfMemory;
-use crate::output::Scanned;
+use crate::scanned::Scanned;
 use crate::wrong::WrongLength;
 use day_file::{Frame, Frames, LENGTH_BYTES};
 use itch_messages::{is_read, kind_of, read_of_kind};

@@ -7,7 +7,7 @@ ghost use Rattle.scanning.specs.Scans.{AreOfOneCut, exact_input, scanned, total_
 use crate::OutOfMemory;
 use crate::input::ScanInput;
 use crate::open_scan::OpenScan;
-use crate::output::Scanned;
+use crate::scanned::Scanned;
 use crate::total::ScanTotal;
 use gathering::Work;
 use std::alloc::Global;

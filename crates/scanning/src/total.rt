@@ -4,7 +4,7 @@ ghost use Rattle.std.specs.Arc.{arc_value};
 ghost use Rattle.scanning.specs.Scans.{total_of, with_scan, with_scans};
 
 use crate::OutOfMemory;
-use crate::output::Scanned;
+use crate::scanned::Scanned;
 use crate::wrong::WrongLength;
 use lists::earlier;
 use morsel_rows::MorselRows;

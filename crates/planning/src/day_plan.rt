@@ -1,4 +1,4 @@
-//! What the link keeps besides the buckets.
+//! What the link keeps besides the buckets: the names of locates, and the plan that all buckets share.
 
 use buckets::{DayNames, Plan};
 use std::alloc::Global;
