@@ -102,7 +102,9 @@ fn scan_frames<S: BlockSource>(
     let mut filled = 0;
     while place < target {
         let read = place + filled as u64;
-        let most = target.saturating_sub(read).saturating_add(BYTES_PAST_TARGET);
+        let most = target
+            .saturating_sub(read)
+            .saturating_add(BYTES_PAST_TARGET);
         let count = read_some(source, request.limit, read, most, &mut buffer[filled..])?;
         if count == 0 {
             let tail = if filled == 0 { Tail::Whole } else { Tail::Cut };

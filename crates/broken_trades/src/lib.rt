@@ -4,7 +4,7 @@
 //! is kept of the breaks is the set of their numbers.
 #![tactic(auto)]
 
-pub mod breaks;
+mod breaks;
 
 pub use breaks::Breaks;
 pub use lists::OutOfMemory;

@@ -7,9 +7,9 @@ mod body_law;
 mod body_reading;
 mod draft;
 mod fields;
-pub mod header;
-pub mod layout;
-pub mod message;
+mod header;
+mod layout;
+mod message;
 mod time;
 mod writing;
 

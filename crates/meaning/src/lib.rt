@@ -4,10 +4,10 @@
 //! Times and widths are in seconds.
 #![tactic(auto)]
 
-pub mod query;
+mod query;
 mod select;
 mod sorted_symbols;
-pub mod symbols;
+mod symbols;
 
 pub use lists::OutOfMemory;
 pub use probe::{Kinds, LocateList, Locates, Selection, Span};

@@ -10,8 +10,7 @@ use crate::sorted_symbols::SortedSymbols;
 use crate::symbols::Symbols;
 use probe::{LocateList, Locates, Selection};
 use std::alloc::Allocator;
-use time_and_sales::Names;
-use time_and_sales::names::LOCATES;
+use time_and_sales::{LOCATES, Names};
 
 /// The selection of a query: the locates, of 0 to 65,535, whose names the query lists, its span and its kinds. If the
 /// query lists no symbol, every locate is selected and no memory is taken, so the call succeeds.

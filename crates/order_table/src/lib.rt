@@ -5,12 +5,12 @@
 //! search, and building one tells of the first row that repeats a reference.
 #![tactic(auto)]
 
-pub mod partitions;
+mod partitions;
 mod prices;
 mod searching;
 mod sorted_rows;
 mod sorting;
-pub mod table;
+mod table;
 
 pub use lists::OutOfMemory;
 pub use partitions::{greatest_prime, partition};
