@@ -3,8 +3,8 @@ ghost use Rattle.std.specs.Prelude.{◌≡◌, ◌≤◌, length};
 
 use crate::answering::HEADER;
 use executor::{
-    BlockSource, CountedSink, Crew, DeviceFailed, Division, FileBlocks, FreeGate, OutOfMemory,
-    Query, QueryFault, ReadsAt, RunFault, Settings, answer_blocks, parse, run_blocks,
+    BlockSource, CountedSink, Crew, DeviceFailed, Division, FileBlocks, FreeGate, Gate,
+    OutOfMemory, Query, QueryFault, ReadsAt, RunFault, Settings, answer_blocks, parse, run_blocks,
 };
 use std::alloc::Global;
 use std::sync::atomic::{AtomicBool, AtomicU64, Ordering};
@@ -56,6 +56,10 @@ impl<'a> ReadsAt for Frail<'a> {
         }
         let most = into.len().min(2);
         Ok(copied(self.bytes, place, &mut into[..most]))
+    }
+
+    fn may_fail(&self) -> bool {
+        true
     }
 
     fn is_same(&self, _other: &Self) -> bool {
@@ -173,6 +177,10 @@ impl<'a> ReadsAt for &Meeting<'a> {
         Ok(count)
     }
 
+    fn may_fail(&self) -> bool {
+        false
+    }
+
     fn is_same(&self, _other: &Self) -> bool {
         true
     }
@@ -241,6 +249,10 @@ impl<'a> ReadsAt for Failing<'a> {
         Ok(copied(self.bytes, place, into))
     }
 
+    fn may_fail(&self) -> bool {
+        true
+    }
+
     fn is_same(&self, _other: &Self) -> bool {
         true
     }
@@ -293,5 +305,87 @@ fn each_reading_that_fails_is_reported(rt: HostRuntime) -> Result<(), Fail> {
         }
     }
     assert!(rt; failed >= 8 && failed < 100, "{failed}");
+    Ok(())
+}
+
+/// A file of which each reading fails once the first pipeline is done, and the gate by which the first run of its
+/// first block waits for that.
+#[derive(Drop)]
+struct FailsLate<'a> {
+    bytes: &'a [u8],
+    is_done: AtomicBool,
+    gave_up: AtomicBool,
+}
+
+impl<'a> ReadsAt for &FailsLate<'a> {
+    fn get(&self, place: u64, into: &mut [u8]) -> Result<usize, DeviceFailed> {
+        if self.is_done.load(Ordering::SeqCst) {
+            return Err(DeviceFailed);
+        }
+        Ok(copied(self.bytes, place, into))
+    }
+
+    fn may_fail(&self) -> bool {
+        true
+    }
+
+    fn is_same(&self, _other: &Self) -> bool {
+        true
+    }
+}
+
+impl<'a> Gate for FailsLate<'a> {
+    fn before(&self, pipeline: u8, task: u32, round: u8) {
+        if (pipeline, task, round) == (1, 0, 0) {
+            hold(&self.is_done, &self.gave_up);
+        }
+    }
+
+    fn done(&self, pipeline: u8) {
+        if pipeline == 1 {
+            self.is_done.store(true, Ordering::SeqCst);
+        }
+    }
+}
+
+/// What two workers tell of all sales by two blocks of this file, which is the gate of their runs too.
+fn told_late<R: Threads + Wait + Sync>(
+    rt: &R,
+    alloc: Global,
+    late: &FailsLate<'_>,
+    query: &Query,
+) -> Result<(), RunFault> {
+    let Ok(source) = Arc::new(alloc, FileBlocks::of(late)) else {
+        return Err(RunFault::OutOfMemory);
+    };
+    let division = Division {
+        bytes: 67,
+        blocks: 2,
+    };
+    let settings = Settings {
+        crew: Crew {
+            workers: 2,
+            gatherers: 1,
+        },
+        morsel: 1,
+        parts: 3,
+        limit: 1_000,
+    };
+    answer_blocks(rt, alloc, &source, division, query, settings, late).map(drop)
+}
+
+/// The first block's other run, which failed nowhere, has given the answer by then.
+#[test]
+fn a_reading_of_a_run_that_came_too_late_is_reported(rt: HostRuntime) -> Result<(), Fail> {
+    let alloc = rt.alloc();
+    let bytes = Day::of(alloc, &BROKEN_EARLIER)?.bytes;
+    let query = parse(alloc, "sales")?;
+    let late = FailsLate {
+        bytes: bytes.as_slice(),
+        is_done: AtomicBool::new(false),
+        gave_up: AtomicBool::new(false),
+    };
+    assert!(rt; told_late(&rt, alloc, &late, &query) == Err(RunFault::ReadFailed));
+    assert!(rt; !late.gave_up.load(Ordering::SeqCst));
     Ok(())
 }

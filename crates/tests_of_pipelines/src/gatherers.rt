@@ -229,6 +229,28 @@ fn each_worker_has_its_gatherer(rt: HostRuntime) -> Result<(), Fail> {
     })
 }
 
+/// The channel of a gatherer on a thread of its own takes pieces while the first one is being added.
+#[test]
+fn pieces_wait_in_a_gatherers_channel(rt: HostRuntime) -> Result<(), Fail> {
+    let alloc = rt.alloc();
+    let watch = Watch::shared(alloc)?;
+    watch.hold_additions(4);
+    let inputs = shared_inputs_of(alloc, &watch, &[0, 1, 2, 3])?;
+    let mut gathering = Gathering::new(alloc, Arc::try_clone(&inputs)?)?;
+    let (own, _) = crossbeam_channel::unbounded::<Piece<Sum>, Global>(alloc)?;
+    thread::scope(thread::scope_env(), &rt, |scope| -> Result<(), Fail> {
+        let others = start_gatherers(scope, &rt, alloc, &inputs, 2);
+        for task in 0..4 {
+            let piece = piece_of(alloc, &watch, task, u64::from(task))?;
+            assert!(rt; channel_of(1, &own, &others).send(&rt, piece).is_ok());
+        }
+        merge_all(&rt, &mut gathering, others);
+        Ok(())
+    })?;
+    assert!(rt; gathering.first_missing().is_none() && !watch.gave_up());
+    Ok(())
+}
+
 /// As if no thread, no seat or no dispatcher could be had, where nothing was gathered, or the piece of the
 /// first task.
 #[test]

@@ -45,7 +45,8 @@ pub(crate) fn outcome<G: Gate, R: Threads + Wait + Sync>(
     run_pair(rt, alloc, inputs, &link, crew, gate)
 }
 
-/// Whether the crew gives the sum of these numbers, and where the link doesn't halt that of 1 and 2.
+/// Whether the crew gives the sum of these numbers, and where the link doesn't halt that of 1 and 2, and compares no
+/// input with another one.
 fn is_right<R: Threads + Wait + Sync>(
     rt: &R,
     alloc: Global,
@@ -58,10 +59,11 @@ fn is_right<R: Threads + Wait + Sync>(
 {
     let watch = Watch::shared(alloc)?;
     let second = Arc::try_clone(&watch)?;
-    match outcome(rt, alloc, &watch, second, numbers, halts, crew, &FreeGate)? {
-        Outcome::Finished { total, kept } => Ok((total, kept, halts) == (3, sum, false)),
-        Outcome::Stopped { stop } => Ok((stop, halts) == (sum, true)),
-    }
+    let is_right = match outcome(rt, alloc, &watch, second, numbers, halts, crew, &FreeGate)? {
+        Outcome::Finished { total, kept } => (total, kept, halts) == (3, sum, false),
+        Outcome::Stopped { stop } => (stop, halts) == (sum, true),
+    };
+    Ok(is_right && watch.comparisons() == 0)
 }
 
 #[test]
@@ -310,6 +312,26 @@ fn runs_at_once(rt: HostRuntime) -> Result<(), Fail> {
         Outcome::Stopped { stop: _ } => assert!(rt; false),
     }
     assert!(rt; !watch.gave_up() && !second.gave_up());
+    Ok(())
+}
+
+/// A worker waits for no gatherer: all runs begin while the first piece is being added.
+#[test]
+fn workers_run_ahead_of_their_gatherer(rt: HostRuntime) -> Result<(), Fail> {
+    let alloc = rt.alloc();
+    for workers in [1, 3] {
+        let watch = Watch::shared(alloc)?;
+        watch.hold_additions(NUMBERS.len() as u64);
+        let second = Arc::try_clone(&watch)?;
+        let crew = Crew {
+            workers,
+            gatherers: 1,
+        };
+        match outcome(&rt, alloc, &watch, second, &NUMBERS, true, crew, &FreeGate)? {
+            Outcome::Stopped { stop } => assert!(rt; stop == 255 && !watch.gave_up()),
+            Outcome::Finished { total: _, kept: _ } => assert!(rt; false),
+        }
+    }
     Ok(())
 }
 

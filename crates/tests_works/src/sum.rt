@@ -32,6 +32,7 @@ impl PartialEq for Number {
     ghost laws = { Prim.search (comparing, rules) };
 
     fn eq(&self, other: &Number) -> bool {
+        self.watch.compare();
         self.number == other.number
     }
 }

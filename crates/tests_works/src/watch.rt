@@ -30,6 +30,9 @@ pub fn hold_for(turns: u32, flag: &AtomicBool, gave_up: &AtomicBool) {
 pub struct Watch {
     runs: AtomicU64,
     additions: AtomicU64,
+    comparisons: AtomicU64,
+    /// Of how many runs an addition waits for the beginning.
+    runs_awaited: AtomicU64,
     growths: AtomicU64,
     refusals: AtomicU64,
     first_refused: AtomicU64,
@@ -56,6 +59,8 @@ impl Watch {
             Watch {
                 runs: AtomicU64::new(0),
                 additions: AtomicU64::new(0),
+                comparisons: AtomicU64::new(0),
+                runs_awaited: AtomicU64::new(0),
                 growths: AtomicU64::new(0),
                 refusals: AtomicU64::new(0),
                 first_refused: AtomicU64::new(refused.start),
@@ -115,6 +120,11 @@ impl Watch {
         self.refuses_additions.store(refuses, Ordering::SeqCst);
     }
 
+    /// From now on an addition waits until this many runs have begun, and gives up after a while.
+    pub fn hold_additions(&self, runs: u64) {
+        self.runs_awaited.store(runs, Ordering::SeqCst);
+    }
+
     /// Asks for one growth.
     pub fn grow(&self) -> Result<(), OutOfMemory> {
         let number = self.growths.fetch_add(1, Ordering::SeqCst);
@@ -137,6 +147,11 @@ impl Watch {
         self.additions.load(Ordering::SeqCst)
     }
 
+    /// How many comparisons of two inputs were made.
+    pub fn comparisons(&self) -> u64 {
+        self.comparisons.load(Ordering::SeqCst)
+    }
+
     /// How many growths were asked for since they were counted from 0.
     pub fn growths(&self) -> u64 {
         self.growths.load(Ordering::SeqCst)
@@ -147,7 +162,7 @@ impl Watch {
         self.refusals.load(Ordering::SeqCst)
     }
 
-    /// Whether a run waited for another one in vain.
+    /// Whether a run or an addition waited for other runs in vain.
     pub fn gave_up(&self) -> bool {
         self.gave_up.load(Ordering::SeqCst)
     }
@@ -172,9 +187,27 @@ impl Watch {
     /// An addition begins.
     pub(crate) fn begin_addition(&self) -> Result<(), OutOfMemory> {
         self.additions.fetch_add(1, Ordering::SeqCst);
+        self.wait_for_runs();
         if self.refuses_additions.load(Ordering::SeqCst) {
             return Err(AllocError);
         }
         self.grow()
+    }
+
+    /// Two inputs are compared.
+    pub(crate) fn compare(&self) {
+        self.comparisons.fetch_add(1, Ordering::SeqCst);
+    }
+
+    /// Waits until the runs that additions wait for have begun.
+    fn wait_for_runs(&self) {
+        let awaited = self.runs_awaited.load(Ordering::SeqCst);
+        for _ in 0..1_000_000 {
+            if self.runs() >= awaited {
+                return;
+            }
+            thread::yield_now();
+        }
+        self.gave_up.store(true, Ordering::SeqCst);
     }
 }

@@ -56,7 +56,7 @@ pub fn run_blocks<R: Threads + Wait + Sync, S: BlockSource + Send + Sync, K: Sin
 /// Answers a query over all that a source gives at places, by two pipelines as `answer` does: the first has a task for
 /// each block of the division. Neither the division nor the crew or the gate change the answer.
 ///
-/// It waits for its threads. A reading that fails is reported, unless it is one of a block that was read twice.
+/// It waits for its threads. A reading that fails is reported, even if another one of its block's didn't.
 pub fn answer_blocks<G: Gate, R: Threads + Wait + Sync, S: BlockSource + Send + Sync>(
     rt: &R,
     alloc: Global,
@@ -100,14 +100,12 @@ fn outcome_of_blocks<G: Gate, R: Threads + Wait + Sync, S: BlockSource + Send + 
     };
     let plan = PlanLink::new(query, parts);
     let link = BlockLink { plan };
-    match run_both(
-        rt,
-        alloc,
-        inputs,
-        &link,
-        crew_of(division, settings.crew),
-        gate,
-    )? {
+    let crew = crew_of(division, settings.crew);
+    let outcome = run_both(rt, alloc, inputs, &link, crew, gate);
+    if source.has_failed() {
+        return Err(SourceFault::ReadFailed);
+    }
+    match outcome? {
         Outcome::Finished { total, kept } => Ok(Outcome::Finished { total, kept }),
         Outcome::Stopped { stop } => Ok(Outcome::Stopped { stop: stop? }),
     }
