@@ -4,8 +4,7 @@ data/example.itch has twelve minutes of a morning: three securities, and message
 data/whole_day.itch has what a real day has from its first message to its last: the six system events, the stock directory, orders,
 executions, hidden trades, odd lots, crosses of each sort and one without shares, broken trades, and messages that are skipped.
 """
-import collections
-import pathlib
+import collections, pathlib
 
 from itch import OPEN, SECOND, message
 

@@ -2,13 +2,7 @@
 
 Names are read by their imports, clauses by their braces. Nothing here knows what a contract means.
 """
-import functools
-import importlib.machinery
-import importlib.util
-import pathlib
-import re
-import subprocess
-import sys
+import functools, importlib.machinery, importlib.util, pathlib, re, subprocess, sys
 
 TOP = pathlib.Path(__file__).resolve().parent.parent
 WORD = re.compile(r"[A-Za-z_][\w\-]*")

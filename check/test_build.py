@@ -1,8 +1,5 @@
 """Tests bin/build over a made-up repository, with a stand-in for `rt`."""
-import os
-import shutil
-import signal
-import time
+import os, shutil, signal, time
 
 from run import comes
 from stand_in import CRATES, LINES, NEEDED, OTHERS, Tree, is_there
@@ -50,10 +47,9 @@ class Builds(Tree):
 
     def test_links_and_files_that_look_like_pythons_own(self):
         (self.here / "one").symlink_to("../top/bin/itch_bars")
-        (self.tools / "itch").symlink_to(self.here / "one")
-        for name in ("here/hashlib", "here/sitecustomize", "top/bin/hashlib", "top/bin/subprocess"):
+        for name in ("here/hashlib", "here/sitecustomize", "top/bin/subprocess"):
             self.file(f"{name}.py", b"raise SystemExit(9)\n")
-        for word in ("itch", "./one", "../top/bin/itch_bars"):
+        for word in ("./one", "../top/bin/itch_bars"):
             self.assertEqual(self.ends(self.start(word, "day", "sales", PYTHONPATH=str(self.here)))[:2], (0, self.answer()))
 
 
@@ -100,12 +96,7 @@ class UpToDate(Tree):
         for it in self.program.parent.iterdir():
             os.utime(it, (later, later))
         self.is_seen(True, "a record of later")
-        for text, copy in (("LOW", shutil.copy2), ("low", shutil.copy)):
-            source.write_text(text)
-            shutil.copytree(self.top, self.folder / "copy", copy_function=copy)
-            shutil.rmtree(self.top)
-            (self.folder / "copy").rename(self.top)
-            self.is_seen(text == "LOW", "a copied tree")
+        source.write_text("low")
         for it in (source, self.program):
             os.utime(it, (1, 1))
             self.is_seen(False, "a touched file")
@@ -115,11 +106,7 @@ class UpToDate(Tree):
 
     def test_another_program_record_or_kit(self):
         program, recorded = self.program.read_bytes(), self.record.read_bytes()
-        for mode, is_outdated in ((0o644, True), (0o755, False)):
-            self.program.chmod(mode)
-            self.is_seen(is_outdated, "a program that can't be run")
-        self.settle()
-        for other in (recorded.replace(b"sources ", b"sources 0"), b"", b"what", b"\xff\xff\n", recorded.split(b"\n")[0] + b"\n"):
+        for other in (recorded.replace(b"sources ", b"sources 0"), b"", b"\xff\xff\n", recorded.split(b"\n")[0] + b"\n"):
             self.record.write_bytes(other)
             self.is_seen(True, f"the record {other}")
         self.record.write_bytes(recorded)
@@ -128,9 +115,13 @@ class UpToDate(Tree):
         self.is_seen(True, "another kit")
         self.tells(self.ends(self.script("day", "sales"))[2], "another kit has built the program (kit-1 logic abc), so it is")
         self.is_seen(False, "the kit that has built it")
-        self.settle()
-        self.program.write_bytes(program + b"\n")
-        self.is_seen(True, "another program")
+        for text, mode in ((program + b"\n", 0o755), (program, 0o644)):
+            self.settle()
+            self.program.write_bytes(text)
+            self.program.chmod(mode)
+            self.is_seen(True, "another program, or one that can't be run")
+            self.program.write_bytes(program)
+            self.program.chmod(0o755)
         self.program.unlink()
         self.is_seen(True, "no program")
         self.program.write_bytes(program)

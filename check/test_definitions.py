@@ -5,12 +5,7 @@ A definition of specs/ is of the kind `program` if what the program promises res
 makes, or a member of one of its devices, cites it, or cites a definition that rests on it. It is of the kind `crate` if another
 public contract rests on it, and of the kind `proofs` if none does, or if its file is derived.
 """
-import difflib
-import functools
-import pathlib
-import re
-import sys
-import unittest
+import difflib, functools, pathlib, re, sys, unittest
 
 from rattle import TOP, assumed_in, cited_by, code_of, crates, definitions, edits_of, functions_of, ghost_members
 from rattle import is_derived, is_product, is_silent_on_refusals, kit, named_in, rested_on, sources

@@ -5,19 +5,13 @@ each step. Counts are those of preload.c, whatever the machine's speed and load;
 taken. With one worker no figure moves by a hundredth. With several a task on which one works for long is given to another when
 nothing else is left, so more may be read, asked for and held: theirs are at least the most of many runs on a busy machine.
 """
-import importlib.machinery, importlib.util, os, resource, shutil, warnings
+import os, resource
 
 from itch import OPEN, breaks, broken, executed, named, names, multiples_of_256, order, orders, rising, scattered, time_of, trade, trades
 from run import TOP, Case, library, program, run
 
 MIB = 1 << 20
 BATCH = 32 * MIB  # of a stream; two are held, and of each the last morsel, and what is cut, are some MiB more
-# Of plain Rust's processor time; runs of each; bytes of a day. The order of its references, what is asked, the words, the plain Rust
-# beside it, and whether it is standard input.
-MOST_TIMES, RUNS, SIZE, FOUR = 3, 3, 50_000_000, ["--workers", "4"]
-BESIDE = [("rising", "bars 1 m", ["--workers", "1"], "one", False), ("rising", "sales", FOUR, "four", False),
-          ("rising", "bars 1 m", FOUR, "four", True), ("random", "bars 1 m", FOUR, "four", False),
-          ("executions", "bars 1 s", FOUR, "four", False)]
 
 
 def executions_of_one(count):
@@ -101,9 +95,8 @@ class OfMemory(Case):
 
     def test_time_of_cuts(self):
         """A morsel of 192 MiB of empty messages is cut, which is read in 3,000 pieces."""
-        day = self.file("day")
-        os.truncate(day, 192 * MIB)
-        self.quickly(15, "-", "sales", "--morsel", 1 << 30, input=day)
+        os.truncate(self.file("day"), 192 * MIB)
+        self.quickly(15, "-", "sales", "--morsel", 1 << 30, input=self.folder / "day")
 
     def test_time_of_lists(self):
         """Of a day each of whose lists is long, in one partition and in many, and with all locates asked for by their name, the
@@ -122,28 +115,9 @@ class OfMemory(Case):
         self.quickly(1, self.file("day", *names(70_000)), f"sales where symbol in {symbols}")
 
     def quickly(self, seconds, *words, **more):
-        """One worker answers in so many seconds of a processor, where each step that begins anew takes far more."""
+        """One worker answers within the seconds of a processor, where each step that begins anew takes far more."""
         ran = run(program(), *words, "--workers", 1, seconds=seconds, **more)
         self.assertEqual((ran.status, ran.errors), (0, b""), words)
-
-
-class OfSpeed(Case):
-    """Processor time beside plain Rust's (bench/plain.rs) over the same days, by turns, with the same answers to the byte. It sees
-    what makes a run several times slower and moves no count; no ratio is far above 1.5 today."""
-
-    def test_beside_plain_rust(self):
-        if not shutil.which("rustc"):
-            self.skipTest("there is no rustc to build plain Rust's programs")
-        loader = importlib.machinery.SourceFileLoader("bench", str(TOP / "bench/run"))
-        bench = importlib.util.module_from_spec(importlib.util.spec_from_loader("bench", loader))
-        loader.exec_module(bench)
-        bench.program = program()
-        warnings.simplefilter("ignore", ResourceWarning)  # (it waits for its runs by their numbers)
-        for order, query, words, beside, is_input in BESIDE:
-            day = bench.day_of(self.folder, SIZE, order) or self.skipTest(f"there is no room for a day of {SIZE} bytes")
-            best = bench.by_turns(RUNS, self.folder, {order: day}, query, words, is_input)
-            with self.subTest(order=order, query=query, words=words):
-                self.assertLess(best[order, "itch_bars"].busy, MOST_TIMES * best[order, beside].busy)
 
 
 FIGURES = """

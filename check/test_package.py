@@ -1,9 +1,6 @@
 """Tests bin/package: two calls give the same bytes, the archive has what it says, and works in another folder, as `nobody` and with an
 empty environment."""
-import os
-import pathlib
-import shutil
-import subprocess
+import os, pathlib, shutil, subprocess
 
 from run import EXAMPLE, TOP, Case, Ran, program, run
 

@@ -1,8 +1,8 @@
-"""Holds what help, the version, the page for `man` and the tables of options say against crates/arguments/src/arguments.rt."""
-import re
-import shutil
-import unittest
+"""Holds what help, the version, the page for `man` and the tables of options say against crates/arguments/src/arguments.rt, and
+the days of data/ against what days.py makes."""
+import re, shutil, unittest
 
+from days import DATA, DAYS
 from run import TOP, run
 
 TEXTS = ("bin/help", "bin/version", "man/itch_bars.1", "crates/arguments/src/arguments.rt", "crates/lists/src/limits.rt")
@@ -58,3 +58,6 @@ class Texts(unittest.TestCase):
         ends = f'.TH ITCH_BARS 1 {date} "itch_bars {version}" "User Commands"\n', f"\nitch_bars {version}, proved in Rattle's logic {logic}\n"
         self.assertEqual((PAGE.startswith(ends[0]), PAGE.endswith(ends[1])), (True, True))
         self.assertEqual(run("rt", "version").out.decode().split()[-1], logic)
+
+    def test_stored_days_are_those_that_are_made(self):
+        self.assertTrue({it.name: it.read_bytes() for it in DATA.iterdir()} == {name: day() for name, day in DAYS.items()})
