@@ -183,13 +183,6 @@ def proved_as(file, function, names):
     return found[0] if len(found) == 1 else None
 
 
-def assumed_in(log):
-    """What the proof of the program assumes, by a build's log: the lines on C functions, and the words by which the verdict says
-    what it rests on."""
-    found = re.search(r"(?m)((?:^axioms .*\n)+)logic=proved .*? (axioms=\d+) (.*)$", log)
-    return (found[1].splitlines(), [found[2], *re.findall(r"\S+=trusted|native=\S+", found[3])]) if found else ([], [])
-
-
 # Definitions.
 
 

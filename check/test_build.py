@@ -159,7 +159,8 @@ class Refusals(Tree):
         before = self.program.read_bytes(), self.record.read_bytes()
         self.files({"crates/low/src/lib.rt": "wrong"})
         self.asks("refuses_low", "hold_refusal", "hold_try")
-        self.is_refused(self.script(self.day, "sales"), "rt: low NOT PROVED", f"`rt ci` refuses a crate; the whole log is {self.program.with_name('build.log')}")
+        log = self.program.with_name("build.log")
+        self.is_refused(self.script(self.day, "sales"), "rt: low NOT PROVED", f"`rt ci` refuses a crate; the whole log is {log}")
         self.assertFalse(any(is_there(it) for it in [*self.comes_to("refusal"), *self.comes_to("try")]))
         self.assertEqual((self.program.read_bytes(), self.record.read_bytes()), before)
 
@@ -179,15 +180,15 @@ class Ends(Tree):
     def test_one_builds_at_a_time(self):
         first, _ = self.held("start")
         second, third, fourth = (self.script("day", "bars 5 m") for _ in range(3))
-        for it in (second, third, fourth):
-            comes(lambda: it.err.read_text() == WAITS, "another call says that it waits")
+        comes(lambda: all(it.err.read_text() == WAITS for it in (second, third, fourth)), "the others say that they wait")
         for it in (fourth, first):
             it.terminate()
             self.assertEqual(self.ends(it)[0], -signal.SIGTERM)
         comes(lambda: self.builds() == 2, "one that has waited builds, since the first one hasn't")
         self.lets("hold_start")
-        self.assertEqual([self.ends(it)[:2] for it in (second, third)], [(0, self.answer(["bars 5 m"]))] * 2)
-        self.assertEqual((WAITS in (second.err.read_text(), third.err.read_text()), self.builds()), (True, 2))
+        ended = [self.ends(it) for it in (second, third)]
+        self.assertEqual([it[:2] for it in ended], [(0, self.answer(["bars 5 m"]))] * 2)
+        self.assertEqual((WAITS in [it[2] for it in ended], self.builds()), (True, 2))
 
     def test_a_signal_ends_all_and_leaves_nothing(self):
         for number in (signal.SIGTERM, signal.SIGINT, signal.SIGHUP):
@@ -213,9 +214,7 @@ class Ends(Tree):
         self.leaves_nothing()
 
     def test_a_build_under_nohup_and_an_edit_meanwhile(self):
-        self.asks("hold_start")
-        running = self.start("bash", "-c", 'trap "" HUP; exec "$@"', "", self.top / "bin/itch_bars", self.day, "sales")
-        self.comes_to("start")
+        running, _ = self.held("start", shell='trap "" HUP; exec "$@"')
         running.send_signal(signal.SIGHUP)
         self.files({"crates/low/src/lib.rt": "new"})
         time.sleep(0.3)
@@ -265,14 +264,14 @@ class Tries(Tree):
 
     def test_only_small_regular_files_are_tried(self):
         os.mkfifo(self.here / "pipe")
-        for name, length in (("long", (16 << 20) + 1), ("just", 16 << 20), ("-", 6), ("-x", 6)):
+        for name, length in (("long", (16 << 20) + 1), ("just", 16 << 20), ("-", 6)):
             os.truncate(self.file(f"here/{name}"), length)
-        for words in (["-", "sales"], ["long", "sales"], ["pipe", "sales"], ["--workers", "1", "day", "sales"], ["just", "sales"], ["./-x", "sales"]):
+        for name in ("-", "long", "pipe", "just"):
             self.asks("hold_start")
-            running = self.build("--run", *words)
+            running = self.build("--run", name, "sales")
             self.comes_to("start")
             time.sleep(0.5)
-            self.assertEqual((words, self.noted("try_words") != ""), (words, words[0] in ("just", "./-x")))
+            self.assertEqual((name, self.noted("try_words") != ""), (name, name == "just"))
             running.terminate()
             self.ends(running)
-            self.lets("at_start", "try_words")
+            self.lets("at_start")

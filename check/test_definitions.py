@@ -7,7 +7,7 @@ public contract rests on it, and of the kind `proofs` if none does, or if its fi
 """
 import difflib, functools, pathlib, re, sys, unittest
 
-from rattle import TOP, assumed_in, cited_by, code_of, crates, definitions, edits_of, functions_of, ghost_members
+from rattle import TOP, cited_by, code_of, crates, definitions, edits_of, functions_of, ghost_members
 from rattle import is_derived, is_product, is_silent_on_refusals, kit, named_in, rested_on, sources
 
 PRODUCT = [crate for crate in crates() if is_product(crate)]
@@ -170,14 +170,12 @@ class Edits(unittest.TestCase):
 
 class Base(unittest.TestCase):
     def test_the_page_says_what_the_log_says(self):
-        log = TOP / "crates/itch_bars/out/build.log"
-        lines, words = assumed_in(log.read_text() if log.exists() else "")
-        if not lines:
-            self.skipTest("bin/build has kept no log of a build here")
-        page = TOP / "docs/BASE.md"
-        self.assertEqual([], [line for line in lines if f"\n    {line}\n" not in page.read_text()])
+        page, log = TOP / "docs/BASE.md", TOP / "crates/itch_bars/out/build.log"
+        said = re.search(r"(?m)((?:^axioms .*\n)+)logic=proved .*? (axioms=\d+ .*)$", log.read_text() if log.exists() else "")
+        said or self.skipTest("bin/build has kept no log of a build here")
+        self.assertEqual([], [line for line in said[1].splitlines() if f"\n    {line}\n" not in page.read_text()])
         stand = [words_in(row[0])[0] for row in rows_below(page, "| Word | What it means | In a build |") if row[2] == "stands"]
-        self.assertEqual(sorted(words), sorted(stand))
+        self.assertEqual(sorted(re.findall(r"axioms=\d+|\S+=trusted|native=\S+", said[2])), sorted(stand))
 
     def test_threads_share_what_the_kit_gives_alone(self):
         own = re.compile(r"\b(Atomic\w*|atomic|\w*Cell|cell|Mutex\w*|RwLock\w*|Condvar|Barrier|Once|OnceLock|LazyLock|Perch|static|unsafe)\b|\bOrdering::")

@@ -88,14 +88,6 @@ class Documents(Case):
                 self.assertTrue(is_shown(it.shown, printed), f"it prints\n{printed}and the document shows\n" + "\n".join(it.shown))
         self.assertNotEqual(ended.returncode, 124, f"{document}: the last command that was typed hung")
 
-    def test_heads(self):
-        """A recipe says in three lines what it does, what it needs, and a call, which a document shows with what comes."""
-        called = [it.words for document in DOCUMENTS for it in commands_of(document)]
-        for it in RECIPES:
-            with self.subTest(it.name):
-                head = HEAD.match(it.read_text())
-                self.assertTrue(head and any(words.startswith(head["call"]) for words in called), head or "its head isn't one")
-
 
 class Claims(Case):
     def ask(self, day, query="sales"):
