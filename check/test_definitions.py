@@ -1,9 +1,9 @@
 """Holds the documents against the code: what has to be believed, which functions have no clause, what pages name and quote; and
 sees that each edit applies. `python3 check/test_definitions.py write` writes the tables of docs/DEFINITIONS.md.
 
-A definition of specs/ is of the kind `program` if what the program promises rests on it: a clause of a call that the program
-makes, or a member of one of its devices, cites it, or cites a definition that rests on it. It is of the kind `crate` if another
-public contract rests on it, and of the kind `proofs` if none does, or if its file is derived.
+A definition of specs/ is of the kind `program` if a clause of a call that the program makes, or a member of one of its devices,
+cites it, or cites a definition that rests on it; of the kind `crate` if another public contract rests on it; and of the kind
+`proofs` if none does, or if its file is derived.
 """
 import difflib, functools, pathlib, re, sys, unittest
 
@@ -12,12 +12,8 @@ from rattle import is_derived, is_product, is_silent_on_refusals, kit, named_in,
 
 PRODUCT = [crate for crate in crates() if is_product(crate)]
 # The calls that the program makes, and its devices: what they promise is what the program does.
-PROGRAM = {
-    "command_line": ["perform", "perform_blocks", "perform_opened"],
-    "runs": ["run", "run_blocks"],
-    "arguments": ["command", "reading_fault"],
-    "reports": ["explain"],
-}
+PROGRAM = {"command_line": ["perform", "perform_blocks", "perform_opened"], "runs": ["run", "run_blocks"],
+           "arguments": ["command", "reading_fault"], "reports": ["explain"]}
 DEVICES = ["sources/src/counted.rt", "block_scan/src/file_blocks.rt", "sinks/src/counted_sink.rt"]
 # How the second line of a file of specs/ begins, or is, by the first of these kinds that one of its definitions is of.
 SECONDS = {"program": "-- To be believed.", "crate": "-- To be believed of a crate used by itself", "proofs": "-- Derived: "}
@@ -101,10 +97,8 @@ def written(text):
     of_crates = rows_of("crate", [crate for group in SUBJECTS.values() for crate in group])
     for part, lines in (("members", members()), ("program", of_program[1:]), ("crate", of_crates)):
         before, begin, rest = text.partition(BEGINS.format(part))
-        after = rest.partition(ENDS)[2]
-        if not after:
-            raise unittest.TestCase.failureException(f"docs/DEFINITIONS.md has no place for the {part}")
-        text = "\n".join([before + begin, "", *lines, "", ENDS]) + after
+        assert ENDS in rest, f"docs/DEFINITIONS.md has no place for the {part}"
+        text = "\n".join([before + begin, "", *lines, "", ENDS]) + rest.partition(ENDS)[2]
     return text
 
 
@@ -155,9 +149,7 @@ class NoClause(unittest.TestCase):
             heads = [re.findall(r"(?m)^ *(?:pub(?:\([\w: ]+\))? )?(?:const )?fn \w", path.read_text()) for path in sources(crate)]
             self.assertEqual(sum(map(len, heads)), len(functions_of(crate)), crate)
 
-
-class Edits(unittest.TestCase):
-    def test_each_applies_and_has_the_name_of_a_function(self):
+    def test_each_edit_applies_and_has_the_name_of_a_function(self):
         for crate in PRODUCT:
             names = {it.name for it in functions_of(crate)}
             for edit in edits_of(crate):
@@ -205,8 +197,7 @@ def words_in(text):
 def rows_below(page, heading):
     """The cells of the rows of each table with this heading; there has to be one."""
     found = re.findall(rf"(?m)^{re.escape(heading)}\n\|[-|]+\n((?:\|.*\n)+)", page.read_text())
-    if not found:
-        raise unittest.TestCase.failureException(f"{page} has no table {heading}")
+    assert found, f"{page} has no table {heading}"
     return [[cell.strip() for cell in row.strip("|").split(" | ")] for part in found for row in part.strip().split("\n")]
 
 
@@ -240,10 +231,10 @@ class Pages(unittest.TestCase):
     def test_what_stands_where_does(self):
         """Tables that name files: each file is there, and defines what is said to stand in it."""
         proofs, map_of_code = TOP / "docs/PROOFS.md", TOP / "docs/ARCHITECTURE.md"
-        cells = [row[1] for row in rows_below(proofs, "| Premise | Where it is | What follows |")]
-        cells += [cell for row in rows_below(map_of_code, "| Rule | Definition | Code |") for cell in row[1:]]
-        cells += [row[2] for row in rows_below(map_of_code, "| Step | What happens | Where |")]
-        for cell in cells:
+        rows = [row[1:2] for row in rows_below(proofs, "| Premise | Where it is | What follows |")]
+        rows += [row[1:] for row in rows_below(map_of_code, "| Rule | Definition | Code |")]
+        rows += [row[2:] for row in rows_below(map_of_code, "| Step | What happens | Where |")]
+        for cell in (cell for row in rows for cell in row):
             folder = pathlib.Path()
             for group in cell.split("; "):
                 names, _, where = group.rpartition(": ")
