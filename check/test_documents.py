@@ -8,7 +8,7 @@ tools it needs; a command that calls it is left out where one of these isn't ins
 import os, pathlib, re, shlex, shutil, subprocess
 
 from itch import frame, frames_of
-from run import EXAMPLE, LONGEST, TOP, Case, Ran, is_shown, program, run
+from run import EXAMPLE, LONGEST, TOP, Case, Ran, program, run
 
 DOCUMENTS = ["README.md", "docs/GUIDE.md", "docs/AUDIT.md"]
 FOLDER = "/tmp/itch_guide"  # which the guide's first commands make
@@ -25,6 +25,11 @@ class Command:
     def typed(self, folder):
         """What the shell reads of it. What it prints goes to a file that has the line's number."""
         return f"eval {shlex.quote(self.words.replace(FOLDER, f'{folder}/work'))} >{folder}/prints/{self.number} 2>&1 </dev/null\n"
+
+    def is_shown(self, printed):
+        """Whether the lines that are shown stand for what was printed."""
+        pattern = "".join(r"(?:.*\n)*" if it == ".." else re.escape(it) + r"\n" for it in self.shown)
+        return self.shown != [".."] and re.fullmatch(pattern, printed) is not None
 
     def missing(self):
         """The tools that its recipes need and that aren't installed: commands, or python3 with a module."""
@@ -85,7 +90,7 @@ class Documents(Case):
                 path = folder / "prints" / str(it.number)
                 self.assertTrue(path.exists(), f"not typed: the shell had ended with status {ended.returncode}")
                 printed = path.read_text(errors="replace")
-                self.assertTrue(is_shown(it.shown, printed), f"it prints\n{printed}and the document shows\n" + "\n".join(it.shown))
+                self.assertTrue(it.is_shown(printed), f"it prints\n{printed}and the document shows\n" + "\n".join(it.shown))
         self.assertNotEqual(ended.returncode, 124, f"{document}: the last command that was typed hung")
 
 

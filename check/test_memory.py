@@ -120,14 +120,11 @@ class OfMemory(Case):
 
 FIGURES = """
 rising         file    1       4307      15412       3364         53          6
-rising         file    4       5392      21187       5996         83          9
 rising         file   64       6159      25812       7993        105         59
 rising         stream  1       8409      32248       3911         86          6
 scattered      file    1       5203      20343       3801         53          6
 scattered      stream  1       9306      37267       4414         86          6
-scattered      stream  4      12622      51916       7813        107          9
 one_order      file    1      20631      51107       1184         37         16
-one_order      stream  1      20631      68383       1456         62         16
 trades         file    1      15817      38993       2612         39         12
 trades         file    4      19797      54514       4729         77         13
 trades         stream  1      15790      52787       3236         65         12

@@ -3,7 +3,7 @@ shows stands in the file where it says; what else it prints, and its faults; and
 import random, re, sys
 
 from itch import OPEN, SECOND, attributed, broken, cross, executed, executed_at, frame, frames_of, message, named, order, replaced, trade
-from run import EXAMPLE, TOP, Case, is_shown, on_terminal, program, run
+from run import EXAMPLE, TOP, Case, on_terminal, program, run
 
 TOOL, TEXTS = TOP / "bin/trace_sales", TOP / "check/test_trace.txt"
 WHOLE_DAY = "00:00:00", "24:00:00"
@@ -140,14 +140,12 @@ class Trace(Case):
         self.assertTrue(10 < faults < 40, faults)
 
     def test_texts(self):
-        """Commands over the day of edges, and what they print; `..` stands for any lines. Messages and their bytes are left out but
-        for those at two places: documents show the others."""
+        """Commands over the day of edges, and lines that they print, in this order; documents show whole answers."""
         edges = self.file("edges", *EDGES)
         for part in f"\n{TEXTS.read_text()}".split("\n$ ")[1:]:
             words, *wanted = part.rstrip("\n").split("\n")
             shown = self.traced(edges, *words.split())
-            few = re.sub(r"(?m)^(    |  [A-Z] at place (?!1228|1077)).*\n", "", shown)
-            self.assertTrue(is_shown(wanted, few), f"{words}\n{shown}")
+            self.assertEqual([it for it in shown.splitlines() if it in wanted], wanted, shown)
             self.holds_bytes(edges, shown)
         for span, numbers in (("30.0 30.000000001", ["124"]), ("29.5 30.1", ["124", "125"])):
             shown = self.traced(edges, "AB", *(f"09:30:{it}" for it in span.split()))
