@@ -1,9 +1,7 @@
-"""Makes the two days of data/, which are made up, and writes them: `python3 check/days.py`.
-
-data/example.itch has twelve minutes of a morning: three securities, and messages of each type that the program reads.
-data/whole_day.itch has what a real day has from its first message to its last: the six system events, the stock directory, orders,
-executions, hidden trades, odd lots, crosses of each sort and one without shares, broken trades, and messages that are skipped.
-"""
+"""Makes the two days of data/, which are made up, and writes them: `python3 check/days.py`. data/example.itch has twelve minutes of
+a morning: three securities, and messages of each type that the program reads. data/whole_day.itch has what a real day has from
+its first message to its last: the six system events, the stock directory, orders, executions, hidden trades, odd lots, crosses of
+each sort and one without shares, broken trades, and messages that are skipped."""
 import collections, pathlib
 
 from itch import OPEN, SECOND, message
@@ -21,9 +19,9 @@ IDLE, TEST = Security(40, "IDLE"), Security(51, "ZVZZT", test="T")
 
 def at(clock):
     """Nanoseconds since midnight of a time as `09:30:00` or `09:30:00.25`."""
-    hours, minutes, seconds = clock.split(":")
-    whole, _, part = seconds.partition(".")
-    return ((int(hours) * 60 + int(minutes)) * 60 + int(whole)) * SECOND + int(part.ljust(9, "0"))
+    whole, _, part = clock.partition(".")
+    hours, minutes, seconds = map(int, whole.split(":"))
+    return ((hours * 60 + minutes) * 60 + seconds) * SECOND + int(part.ljust(9, "0"))
 
 
 class Day:
@@ -146,29 +144,27 @@ def whole_day():
 
 def example():
     day, prices = Day(), {MSFT: 4_105_000, AAPL: 1_893_300, Security(4021, "ZVZZT"): 100_000}
-    for it in prices:
-        # (the directory's fields behind the name are 20 spaces)
-        day.add("R", it, 0, it.name, " ", " ", 0x20202020, " ", " ", b"  ", " ", " ", " ", " ", " ", 0x20202020, " ")
     for it, price in prices.items():
-        # the last one finds no shares
+        # (the directory's fields behind the name are 20 spaces; the last cross finds no shares)
+        day.add("R", it, 0, it.name, " ", " ", 0x20202020, " ", " ", b"  ", " ", " ", " ", " ", " ", 0x20202020, " ")
         day.add("Q", it, OPEN, 0 if it.locate == 4021 else 25_000, it.name, price, 900 + it.locate, "O")
     for step in range(96):
-        (it, price), time, order, number = list(prices.items())[step % 3], OPEN + step * 7_300_000_000, 1000 + step, 20000 + 10 * step
-        price += step * 37 % 50 * CENT
-        day.add("F" if step % 2 else "A", it, time, order, "B", 500, it.name, price, *([b"NSDQ"] if step % 2 else []))
-        day.add("E", it, time, order, 10 + step % 7 * 10, number)
-        if step % 5 == 0:
-            day.add("C", it, time, order, 20, number + 1, "Y", price - CENT)
-        if step % 7 == 0:
-            day.add("C", it, time, order, 20, number + 2, "N", price - 2 * CENT)
-        if step % 6 == 0:
-            day.add("U", it, time, order, order + 1000, 300, price + CENT)
-            day.add("E", it, time, order + 1000, 30, number + 3)
-        if step % 8 == 0:
-            day.add("P", it, time, 0, "B", 75, it.name, price + 50, number + 4)
-        # the break of an execution comes nine steps after it, a minute later
-        if step % 12 == 9:
-            day.add("B", it, time, number - 90)
+        it, price = list(prices.items())[step % 3]
+        time, order, number, price = OPEN + step * 7_300_000_000, 1000 + step, 20000 + 10 * step, price + step * 37 % 50 * CENT
+        given = order, "B", 500, it.name, price
+        for is_there, kind, *fields in (
+            (True, *(("F", *given, b"NSDQ") if step % 2 else ("A", *given))),
+            (True, "E", order, 10 + step % 7 * 10, number),
+            (step % 5 == 0, "C", order, 20, number + 1, "Y", price - CENT),
+            (step % 7 == 0, "C", order, 20, number + 2, "N", price - 2 * CENT),
+            (step % 6 == 0, "U", order, order + 1000, 300, price + CENT),
+            (step % 6 == 0, "E", order + 1000, 30, number + 3),
+            (step % 8 == 0, "P", 0, "B", 75, it.name, price + 50, number + 4),
+            # the break of an execution comes nine steps after it, a minute later
+            (step % 12 == 9, "B", number - 90),
+        ):
+            if is_there:
+                day.add(kind, it, time, *fields)
     return day.bytes()
 
 
