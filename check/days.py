@@ -1,11 +1,8 @@
-"""Makes the two days of data/, which are made up, and writes them: `python3 check/days.py`.
-
-data/example.itch has twelve minutes of a morning: three securities, and messages of each type that the program reads.
-data/whole_day.itch has what a real day has from its first message to its last: the six system events, the stock directory, orders,
-executions, hidden trades, odd lots, crosses of each sort and one without shares, broken trades, and messages that are skipped.
-"""
-import collections
-import pathlib
+"""Makes the two days of data/, which are made up, and writes them: `python3 check/days.py`. data/example.itch has twelve minutes of
+a morning: three securities, and messages of each type that the program reads. data/whole_day.itch has what a real day has from
+its first message to its last: the six system events, the stock directory, orders, executions, hidden trades, odd lots, crosses of
+each sort and one without shares, broken trades, and messages that are skipped."""
+import collections, pathlib
 
 from itch import OPEN, SECOND, message
 
@@ -22,9 +19,9 @@ IDLE, TEST = Security(40, "IDLE"), Security(51, "ZVZZT", test="T")
 
 def at(clock):
     """Nanoseconds since midnight of a time as `09:30:00` or `09:30:00.25`."""
-    hours, minutes, seconds = clock.split(":")
-    whole, _, part = seconds.partition(".")
-    return ((int(hours) * 60 + int(minutes)) * 60 + int(whole)) * SECOND + int(part.ljust(9, "0"))
+    whole, _, part = clock.partition(".")
+    hours, minutes, seconds = map(int, whole.split(":"))
+    return ((hours * 60 + minutes) * 60 + seconds) * SECOND + int(part.ljust(9, "0"))
 
 
 class Day:
@@ -46,40 +43,33 @@ class Day:
         self.add("F" if attribution else "A", security, time, self.order_no, side, shares, security.name, price, *attribution)
         return self.order_no
 
-    def next_trade(self):
-        self.trade_no += 1
-        return self.trade_no
-
-    def executed(self, security, time, order_no, shares):
-        """An execution at the order's own price; the answer is its match number."""
-        self.add("E", security, time, order_no, shares, self.next_trade())
-        return self.trade_no
-
-    def executed_at(self, security, time, order_no, shares, printable, price):
-        self.add("C", security, time, order_no, shares, self.next_trade(), printable, price)
-
     def replaced(self, security, time, old_no, shares, price):
         self.order_no += 1
         self.add("U", security, time, old_no, self.order_no, shares, price)
         return self.order_no
 
+    def traded(self, kind, security, time, *fields, behind=""):
+        """A message with a new match number, which is the answer, and what stands behind that number."""
+        self.trade_no += 1
+        self.add(kind, security, time, *fields, self.trade_no, *behind)
+        return self.trade_no
+
     def hidden(self, security, time, shares, price):
         """A trade against an order that isn't displayed: its order reference is always 0 and its side always B."""
-        self.add("P", security, time, 0, "B", shares, security.name, price, self.next_trade())
-        return self.trade_no
+        return self.traded("P", security, time, 0, "B", shares, security.name, price)
 
     def cross(self, security, time, shares, price, sort):
         """Sort O is the opening cross, C the closing cross, H that of a first listing or after a halt."""
-        self.add("Q", security, time, shares, security.name, price, self.next_trade(), sort)
+        self.traded("Q", security, time, shares, security.name, price, behind=sort)
 
     def session(self, security, since, until, minutes, prices):
-        """An order every so many minutes, which is executed, replaced at another price and executed again; of every second one
+        """At each step of minutes an order, which is executed, replaced at another price and executed again; of every second one
         a hidden trade follows, and every third one is cancelled in part or deleted."""
         for turn, time in enumerate(range(at(since), at(until), minutes * 60 * SECOND)):
             order = self.order(security, time, "BS"[turn % 2], 300, next(prices), *([b"NSDQ"] if turn % 13 == 5 else []))
-            self.executed(security, time + 7 * SECOND + 104, order, 100)
+            self.traded("E", security, time + 7 * SECOND + 104, order, 100)
             order = self.replaced(security, time + 60 * SECOND, order, 200, next(prices))
-            self.executed(security, time + 95 * SECOND + 12500, order, 100 if turn % 5 else 60)
+            self.traded("E", security, time + 95 * SECOND + 12500, order, 100 if turn % 5 else 60)
             if turn % 2:
                 self.hidden(security, time + 130 * SECOND + 77, 40 + turn, next(prices) + 50)
             if turn % 6 == 2:
@@ -106,14 +96,14 @@ def whole_day():
         day.add("H", it, "03:05:00", it.name, "H" if it is NEWCO else "T", " ", "IPO1" if it is NEWCO else "")
     day.add("S", NOBODY, "04:00:00", "S")
     early = day.order(MSFT, "04:15:00", "S", 100, 4091500)
-    day.executed(MSFT, "04:15:02.5", early, 25)
+    day.traded("E", MSFT, "04:15:02.5", early, 25)
     day.add("X", MSFT, "07:00:00", early, 50)
     # The opening. What a cross takes from the book comes again as executions that aren't printable.
     waiting = day.order(MSFT, "09:28:30", "B", 500, 4100000)
     day.add("S", NOBODY, "09:30:00", "Q")
     day.cross(MSFT, "09:30:00.113", 30000, 4099000, "O")
-    day.executed_at(MSFT, "09:30:00.113", waiting, 400, "N", 4099000)
-    day.executed_at(MSFT, "09:30:01", waiting, 100, "Y", 4099500)
+    day.traded("C", MSFT, "09:30:00.113", waiting, 400, behind=("N", 4099000))
+    day.traded("C", MSFT, "09:30:01", waiting, 100, behind=("Y", 4099500))
     day.cross(AAPL, "09:30:00.25", 21000, 1893000, "O")
     day.cross(IDLE, "09:30:00.4", 0, 0, "O")
     # The session.
@@ -126,7 +116,7 @@ def whole_day():
     day.session(TEST, "10:00:00", "10:30:00", 10, walk(6, 100000, 5))
     # An odd lot, which is the highest price of MSFT's day.
     odd = day.order(MSFT, "11:03:20", "S", 3, 4113700)
-    day.executed(MSFT, "11:03:21.000000001", odd, 3)
+    day.traded("E", MSFT, "11:03:21.000000001", odd, 3)
     # A first listing: quotations until the release, the release, the cross.
     day.add("H", NEWCO, "10:45:00", NEWCO.name, "Q", " ", "IPOQ")
     day.add("K", NEWCO, "10:45:00", NEWCO.name, at("11:14:00") // SECOND, "A", 280000)
@@ -138,7 +128,7 @@ def whole_day():
     day.cross(AAPL, "13:25:00.4", 1200, 1899000, "H")
     # An execution far off the market, broken half an hour later, and one that is broken only after the close.
     wrong = day.order(MSFT, "14:20:00", "B", 100, 3500000)
-    day.add("B", MSFT, "14:52:00", day.executed(MSFT, "14:20:01", wrong, 100))
+    day.add("B", MSFT, "14:52:00", day.traded("E", MSFT, "14:20:01", wrong, 100))
     day.add("B", AAPL, "20:01:00", day.hidden(AAPL, "15:58:30", 500, 1812500))
     # The closing, the late session, the end.
     day.add("S", NOBODY, "16:00:00", "M")
@@ -154,29 +144,27 @@ def whole_day():
 
 def example():
     day, prices = Day(), {MSFT: 4_105_000, AAPL: 1_893_300, Security(4021, "ZVZZT"): 100_000}
-    for it in prices:
-        # (the directory's fields behind the name are 20 spaces)
-        day.add("R", it, 0, it.name, " ", " ", 0x20202020, " ", " ", b"  ", " ", " ", " ", " ", " ", 0x20202020, " ")
     for it, price in prices.items():
-        # the last one finds no shares
+        # (the directory's fields behind the name are 20 spaces; the last cross finds no shares)
+        day.add("R", it, 0, it.name, " ", " ", 0x20202020, " ", " ", b"  ", " ", " ", " ", " ", " ", 0x20202020, " ")
         day.add("Q", it, OPEN, 0 if it.locate == 4021 else 25_000, it.name, price, 900 + it.locate, "O")
     for step in range(96):
-        (it, price), time, order, number = list(prices.items())[step % 3], OPEN + step * 7_300_000_000, 1000 + step, 20000 + 10 * step
-        price += step * 37 % 50 * CENT
-        day.add("F" if step % 2 else "A", it, time, order, "B", 500, it.name, price, *([b"NSDQ"] if step % 2 else []))
-        day.add("E", it, time, order, 10 + step % 7 * 10, number)
-        if step % 5 == 0:
-            day.add("C", it, time, order, 20, number + 1, "Y", price - CENT)
-        if step % 7 == 0:
-            day.add("C", it, time, order, 20, number + 2, "N", price - 2 * CENT)
-        if step % 6 == 0:
-            day.add("U", it, time, order, order + 1000, 300, price + CENT)
-            day.add("E", it, time, order + 1000, 30, number + 3)
-        if step % 8 == 0:
-            day.add("P", it, time, 0, "B", 75, it.name, price + 50, number + 4)
-        # the break of an execution comes nine steps after it, a minute later
-        if step % 12 == 9:
-            day.add("B", it, time, number - 90)
+        it, price = list(prices.items())[step % 3]
+        time, order, number, price = OPEN + step * 7_300_000_000, 1000 + step, 20000 + 10 * step, price + step * 37 % 50 * CENT
+        given = order, "B", 500, it.name, price
+        for is_there, kind, *fields in (
+            (True, *(("F", *given, b"NSDQ") if step % 2 else ("A", *given))),
+            (True, "E", order, 10 + step % 7 * 10, number),
+            (step % 5 == 0, "C", order, 20, number + 1, "Y", price - CENT),
+            (step % 7 == 0, "C", order, 20, number + 2, "N", price - 2 * CENT),
+            (step % 6 == 0, "U", order, order + 1000, 300, price + CENT),
+            (step % 6 == 0, "E", order + 1000, 30, number + 3),
+            (step % 8 == 0, "P", 0, "B", 75, it.name, price + 50, number + 4),
+            # the break of an execution comes nine steps after it, a minute later
+            (step % 12 == 9, "B", number - 90),
+        ):
+            if is_there:
+                day.add(kind, it, time, *fields)
     return day.bytes()
 
 

@@ -1,14 +1,6 @@
-"""Reads Rattle as text: the crates, functions with their contracts, definitions with their comments, and edits.
-
-Names are read by their imports, clauses by their braces. Nothing here knows what a contract means.
-"""
-import functools
-import importlib.machinery
-import importlib.util
-import pathlib
-import re
-import subprocess
-import sys
+"""Reads Rattle as text: the crates, functions with their contracts, definitions with their comments, and edits. Names are read by
+their imports, clauses by their braces; nothing here knows what a contract means."""
+import functools, importlib.machinery, importlib.util, pathlib, re, subprocess, sys
 
 TOP = pathlib.Path(__file__).resolve().parent.parent
 WORD = re.compile(r"[A-Za-z_][\w\-]*")
@@ -47,13 +39,12 @@ def kit():
 
 
 class Function:
-    """A function: its file and lines, the type or trait that it is of, and its contract. `clauses` are kind, name, text."""
+    """A function: its lines, the type or trait that it is of, its contract, and its file and crate if these are known. `clauses`
+    are kind, name, text."""
 
     def __init__(self, lines, name, owner, is_public, signature, clauses):
         self.lines, self.name, self.is_public, self.clauses = lines, name, is_public, clauses
-        self.owner, self.trait = owner
-        self.parameters, self.result = signature
-        self.path = self.crate = None
+        (self.owner, self.trait), (self.parameters, self.result) = owner, signature
         self.label = f"{self.owner}::{name}" if self.owner else name
         self.ensures = [text for kind, _, text in clauses if kind == "ensures"]
 
@@ -128,10 +119,12 @@ def functions_in(text):
 @functools.lru_cache(maxsize=None)
 def functions_of(crate):
     """The functions of a crate, each with its file."""
-    found = [(path, function) for path in sources(crate) for function in functions_in(path.read_text())]
-    for path, function in found:
-        function.path, function.crate = path, crate
-    return [function for _, function in found]
+    found = []
+    for path in sources(crate):
+        for function in functions_in(path.read_text()):
+            function.path, function.crate = path, crate
+            found.append(function)
+    return found
 
 
 def without_success(clause):
@@ -174,26 +167,6 @@ def ghost_members(path):
 
 def sources(crate):
     return sorted((TOP / "crates" / crate / "src").rglob("*.rt"))
-
-
-def proved_as(file, function, names):
-    """Which of the names of functions that the prover tells is that of a file's function; None if none is, or more than one."""
-    # a method is named by the module of its type, which may be another than that of its `impl`, and by the words of its
-    # trait, of which those of one letter are parameters
-    of_trait = "".join(re.findall(r"\b[A-Z]\w+", function.trait))
-    above = [function.owner + of_trait] if function.owner else file.removeprefix("src/").removesuffix(".rt").split("/")
-    path = "::".join([*(word for word in above if word != "lib"), function.name])
-    # two `impl` of one type are told apart by a sign that sources don't have, as in `Gathering+W`
-    plain = {name: re.sub(r"\+\w+", "", name) for name in names}
-    found = [name for name in names if plain[name] == path or function.owner and plain[name].endswith("::" + path)]
-    return found[0] if len(found) == 1 else None
-
-
-def assumed_in(log):
-    """What the proof of the program assumes, by a build's log: the lines on C functions, and the words by which the verdict says
-    what it rests on."""
-    found = re.search(r"(?m)((?:^axioms .*\n)+)logic=proved .*? (axioms=\d+) (.*)$", log)
-    return (found[1].splitlines(), [found[2], *re.findall(r"\S+=trusted|native=\S+", found[3])]) if found else ([], [])
 
 
 # Definitions.

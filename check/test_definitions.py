@@ -1,27 +1,19 @@
 """Holds the documents against the code: what has to be believed, which functions have no clause, what pages name and quote; and
 sees that each edit applies. `python3 check/test_definitions.py write` writes the tables of docs/DEFINITIONS.md.
 
-A definition of specs/ is of the kind `program` if what the program promises rests on it: a clause of a call that the program
-makes, or a member of one of its devices, cites it, or cites a definition that rests on it. It is of the kind `crate` if another
-public contract rests on it, and of the kind `proofs` if none does, or if its file is derived.
+A definition of specs/ is of the kind `program` if a clause of a call that the program makes, or a member of one of its devices,
+cites it, or cites a definition that rests on it; of the kind `crate` if another public contract rests on it; and of the kind
+`proofs` if none does, or if its file is derived.
 """
-import difflib
-import functools
-import pathlib
-import re
-import sys
-import unittest
+import difflib, functools, pathlib, re, sys, unittest
 
-from rattle import TOP, assumed_in, cited_by, code_of, crates, definitions, edits_of, functions_of, ghost_members
+from rattle import TOP, cited_by, code_of, crates, definitions, edits_of, functions_of, ghost_members
 from rattle import is_derived, is_product, is_silent_on_refusals, kit, named_in, rested_on, sources
 
 PRODUCT = [crate for crate in crates() if is_product(crate)]
 # The calls that the program makes, and its devices: what they promise is what the program does.
-PROGRAM = {
-    "command_line": ["perform", "perform_blocks", "perform_opened"],
-    "runs": ["run", "run_blocks"],
-    "arguments": ["command", "reading_fault", "explain"],
-}
+PROGRAM = {"command_line": ["perform", "perform_blocks", "perform_opened"], "runs": ["run", "run_blocks"],
+           "arguments": ["command", "reading_fault", "explain"]}
 DEVICES = ["sources/src/counted.rt", "block_scan/src/file_blocks.rt", "sinks/src/counted_sink.rt"]
 # How the second line of a file of specs/ begins, or is, by the first of these kinds that one of its definitions is of.
 SECONDS = {"program": "-- To be believed.", "crate": "-- To be believed of a crate used by itself", "proofs": "-- Derived: "}
@@ -105,10 +97,8 @@ def written(text):
     of_crates = rows_of("crate", [crate for group in SUBJECTS.values() for crate in group])
     for part, lines in (("members", members()), ("program", of_program[1:]), ("crate", of_crates)):
         before, begin, rest = text.partition(BEGINS.format(part))
-        after = rest.partition(ENDS)[2]
-        if not after:
-            raise unittest.TestCase.failureException(f"docs/DEFINITIONS.md has no place for the {part}")
-        text = "\n".join([before + begin, "", *lines, "", ENDS]) + after
+        assert ENDS in rest, f"docs/DEFINITIONS.md has no place for the {part}"
+        text = "\n".join([before + begin, "", *lines, "", ENDS]) + rest.partition(ENDS)[2]
     return text
 
 
@@ -159,9 +149,7 @@ class NoClause(unittest.TestCase):
             heads = [re.findall(r"(?m)^ *(?:pub(?:\([\w: ]+\))? )?(?:const )?fn \w", path.read_text()) for path in sources(crate)]
             self.assertEqual(sum(map(len, heads)), len(functions_of(crate)), crate)
 
-
-class Edits(unittest.TestCase):
-    def test_each_applies_and_has_the_name_of_a_function(self):
+    def test_each_edit_applies_and_has_the_name_of_a_function(self):
         for crate in PRODUCT:
             names = {it.name for it in functions_of(crate)}
             for edit in edits_of(crate):
@@ -174,14 +162,12 @@ class Edits(unittest.TestCase):
 
 class Base(unittest.TestCase):
     def test_the_page_says_what_the_log_says(self):
-        log = TOP / "crates/itch_bars/out/build.log"
-        lines, words = assumed_in(log.read_text() if log.exists() else "")
-        if not lines:
-            self.skipTest("bin/build has kept no log of a build here")
-        page = TOP / "docs/BASE.md"
-        self.assertEqual([], [line for line in lines if f"\n    {line}\n" not in page.read_text()])
+        page, log = TOP / "docs/BASE.md", TOP / "crates/itch_bars/out/build.log"
+        said = re.search(r"(?m)((?:^axioms .*\n)+)logic=proved .*? (axioms=\d+ .*)$", log.read_text() if log.exists() else "")
+        said or self.skipTest("bin/build has kept no log of a build here")
+        self.assertEqual([], [line for line in said[1].splitlines() if f"\n    {line}\n" not in page.read_text()])
         stand = [words_in(row[0])[0] for row in rows_below(page, "| Word | What it means | In a build |") if row[2] == "stands"]
-        self.assertEqual(sorted(words), sorted(stand))
+        self.assertEqual(sorted(re.findall(r"axioms=\d+|\S+=trusted|native=\S+", said[2])), sorted(stand))
 
     def test_threads_share_what_the_kit_gives_alone(self):
         own = re.compile(r"\b(Atomic\w*|atomic|\w*Cell|cell|Mutex\w*|RwLock\w*|Condvar|Barrier|Once|OnceLock|LazyLock|Perch|static|unsafe)\b|\bOrdering::")
@@ -212,8 +198,7 @@ def words_in(text):
 def rows_below(page, heading):
     """The cells of the rows of each table with this heading; there has to be one."""
     found = re.findall(rf"(?m)^{re.escape(heading)}\n\|[-|]+\n((?:\|.*\n)+)", page.read_text())
-    if not found:
-        raise unittest.TestCase.failureException(f"{page} has no table {heading}")
+    assert found, f"{page} has no table {heading}"
     return [[cell.strip() for cell in row.strip("|").split(" | ")] for part in found for row in part.strip().split("\n")]
 
 
@@ -247,10 +232,10 @@ class Pages(unittest.TestCase):
     def test_what_stands_where_does(self):
         """Tables that name files: each file is there, and defines what is said to stand in it."""
         proofs, map_of_code = TOP / "docs/PROOFS.md", TOP / "docs/ARCHITECTURE.md"
-        cells = [row[1] for row in rows_below(proofs, "| Premise | Where it is | What follows |")]
-        cells += [cell for row in rows_below(map_of_code, "| Rule | Definition | Code |") for cell in row[1:]]
-        cells += [row[2] for row in rows_below(map_of_code, "| Step | What happens | Where |")]
-        for cell in cells:
+        rows = [row[1:2] for row in rows_below(proofs, "| Premise | Where it is | What follows |")]
+        rows += [row[1:] for row in rows_below(map_of_code, "| Rule | Definition | Code |")]
+        rows += [row[2:] for row in rows_below(map_of_code, "| Step | What happens | Where |")]
+        for cell in (cell for row in rows for cell in row):
             folder = pathlib.Path()
             for group in cell.split("; "):
                 names, _, where = group.rpartition(": ")

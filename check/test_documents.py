@@ -5,15 +5,9 @@ below it, up to the next command, are all that it prints on standard output and 
 any lines, or none. One shell types all commands of a document, in a copy of what they need. A recipe says in its second line which
 tools it needs; a command that calls it is left out where one of these isn't installed, and the skip names it.
 """
-import os
-import pathlib
-import re
-import shlex
-import shutil
-import subprocess
-import sys
+import os, pathlib, re, shlex, shutil, subprocess
 
-from itch import frame
+from itch import frame, frames_of
 from run import EXAMPLE, LONGEST, TOP, Case, Ran, program, run
 
 DOCUMENTS = ["README.md", "docs/GUIDE.md", "docs/AUDIT.md"]
@@ -75,8 +69,8 @@ class Documents(Case):
             self.type_all(document, commands_of(document), self.folder / document)
 
     def type_all(self, document, commands, folder):
-        (folder / "prints").mkdir(parents=True)
         top = folder / "top"
+        (folder / "prints").mkdir(parents=True)
         for it in ("data", "recipes"):
             shutil.copytree(TOP / it, top / it)
         shutil.copytree(TOP / "bin", top / "bin", copy_function=os.symlink)
@@ -92,27 +86,12 @@ class Documents(Case):
         for it in commands:
             with self.subTest(place := f"{document}:{it.number}: {it.words}"):
                 if missing[it]:
-                    print(f"\nleft out, as {missing[it]} isn't installed: {place}", file=sys.stderr)
-                    self.skipTest(f"{missing[it]} isn't installed")
+                    self.skipTest(f"{missing[it]} isn't installed, which {place} needs")
                 path = folder / "prints" / str(it.number)
                 self.assertTrue(path.exists(), f"not typed: the shell had ended with status {ended.returncode}")
                 printed = path.read_text(errors="replace")
                 self.assertTrue(it.is_shown(printed), f"it prints\n{printed}and the document shows\n" + "\n".join(it.shown))
         self.assertNotEqual(ended.returncode, 124, f"{document}: the last command that was typed hung")
-
-    def test_heads(self):
-        """A recipe says in three lines what it does, what it needs, and a call, which a document shows with what comes."""
-        called = [it.words for document in DOCUMENTS for it in commands_of(document)]
-        for it in RECIPES:
-            with self.subTest(it.name):
-                head = HEAD.match(it.read_text())
-                self.assertTrue(head and any(words.startswith(head["call"]) for words in called), head or "its head isn't one")
-
-    def test_options(self):
-        """README's ranges and defaults are those of help."""
-        rows = re.findall(r"^\| `--(\w+) \w+` \| .* \| (1 to [\d,]+) \| ([\d,]+) \|", text_of("README.md").replace(",", ""), re.M)
-        told = re.findall(r"--(\w+) <\w+> .*?\b(1 to \d+).*?\[default: (\d+)\]", " ".join(text_of("bin/help").split()))
-        self.assertEqual((sorted(rows), len(rows)), (sorted(told), 4))
 
 
 class Claims(Case):
@@ -133,10 +112,8 @@ class Claims(Case):
         """A small file of another sort is at fault at place 0; another framing, no file and half a day are not at fault."""
         for day in [b"\x1f\x8b\x08" + bytes(99), b"\xd4\xc3\xb2\xa1\2\0\4\0" + EXAMPLE.read_bytes(), b"time,symbol\n" * 99]:
             self.gives(self.ask(day), 1, errors="fault: place 0: message runs past the end\n")
-        day, soup, place = (TOP / "data/whole_day.itch").read_bytes(), b"", 0
-        while place < len(day):
-            end = place + 2 + int.from_bytes(day[place : place + 2], "big")
-            soup, place = soup + frame(b"S" + day[place + 2 : end]), end
+        day = (TOP / "data/whole_day.itch").read_bytes()
+        soup = b"".join(frame(b"S" + it[2:]) for it in frames_of(day))
         header, half = Ran(0, b"time,symbol,kind,price,shares,number\n", b""), self.ask(day[:12733])
         self.assertEqual([self.ask(soup), self.ask(b"")], [header, header])
         self.assertEqual((half.status, half.errors, half.out.count(b"\n") > 100, half == self.ask(day)), (0, b"", True, False))

@@ -1,23 +1,17 @@
 """Holds the memory and the system calls of the program below 1.3 times the figures at the end of this file, over days of the shapes
 that cost most; sees that what was read is let go, and that time doesn't grow as the square of a day. No answer hangs on that, so
 nothing else sees memory that is never given back, or is taken again for each partition or worker, or a search that begins anew at
-each step. Counts are those of preload.c, whatever the machine's speed and load; bounds of processor time are many times what is
-taken. With one worker no figure moves by a hundredth. With several a task on which one works for long is given to another when
+each step. Counts are those of preload.c, whatever the machine's speed and load; bounds of processor time are six times what is
+taken, or more. With one worker no figure moves by a hundredth. With several a task on which one works for long is given to another when
 nothing else is left, so more may be read, asked for and held: theirs are at least the most of many runs on a busy machine.
 """
-import importlib.machinery, importlib.util, os, resource, shutil, warnings
+import os, resource
 
-from itch import OPEN, breaks, broken, executed, named, names, multiples_of_256, order, orders, rising, scattered, time_of, trade, trades
+from itch import OPEN, breaks, broken, executed, named, names, order, orders, scattered, time_of, trade, trades
 from run import TOP, Case, library, program, run
 
 MIB = 1 << 20
 BATCH = 32 * MIB  # of a stream; two are held, and of each the last morsel, and what is cut, are some MiB more
-# Of plain Rust's processor time; runs of each; bytes of a day. The order of its references, what is asked, the words, the plain Rust
-# beside it, and whether it is standard input.
-MOST_TIMES, RUNS, SIZE, FOUR = 3, 3, 50_000_000, ["--workers", "4"]
-BESIDE = [("rising", "bars 1 m", ["--workers", "1"], "one", False), ("rising", "sales", FOUR, "four", False),
-          ("rising", "bars 1 m", FOUR, "four", True), ("random", "bars 1 m", FOUR, "four", False),
-          ("executions", "bars 1 s", FOUR, "four", False)]
 
 
 def executions_of_one(count):
@@ -42,7 +36,7 @@ def mixed(count, reference):
 
 
 SHAPES = {
-    "rising": ("bars 1 m", lambda: orders(150_000, rising)),
+    "rising": ("bars 1 m", lambda: orders(150_000)),
     "scattered": ("bars 1 m", lambda: orders(150_000, scattered)),
     "one_order": ("bars 1 s", lambda: executions_of_one(120_000)),
     "trades": ("bars 1 s", lambda: trades(90_000)),
@@ -54,7 +48,7 @@ SHAPES = {
 class OfMemory(Case):
     def took(self, file, query, workers, way="file", **more):
         """The KiB that a run holds at most and asks for, its allocations, readings and writes."""
-        words = ["-" if way == "stream" else file, query, "--workers", workers, "--partitions", 61]  # (a prime is taken as it is)
+        words = ["-" if way == "stream" else file, query, "--workers", workers]
         # All rows are freed by a thread of their own, the next one after those of the second pipeline: the caller waits for it.
         given, first = file if way == "stream" else b"", {"FIRST": 2 * workers + 1}
         ran, report = self.counted(program(), *words, *more.pop("words", []), input=given, preload=first, **more)
@@ -74,12 +68,10 @@ class OfMemory(Case):
                 self.assertTrue(all(it <= 1.3 * int(figure) for it, figure in zip(found, figures)), f"more than 1.3 of {figures}")
 
     def test_one_remainder(self):
-        """References that are all the same modulo 256 take what others take, with as many partitions as no option says."""
-        asked = []
-        for reference in (scattered, multiples_of_256):
-            day = self.file("day", *orders(150_000, reference))
-            asked.append(self.counted(program(), day, "bars 1 m", "--workers", 1)[1].heap.bytes)
-        self.assertLessEqual(max(asked), 1.25 * min(asked))
+        """References that are all the same modulo 256 lie in all partitions, whose number is a prime, and each partition takes room."""
+        day = self.file("day", *orders(150_000, scattered))
+        few, more = (self.took(day, "bars 1 m", 1, words=["--partitions", count])[2] for count in (1, 64))
+        self.assertGreater(more, 10 * few)
 
     def test_large_morsel(self):
         """A morsel takes as much room as there are bytes, however many it could have."""
@@ -101,20 +93,19 @@ class OfMemory(Case):
 
     def test_time_of_cuts(self):
         """A morsel of 192 MiB of empty messages is cut, which is read in 3,000 pieces."""
-        day = self.file("day")
-        os.truncate(day, 192 * MIB)
-        self.quickly(15, "-", "sales", "--morsel", 1 << 30, input=day)
+        os.truncate(self.file("day"), 192 * MIB)
+        self.quickly(6, "-", "sales", "--morsel", 1 << 30, input=self.folder / "day")
 
     def test_time_of_lists(self):
         """Of a day each of whose lists is long, in one partition and in many, and with all locates asked for by their name, the
         sales are listed where nothing lies as it comes, and the bars made where references rise, also of 20,000 morsels; no sale
         of it is of the kind that is asked for."""
-        for reference, query in ((scattered, "sales where symbol in MSFT"), (rising, "bars 1 s where symbol in MSFT")):
+        for reference, query in ((scattered, "sales where symbol in MSFT"), (int, "bars 1 s where symbol in MSFT")):
             day = self.file("day", *mixed(200_000, reference))
             for partitions in (1, 61):
-                self.quickly(5, day, query, "--partitions", partitions)
+                self.quickly(2, day, query, "--partitions", partitions)
         for words in (["bars 1 s", "--morsel", 1_000], ["sales where kind in Q"]):
-            self.quickly(5, day, *words, "--partitions", 1)
+            self.quickly(2, day, *words, "--partitions", 1)
 
     def test_time_of_symbols(self):
         """21,000 symbols are looked for among the names of all locates."""
@@ -122,40 +113,18 @@ class OfMemory(Case):
         self.quickly(1, self.file("day", *names(70_000)), f"sales where symbol in {symbols}")
 
     def quickly(self, seconds, *words, **more):
-        """One worker answers in so many seconds of a processor, where each step that begins anew takes far more."""
+        """One worker answers within the seconds of a processor, where each step that begins anew takes far more."""
         ran = run(program(), *words, "--workers", 1, seconds=seconds, **more)
         self.assertEqual((ran.status, ran.errors), (0, b""), words)
 
 
-class OfSpeed(Case):
-    """Processor time beside plain Rust's (bench/plain.rs) over the same days, by turns, with the same answers to the byte. It sees
-    what makes a run several times slower and moves no count; no ratio is far above 1.5 today."""
-
-    def test_beside_plain_rust(self):
-        if not shutil.which("rustc"):
-            self.skipTest("there is no rustc to build plain Rust's programs")
-        loader = importlib.machinery.SourceFileLoader("bench", str(TOP / "bench/run"))
-        bench = importlib.util.module_from_spec(importlib.util.spec_from_loader("bench", loader))
-        loader.exec_module(bench)
-        bench.program = program()
-        warnings.simplefilter("ignore", ResourceWarning)  # (it waits for its runs by their numbers)
-        for order, query, words, beside, is_input in BESIDE:
-            day = bench.day_of(self.folder, SIZE, order) or self.skipTest(f"there is no room for a day of {SIZE} bytes")
-            best = bench.by_turns(RUNS, self.folder, {order: day}, query, words, is_input)
-            with self.subTest(order=order, query=query, words=words):
-                self.assertLess(best[order, "itch_bars"].busy, MOST_TIMES * best[order, beside].busy)
-
-
 FIGURES = """
 rising         file    1       4307      15412       3364         53          6
-rising         file    4       5392      21187       5996         83          9
 rising         file   64       6159      25812       7993        105         59
 rising         stream  1       8409      32248       3911         86          6
-scattered      file    1       5204      21821       3914         53          6
-scattered      stream  1       9380      38828       4520         86          6
-scattered      stream  4      12622      51916       7813        107          9
+scattered      file    1       5203      20343       3801         53          6
+scattered      stream  1       9306      37267       4414         86          6
 one_order      file    1      20631      51107       1184         37         16
-one_order      stream  1      20631      68383       1456         62         16
 trades         file    1      15817      38993       2612         39         12
 trades         file    4      19797      54514       4729         77         13
 trades         stream  1      15790      52787       3236         65         12

@@ -1,11 +1,11 @@
 """Runs the program as its users do: its words, statuses and streams, which file it opens and how it reads it; and over devices that
 fail, are interrupted, give or take few bytes, are closed or full, or change meanwhile. What comes must be the whole answer, or one
-line and its status with nothing of an answer; where the output fails, as many first bytes as the line says. What a clause says of
-each source and sink isn't tried again here: this is `main`, std and the system.
+line and its status with nothing of an answer; where the output fails, the first bytes up to the number that the line says. What a
+clause says of each source and sink isn't tried again here: this is `main`, std and the system.
 """
 import itertools, os, re
 
-from itch import SECOND, executed, order, trade
+from itch import SECOND, executed, frames_of, order, trade
 from run import EXAMPLE, TOP, Case, Ran, program, run
 
 DAY = order(1, 7, 34_201 * SECOND + 3) + executed(1, 9, 7, 34_201 * SECOND + 5, 40)
@@ -15,16 +15,11 @@ READING, WRITING = "fault: reading failed\n", "fault: writing failed after 0 byt
 END = "fault: place 38: message runs past the end\n"
 # By blocks of one thread and of several, in morsels, and from the standard input.
 WAYS = ONE, SEVERAL, MORSELS, INPUT = "--workers 1", "--workers 4 --gatherers 3", "--morsel 50", "-"
-# Words that are wrong, the status and the line that they give; then what is wrong with words of the command line.
-FAULTS = [("cut_off sales", 1, END), ("day bars", 2, "fault: query ends too early\n"),
-          ("day 'bars 0 s'", 2, "fault: query byte 5: bad number\n"), ("no_such_file 'bars 0 s'", 4, READING)]
-MISSING = "the following required arguments were not provided:"
-WRONG = [("", MISSING + "\n  <FILE>\n  <QUERY>"), ("day", MISSING + "\n  <QUERY>"),
-         ("day sales 'bars 1 m'", "unexpected argument 'bars 1 m' found"), ("day $'sales\\xff'", "a word is not valid UTF-8"),
-         ("day sales --workers 1 --workers 2", "the argument '--workers <N>' cannot be used multiple times"),
-         *((f"day sales --{name} {most + 1}", f"invalid value '{most + 1}' for '--{name} <N>': {most + 1} is not in 1..={most}")
-           for name, most in (("workers", 64), ("gatherers", 8), ("partitions", 256)))]
-USAGE, MORE = 'Usage: itch_bars [OPTIONS] <FILE> "<QUERY>"\n\n', "For more information, try '--help'.\n"
+# Words that are wrong, the status and the lines that they give. Other words and their lines are cases of `answer_cases`.
+USAGE = """\n\nUsage: itch_bars [OPTIONS] <FILE> "<QUERY>"\n\nFor more information, try '--help'.\n"""
+FAULTS = [("cut_off sales", 1, END), ("day bars", 2, "fault: query ends too early\n"), ("no_such_file 'bars 0 s'", 4, READING),
+          ("day", 2, f"error: the following required arguments were not provided:\n  <QUERY>{USAGE}"),
+          ("day $'sales\\xff'", 2, f"error: a word is not valid UTF-8{USAGE}")]
 
 
 class OfProgram(Case):
@@ -52,9 +47,6 @@ class OfProgram(Case):
             self.gives(self.shell(f'exec "$0" {words}'), 0, answer)
         for words, status, errors in FAULTS:
             self.gives(self.shell(f'exec "$0" {words}'), status, "", errors)
-        for words, what in WRONG:
-            usage = "" if what.startswith("invalid") else USAGE
-            self.gives(self.shell(f'exec "$0" {words}'), 2, "", f"error: {what}\n\n{usage}{MORE}")
         for text, words in (("help", "--help"), ("help", "day -h"), ("version", "--version"), ("version", "day sales -V")):
             self.gives(self.of(*words.split()), 0, (TOP / "bin" / text).read_bytes())
 
@@ -109,30 +101,27 @@ class OfProgram(Case):
         self.gives(self.over(INPUT, self.cut_off, TAKES=1)[0], 1, "", END)
 
     def test_readings_that_fail(self):
-        """Each reading of a byte fails in turn, and with it those behind it or none, by an error of the device, an interruption, or
-        want of bytes, until a run has fewer. Several workers may read a block twice, and the first that is read counts."""
-        may_come = [Ran(4, b"", READING.encode()), Ran(0, SALE.encode(), b"")]
-        for way, (error, once) in itertools.product(WAYS, ((5, 0), (4, 0), (11, 0), (5, 1))):
+        """Each reading of a byte fails in turn, by an error of the device, an interruption, or want of bytes, until a run has fewer;
+        those behind it would be well. Several workers may read a block twice, and the first that is read counts."""
+        failed, sales = Ran(4, b"", READING.encode()), Ran(0, SALE.encode(), b"")
+        for way, error in itertools.product(WAYS, (5, 4, 11)):
             for reading in itertools.count(1):
-                ran, report = self.over(way, self.day, GIVES=1, FAILS=reading, ERROR=error, ONCE=once)
-                if report.failed == [0, 0]:
+                ran, report = self.over(way, self.day, GIVES=1, FAILS=reading, ERROR=error)
+                if report.failed == [0]:
                     break
-                self.assertIn(ran, may_come if way == SEVERAL else may_come[:1], f"{way}, reading {reading}, {error}")
-                self.assertTrue("worker" in way or report.failed == [1, 0], f"{way}: read again after {reading} failed")
-            self.assertEqual((ran, reading > len(DAY)), (may_come[1], True), way)
+                self.assertIn(ran, (failed, sales if way == SEVERAL else failed), f"{way}, reading {reading}, {error}")
+            self.assertEqual((ran, reading > len(DAY)), (sales, True), way)
         # All of a stream is read before a fault is told: also a reading that fails behind it.
         for day in (DAY[:3], DAY + DAY):
-            self.gives(self.over(INPUT, self.file("faulty", day), GIVES=1, FAILS=len(day) + 1)[0], 4, "", READING)
+            self.gives(self.over(INPUT, self.file("faulty", day), GIVES=1, FAILS=len(day) + 1, ERROR=5)[0], 4, "", READING)
 
     def test_files_that_change(self):
         """A file grows, is replaced or shrinks before each of its readings in turn: the answer is that to what it had before or has
         then, or to whole messages from its start; or what was read ends within one."""
         example, sale = EXAMPLE.read_bytes(), trade(9)
         self.file("sale", sale)
-        place, fronts, may_come = 0, [], [self.of(it, "sales") for it in (EXAMPLE, self.file("longer", example, sale))]
-        while place <= len(example):
-            fronts.append(self.of("-", "sales", input=example[:place]))
-            place += 2 + int.from_bytes(example[place : place + 2], "big")
+        may_come = [self.of(it, "sales") for it in (EXAMPLE, self.file("longer", example, sale))]
+        fronts = [self.of("-", "sales", input=it) for it in itertools.accumulate(frames_of(example), initial=b"")]
         for way, (gives, change, may_come) in itertools.product(WAYS, (
             (1_000, "truncate -s 466 changing", fronts), (1_000, "cp longer new; mv new changing", may_come[:1]),
             (1_000, "cat sale >>changing", may_come), (100_000, "cat sale >>changing", may_come),
@@ -147,18 +136,6 @@ class OfProgram(Case):
             self.assertGreater(reading, 2, way)
 
     # ---- outputs and pipes
-
-    def test_writes_that_fail(self):
-        """The output fails after each number of bytes in turn, whether they are taken one by one or at once."""
-        all_words = "day sales", "day sales --morsel 1", "- sales", "--version"
-        for words, (takes, error) in itertools.product(all_words, ((1, 5), (3, 4), (10_000, 28))):
-            answer = self.of(*words.split(), input=DAY).out
-            for room in range(len(answer)):
-                settings = {"TAKES": takes, "ERROR": error, "ROOM": room}
-                ran, report = self.counted(program(), *words.split(), input=DAY, preload=settings, cwd=self.folder)
-                self.gives(ran, 5, answer[:room], WRITING.replace("0", str(room)))
-                self.assertEqual(report.failed, [1, 0], f"written again after {room} bytes")
-        self.gives(self.over(ONE, self.day, TAKES=0)[0], 5)
 
     def test_closed_and_full_streams(self):
         """A file that is opened while a stream is closed has the stream's number, and isn't written to. A line that can't be written
@@ -175,7 +152,7 @@ class OfProgram(Case):
             self.gives(self.shell(f'exec "$0" {words}'), status, out, errors)
             self.assertEqual(precious.read_bytes(), DAY, f"{words}: a file is written to")
 
-    def test_pipes(self):
+    def test_pipes_and_full_files(self):
         """A pipe as the file, whose writer writes in pieces or leaves within a frame; one without a reader; and one whose reader
         leaves, where the answer is longer than any pipe holds."""
         self.gives(self.shell('(head -c 10 day; sleep 0.2; tail -c +11 day) | "$0" /dev/stdin sales'), 0, SALE)
@@ -184,8 +161,12 @@ class OfProgram(Case):
         os.close(reader)
         self.addCleanup(os.close, writer)
         self.assertEqual(self.of("day", "sales", stdout=writer), Ran(5, None, WRITING.encode()))
-        front = self.of(self.file("trades", *[trade(9)] * 30_000), "sales").out[:100]
+        answer = self.of(self.file("trades", *[trade(9)] * 30_000), "sales").out
         for words in ("", " --morsel 1000000"):
             ran = self.shell(f'{{ "$0" trades sales{words}; echo "status $?" >&2; }} | head -c 100')
-            self.assertEqual((ran.status, ran.out), (0, front))
+            self.assertEqual((ran.status, ran.out), (0, answer[:100]))
             self.assertRegex(ran.errors, rb"\Afault: writing failed after \d+ bytes\nstatus 5\n\Z")
+            # A file that may have no more than three blocks takes the first bytes, and the line says their number.
+            ran = self.shell(f'trap "" XFSZ; ulimit -f 3; exec "$0" trades sales{words} >part')
+            self.gives(ran, 5, "", WRITING.replace("0", "3072"))
+            self.assertEqual((self.folder / "part").read_bytes(), answer[:3072])

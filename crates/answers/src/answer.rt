@@ -1,3 +1,4 @@
+//! The answer to a query, as a value.
 use crate::text::Text;
 use outcomes::DayFault;
 use std::alloc::{Allocator, Global};

@@ -1,3 +1,4 @@
+//! Laws of answers: a file and a query have one, and a moment is decided by the messages that count.
 ghost use Rattle.std.specs.Prelude.{◌≡◌, ◌↔◌, ℕ, List, None, Result};
 ghost use Rattle.answers.specs.Answers.{HasCounted, IsAnswer, NoneIsPast};
 ghost use Rattle.day_rows.specs.Messages.{Placed};

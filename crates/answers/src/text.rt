@@ -1,3 +1,4 @@
+//! The text of an answer, in pieces.
 ghost use Rattle.std.specs.Prelude.{◌≡◌, ◌↔◌, ◌<◌, ◌≤◌, ◌^◌, IfOk, IfSome, IsErr, IsNone, length};
 ghost use Rattle.time_and_sales.specs.Ranges.{all_items};
 

@@ -1,3 +1,4 @@
+//! The texts of sales and of bars, from one list and from those of all partitions.
 ghost use Rattle.std.specs.Prelude.{◌≡◌, ◌<◌, ◌++◌, All, IfOk, List};
 ghost use Rattle.std.specs.List.Sorted.{IsPermutation};
 ghost use Rattle.lists.specs.declared.limits.TheConstants.{TIME_LIMIT};
@@ -56,7 +57,7 @@ pub fn text_of_bars<A: Allocator + Copy>(
 }
 
 /// The text of time and sales of all listings: a header line, then a line for each sale, by place.
-/// So many threads make it, or fewer, each a part for a range of places.
+/// At most `threads` threads make it, each a part for a range of places.
 pub fn text_of_listings<R: Threads + Sync>(
     rt: &R,
     alloc: Global,
@@ -77,7 +78,7 @@ pub fn text_of_listings<R: Threads + Sync>(
 }
 
 /// The text of the bars of all tables, those of one locate and start joined: a header line, then a line for each bar,
-/// by locate and then by start. So many threads make it, or fewer, each some parts for ranges of locates.
+/// by locate and then by start. At most `threads` threads make it, each some parts for ranges of locates.
 pub fn text_of_tables<R: Threads + Sync>(
     rt: &R,
     alloc: Global,

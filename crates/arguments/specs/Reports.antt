@@ -35,20 +35,20 @@ abbrev pub Reported : Device → Result (Unit {0}) RunFault → Type 0
 Reported errors (Ok done) = errors.after ≡ errors.before
 Reported errors (Err f) = Delivered errors (line_of f)
 
--- what is told of a fault: its line on the device for errors, and its status
+-- what is reported of a fault: its line on the device for errors, and its status
 abbrev pub Told : Device → ℕ → RunFault → Type 0
 Told errors status f = (status ≡ status_of f) × Delivered errors (line_of f)
 
 module _ (out errors : Device) (status : ℕ) where
   -- help or the version is delivered to the output, and the errors get nothing; if that fails, the output took the
-  -- text's first `written` bytes, perhaps none or all, and a failed write is told
+  -- text's first `written` bytes, perhaps none or all, and a failed write is reported
   pub record Helped (text : List ℕ) : Type 0 where
     pub whole : out.sink.has_failed out.after ≡ false → (status ≡ 0) × (errors.after ≡ errors.before)
         × out.sink.Took out.before out.after text × out.sink.HasFlushed out.after
     pub part : out.sink.has_failed out.after ≡ true → (written : ℕ) × (written ≤ length text)
         × out.sink.Took out.before out.after (take written text) × Told errors status (fault.WriteFailed written)
 
-  -- help and the version go to the output, and what is wrong goes to the errors; out of memory is told as the fault
+  -- help and the version go to the output, and what is wrong goes to the errors; out of memory is reported as the fault
   -- that it is; the output takes nothing else
   abbrev pub Explained : WordsFault → Type 0
   Explained (words.Help text) = Helped (string_bytes text)

@@ -1,3 +1,4 @@
+//! The words of the command line: options, defaults and help, and the job that they ask for.
 ghost use Rattle.std.specs.Prelude.{◌≡◌, ◌∷◌, false, IfErr, IfOk, List, [], map, pos, string_bytes};
 ghost use Rattle.std.specs.declared.io.ErrorKind.TheVariants.{OutOfMemory as RanOut};
 ghost use Rattle.clap.specs.Values.{kind_of};

@@ -65,8 +65,8 @@ pub record AreBarsOf (width : ℕ) (sales : List Sale) (table : List Bar) : Type
   pub rise : IsByKey table
   pub each : (key : Key) → found table key ≡ bar_of key (filter (has_key width key) sales)
 
--- what any bar of sales has: some volume, an average price of 32 bits, and no more volume than as many trades of 64
--- bits can have
+-- what any bar of sales has: some volume, an average price of 32 bits, and no more volume than that number of trades
+-- of 64 bits can have
 abbrev pub IsTraded : Bar → Type 0
 IsTraded bar = (0 < bar.volume) × (bar.notional ≤ bar.volume * (2 ^ 32 - 1)) × (bar.volume ≤ bar.trades * 2 ^ 64)
 

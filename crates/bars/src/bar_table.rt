@@ -103,7 +103,7 @@ impl<A: Allocator + Clone> BarTable<A> {
         BarTable::of_sorted(alloc, sales.as_slice(), width, count)
     }
 
-    /// The table of sales that are in order of the keys of their bars, in room for so many bars.
+    /// The table of sales that are in order of the keys of their bars, with the capacity `room`.
     #[tactic(auto, using(crate::proofs::JoinedTables::union_of_none))]
     pub(crate) fn of_sorted(
         alloc: A,

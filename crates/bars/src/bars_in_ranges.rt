@@ -26,7 +26,7 @@ use time_and_sales::{Names, numbers_of, texts_in_ranges, within};
 const LONG_RANGE: usize = 8_192;
 
 /// The lines of the bars of all tables, those of one locate and start joined, in pieces that are one text when they are
-/// put together. Each piece is of the bars in a range of locates. So many threads, or fewer, join and write them, each
+/// put together. Each piece is of the bars in a range of locates. At most `threads` threads join and write them, each
 /// an even share of the ranges, one after the other. It is refused if a thread was refused memory.
 pub fn lines_in_ranges<R: Threads + Sync>(
     rt: &R,
@@ -58,7 +58,7 @@ pub fn lines_in_ranges<R: Threads + Sync>(
     )
 }
 
-/// How many ranges there are best: one for each thread, or more, as many for each, if they would be long.
+/// How many ranges there are best: `threads`, or a multiple of that if they would be long.
 fn count_ranges(tables: &[&BucketBars], threads: u32) -> u32 {
     let mut count = 0usize;
     for table in tables {

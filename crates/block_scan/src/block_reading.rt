@@ -120,8 +120,8 @@ fn scan_frames<S: BlockSource>(
     Ok((place, Tail::More))
 }
 
-/// Reads at this place at most as many bytes as there is room for, and says how many those are. A
-/// byte past the limit is a refusal, and none after that is asked for.
+/// Reads at this place at most `most` bytes and the length of `into`, and gives how many came. A byte
+/// past the limit is a refusal, and none after that is asked for.
 fn read_some<S: BlockSource>(
     source: &S,
     limit: u64,

@@ -18,7 +18,7 @@ use std::alloc::Global;
 use std::sync::Arc;
 use streaming::SourceFault;
 
-/// The blocks of a source of at most `limit` bytes, in order: as many as the division has. In them
+/// The blocks of a source of at most `limit` bytes, in order, those of the division. In them
 /// is found what counts up to this moment, in seconds since midnight, in `parts` partitions.
 ///
 /// The byte at `limit` is asked for here, so a source that is too long is refused before a block is read.

@@ -35,6 +35,6 @@ module _ (job : Job) (out errors : Device) (status : ℕ) where
   abbrev pub DidBlocks : {S : Type 0} → BlockSourceOf S → Type 0
   DidBlocks {S} file = (job.morsel_given ≡ false) × (source : S) × Did (of_blocks file job.settings.limit source)
 
-  -- what is told of a file that could not be opened: a failed reading, and the output was left alone
+  -- what is reported of a file that could not be opened: a failed reading, and the output was left alone
   abbrev pub DidNotOpen : Type 0
   DidNotOpen = Told errors status fault.ReadFailed × (out.after ≡ out.before)

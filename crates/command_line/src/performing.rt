@@ -1,3 +1,4 @@
+//! Doing a job on devices: the answer to one, its fault to the other, and the status.
 ghost use Rattle.std.specs.Prelude.{◌≡◌, ◌==◌, false, MatchOption};
 ghost use Rattle.command_line.specs.Outcomes.{Did, DidNotOpen};
 ghost use Rattle.block_scan.specs.Blocks.{of_blocks};

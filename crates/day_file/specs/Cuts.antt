@@ -30,7 +30,7 @@ HasNoShorter target run = (n : ℕ) → n < length run → IsWhole (take n run) 
 abbrev pub but_last : List (List ℕ) → List (List ℕ)
 but_last runs = take (length runs - 1) runs
 
--- a cut, each run of which is the shortest that has at least as many bytes as the target, or the rest. At most one
+-- a cut, each run of which is the shortest that has at least `target` bytes, or the rest. At most one
 -- cut is that (`one_cut`), and each answer of `cut` says that the file is truncated, or has such a cut.
 pub record IsCutBy (target : ℕ) (runs : List (List ℕ)) (bytes : List ℕ) : Type 0 where
   pub cut : IsCutOf runs bytes

@@ -18,7 +18,7 @@ pub record CutterView : Type 0 where
 abbrev pub fed_length : CutterView → ℕ
 fed_length cutter = (length (concat cutter.cut) + cutter.past) + length cutter.rest
 
--- the shortest run that has at least as many bytes as the target
+-- the shortest run that has at least `target` bytes
 pub record IsFullRun (target : ℕ) (bytes : List ℕ) : Type 0 where
   pub run : IsRun bytes
   pub shortest : HasNoShorter target bytes
@@ -44,7 +44,7 @@ pub record IsCutting (cutter : CutterView) (whole : ℕ) : Type 0 where
   pub front : IsWhole (take whole cutter.rest)
   pub bound : fed_length cutter ≤ LONGEST_FILE
 
--- a run of so many bytes was taken off the head of the rest
+-- a run of `end` bytes was taken off the head of the rest
 pub record IsTaken (end : ℕ) (old new : CutterView) : Type 0 where
   pub fed : (fed : List ℕ) → HasFed old fed → HasFed new fed
   pub bytes : length (concat new.cut) + new.past ≡ (length (concat old.cut) + old.past) + end

@@ -1,3 +1,4 @@
+//! A frame, and the frames of bytes one by one.
 ghost use Rattle.std.specs.Prelude.{◌≡◌, ◌+◌, ◌≤◌, ◌<◌, ◌^◌, ◌++◌, ℕ, List, [], length, take, None, Some, MatchOption, MatchResult, OnOk, OnErr, vec_capacity, vec_len};
 ghost use Rattle.std.specs.Iterator.{item_count};
 ghost use Rattle.day_file.specs.Frames.{FramesLeft, IsTruncatedAt, IsWhole, PlacedBody, StandsFrom, frame_of, spelling};

@@ -1,3 +1,4 @@
+//! Bytes that are appended at the end and taken off the front.
 ghost use Rattle.std.specs.Prelude.{◌≡◌, ◌≤◌, ◌<◌, ◌+◌, ◌++◌, ◌∷◌, [], length, take, drop, OnErr, OnOk, vec_len};
 ghost use Rattle.std.specs.List.{concat};
 ghost use Rattle.lists.specs.declared.limits.TheConstants.{LONGEST_FILE, MOST_MORSELS};
@@ -65,7 +66,7 @@ impl Rest {
         self.bytes.extend_from_slice(piece)
     }
 
-    // Takes so many bytes off the front.
+    // Takes `count` bytes off the front.
     pub(crate) fn skip(&mut self, count: usize)
         requires { count ≤ length self.old }
         ensures { self.new ≡ drop count self.old }

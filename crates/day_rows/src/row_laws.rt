@@ -1,3 +1,4 @@
+//! Laws of rows: those of joined lists of messages are joined.
 ghost use Rattle.std.specs.Prelude.{◌≡◌, ℕ, List, Option, None, ◌++◌, map};
 ghost use Rattle.std.specs.List.{flat_map};
 ghost use Rattle.day_rows.specs.DayRows.{all_rows, joined, rows_of};

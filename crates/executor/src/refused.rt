@@ -1,3 +1,4 @@
+//! Why a step of an answer gave none.
 ghost use Rattle.std.specs.Prelude.{◌≡◌};
 ghost use Rattle.outcomes.specs.declared.day_fault.DayFault.TheVariants.{Truncated as AtPlace};
 ghost use Rattle.executor.specs.declared.refused.Refused.TheVariants.{Day, OutOfMemory as Memory};

@@ -132,8 +132,7 @@ impl<W: Work, A: Allocator> Gathering<W, A> {
         Ok(Filed::New)
     }
 
-    /// Covers from now on what either covers. The other is refused if its inputs are not as many as these and equal to
-    /// them, one by one.
+    /// Covers from now on what either covers. The other is refused if its inputs and these are not equal, one by one.
     pub fn merge(&mut self, other: Gathering<W, A>) -> Result<(), OtherInputs<W, A>>
         ensures other_inputs { IsErr result ↔ (same_inputs W.Input.eq self.old.inputs other.inputs ≡ false) }
         ensures handed_back { IfErr result (λ refused. refused.other ≡ other) }

@@ -60,7 +60,7 @@ impl<W: Work> Inputs<W> {
         &self.items[number as usize]
     }
 
-    /// Whether the others are as many and equal to these, one by one.
+    /// Whether these and the others are equal, one by one.
     #[tactic(auto, using(crate::proofs::EqualInputs::mapped))]
     pub(crate) fn same(&self, other: &Self) -> bool
         ensures { result ≡ same_inputs W.Input.eq self.now other.now }

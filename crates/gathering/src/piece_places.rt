@@ -5,7 +5,7 @@ ghost use Rattle.std.specs.Option.{option_or};
 use crate::OutOfMemory;
 use std::alloc::Allocator;
 
-/// As many places as asked, all empty.
+/// `count` places, all empty.
 pub(crate) fn empty_places<T: Drop, A: Allocator>(
     alloc: A,
     count: u32,

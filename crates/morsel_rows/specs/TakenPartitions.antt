@@ -18,6 +18,6 @@ module _ {Z : Type 0} where
   abbrev pub HasTaken : List (Option (Box PartitionView Z)) → ℕ → Type 0
   HasTaken taken number = (one : Box PartitionView Z) × (slice_index_or taken number None ≡ Some one)
 
-  -- the rows of so many partitions, of which some have taken memory
+  -- the rows of n partitions, of which some have taken memory
   abbrev pub partitions_seen : ℕ → List (Option (Box PartitionView Z)) → List PartitionView
   partitions_seen n taken = map (rows_taken_at taken) (numbers_below n)

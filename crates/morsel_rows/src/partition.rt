@@ -44,7 +44,7 @@ impl<A: Allocator + Copy> Partition<A> {
         }
     }
 
-    /// No rows, and room for `orders` order rows, and for as many trades as a day has with them: an execution to ten, a
+    /// No rows, with room for `orders` order rows and for the trades that a day has with them: an execution to ten, a
     /// trade with a price of its own to forty. It is taken at once, and refused if there is no memory for it.
     pub(crate) fn with_room(alloc: A, orders: usize) -> Result<Self, OutOfMemory>
         ensures { IfOk result (λ partition. partition ≡ no_rows_in) }

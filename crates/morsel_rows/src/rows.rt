@@ -277,7 +277,7 @@ fn put_empty<A: Allocator + Copy>(
     Ok(())
 }
 
-/// Makes a place for each of so many partitions.
+/// Makes a place for each of `parts` partitions.
 #[tactic(auto, using(crate::proofs::TakenRows::none_more))]
 fn lengthen<A: Allocator>(partitions: &mut Taken<A>, parts: usize) -> Result<(), OutOfMemory>
     ensures same { (number : ℕ) →

@@ -3,7 +3,7 @@
 use Rattle.std.specs.Prelude.{ℕ, ◌*◌, ◌/◌, ◌%◌, ◌^◌, ◌==◌, Bool, List, length, slice_index, bit_and, bit_or}
 use Rattle.order_list.specs.declared.bits.TheConstants.{SPREAD}
 
--- the product that a reference's word and bits are taken from, for so many words
+-- the product that a reference's word and bits are taken from, for a number of words
 abbrev pub product_of : ℕ → ℕ → ℕ
 product_of words order_no = order_no * SPREAD % 2 ^ 64 * words
 

@@ -26,7 +26,7 @@ impl Model for ReferenceBits {
 }
 
 impl ReferenceBits {
-    /// None, in so many words and one more. It is refused if there is no memory for them.
+    /// None, in `words` and one more. It is refused if there is no memory for them.
     pub(crate) fn new(alloc: Global, words: usize) -> Result<Self, OutOfMemory> {
         let words = vec![in alloc; 0u64; words.saturating_add(1)]?;
         Ok(ReferenceBits { words })

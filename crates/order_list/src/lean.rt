@@ -112,7 +112,7 @@ impl<A: Allocator> LeanRows<A> {
         }
     }
 
-    /// Takes room for so many rows more. It is refused if there is no memory for them.
+    /// Takes room for `rows` more. It is refused if there is no memory for them.
     pub(crate) fn reserve(&mut self, rows: usize) -> Result<(), OutOfMemory>
         ensures { self.new ≡ self.old }
     {

@@ -25,7 +25,7 @@ pub struct Spread {
 }
 
 impl Spread {
-    /// Of so many rows, between these two references.
+    /// Of `rows` between these two references.
     pub fn of(rows: usize, least: u64, greatest: u64) -> Self {
         let span = greatest.saturating_sub(least).max(1);
         let rows_each = (u128::from(rows as u64) << 64) / u128::from(span);

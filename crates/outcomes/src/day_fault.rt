@@ -1,3 +1,4 @@
+//! The faults of a day.
 use thiserror::Error;
 
 /// What is wrong with a day file. A place is the offset of a frame's length, in bytes from the file's start.

@@ -1,3 +1,4 @@
+//! The faults of a run, in the order in which they are reported.
 ghost use Rattle.std.specs.Prelude.{◌≡◌};
 ghost use Rattle.outcomes.specs.declared.run_fault.RunFault.{RunFault};
 

@@ -1,3 +1,4 @@
+//! The settings of a run: limit, crew, morsels and partitions.
 ghost use Rattle.std.specs.Prelude.{◌≡◌, ◌<◌, ◌≤◌};
 ghost use Rattle.lists.specs.declared.limits.TheConstants.{LARGEST_MORSEL, LONGEST_FILE};
 ghost use Rattle.lists.specs.declared.limits.TheConstants.{MOST_PARTITIONS};

@@ -76,7 +76,7 @@ impl<W: Work, K: Known<W::Input>> Work for ByNumber<W, K> {
     ghost Gives = { λ number output.
         (input : W.Input) × (slice_get K.inputs number ≡ Some input) × W.Gives input output };
 
-    // a total of as many inputs, from the first on
+    // a total of the first inputs, one for each number
     ghost IsTotalOf = { λ numbers total. W.IsTotalOf (take (length numbers) K.inputs) total };
 
     ghost IsAdmissible = { λ numbers. (numbers ≡ numbers_below (length K.inputs)) × W.IsAdmissible K.inputs };

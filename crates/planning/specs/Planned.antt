@@ -32,7 +32,7 @@ planned_bucket query morsels number = record {
   what = query.what;
 }
 
--- the buckets of so many partitions, in order
+-- the buckets of `parts` partitions, in order
 abbrev pub planned_buckets : Meaning → List MorselRowsView → ℕ → List BucketView
 planned_buckets query morsels parts = map (planned_bucket query morsels) (numbers_below parts)
 

@@ -35,7 +35,7 @@ impl<'a> Model for PlanLink<'a> {
 }
 
 impl<'a> PlanLink<'a> {
-    /// The link of a query to `parts` buckets: as many as the morsels' rows have partitions. Rows
+    /// The link of a query to `parts` buckets, one for each partition of the morsels' rows. Rows
     /// of a partition past the last bucket would be in none.
     pub fn new(query: &'a Query, parts: u32) -> Self
         requires { parts ≤ MOST_PARTITIONS }

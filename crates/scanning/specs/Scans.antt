@@ -111,7 +111,7 @@ inputs_from first start as_of parts runs =
 abbrev pub inputs_of : Option ℕ → ℕ → List (List ℕ) → List ScanInputView
 inputs_of as_of parts runs = inputs_from 0 0 as_of parts runs
 
--- the runs of a cut, where so many bytes stand before them: whole frames, bytes, no more than a file may have
+-- the runs of a cut, where `start` bytes stand before them: whole frames, bytes, no more than a file may have
 pub record AreRuns (start : ℕ) (runs : List (List ℕ)) : Type 0 where
   pub each : All IsRun runs
   pub bytes : All AreBytes runs

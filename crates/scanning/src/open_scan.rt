@@ -44,9 +44,9 @@ impl Model for OpenScan {
 }
 
 impl OpenScan {
-    /// The scan of no frames, whose rows will stand in so many partitions. `bytes` is how many bytes the
-    /// frames are expected to have, and only tells for how many order rows room is taken at once: about as
-    /// many as so many bytes of a day give, and no more than 32 MiB do.
+    /// The scan of no frames, whose rows will stand in `parts` partitions. `bytes` is the expected length of
+    /// the frames, and only gives the capacity for order rows that is taken at once: about those of a day of
+    /// that length, and no more than of 32 MiB.
     pub fn new(alloc: Global, parts: u32, bytes: u64) -> Result<Self, OutOfMemory>
         requires { (0 < parts) × (parts ≤ MOST_PARTITIONS) }
         ensures { IfOk result (λ scan. (as_of : Option ℕ) → scan ≡ scan_of parts as_of []) }
@@ -58,8 +58,8 @@ impl OpenScan {
         })
     }
 
-    /// Takes in the frames up to the first that has so many bytes or more before it, and says how many
-    /// bytes those have that were taken in. If there is no memory for a row, those before its frame were.
+    /// Takes in the frames up to the first that has `bytes` bytes or more before it, and gives the length of
+    /// those that were taken in. If there is no memory for a row, those before its frame were.
     ///
     /// Nearly half of a day's messages aren't read at all, in no order that a processor could foresee. So
     /// the frames that are read are picked first, without a branch, and then taken in.
@@ -94,7 +94,7 @@ impl OpenScan {
         Ok(walked)
     }
 
-    /// Takes in so many of the frames that were picked, if there is no room for one more, and says how many are left.
+    /// Takes in the frames that were picked, if there is no room for one more, and gives the number that is left.
     #[inline(always)]
     fn make_room(
         &mut self,
@@ -195,7 +195,7 @@ impl OpenScan {
     }
 }
 
-/// For how many order rows each of so many partitions takes room at once: about as many as so many bytes of a day give.
+/// The capacity for order rows that each of `parts` partitions takes at once: about those of `bytes` of a day.
 fn orders_of(bytes: u64, parts: u32) -> u64
     requires { 0 < parts }
     ensures all { result * parts * BYTES_AN_ORDER ≤ bytes }

@@ -1,3 +1,4 @@
+//! The source over any reader of std.
 ghost use Rattle.std.specs.Prelude.{◌≡◌, false};
 
 use crate::{DeviceFailed, Source};

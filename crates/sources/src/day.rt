@@ -1,3 +1,4 @@
+//! A day file in memory.
 ghost use Rattle.std.specs.Prelude.{◌≡◌, ◌≤◌, length, vec_len};
 
 use crate::LONGEST_FILE;

@@ -1,3 +1,4 @@
+//! Reading a whole day file from a source.
 ghost use Rattle.std.specs.Prelude.{◌≡◌, ◌≤◌, ◌<◌, ◌+◌, ◌^◌, ◌++◌, ℕ, List, Err, length, false, IfErr, IfOk, OnOk, vec_len};
 ghost use Rattle.sources.specs.Given.{GaveSome, IsDayRead};
 

@@ -62,7 +62,7 @@ module _ {S : Type 0} (stream : SourceOf S) where
     pub start : batch.start ≡ old.start
     pub longer : batch.is_last ≡ false → (read_length old < read_length new) × (read_length new ≤ new.limit)
 
--- what a refusal at the end says of the bytes that are left, after so many morsels and bytes
+-- what a refusal at the end says of the bytes that are left, behind `first` morsels of `start` bytes
 abbrev pub IsLastFault : ℕ → ℕ → ℕ → List ℕ → SourceFault → Type 0
 IsLastFault first start target fed (fault.Truncated place) = (k : ℕ) × IsTruncatedAt fed k × (place ≡ start + k)
 IsLastFault first start target fed fault.TooManyMorsels =

@@ -1,3 +1,4 @@
+//! Reading a source in batches of morsels.
 ghost use Rattle.std.specs.Prelude.{◌≡◌, ◌≤◌, ◌<◌, ◌+◌, ◌++◌, ◌↔◌, ℕ, List, [], length, true, false, vec_len};
 ghost use Rattle.std.specs.Prelude.{IfErr, IfOk, IfSome, IsErrOf, IsNone, OnErr, OnOk};
 ghost use Rattle.std.specs.List.{concat};
@@ -197,7 +198,7 @@ fn feed_next<S: Source>(
     Ok(taken)
 }
 
-// The rest, once the source is at its end: what is left in the cutter, after so many morsels and bytes.
+// The rest, once the source is at its end: what is left in the cutter, behind `first` morsels of `start` bytes.
 fn last_batch(cutter: Cutter, first: u32, start: u64) -> Result<Batch, SourceFault>
     requires few { first ≤ MOST_MORSELS }
     requires within { (fed : List ℕ) × HasFed cutter fed × (start + length fed ≤ LONGEST_FILE) }

@@ -1,3 +1,4 @@
+//! Why a source gives no day.
 ghost use Rattle.std.specs.Prelude.{◌≡◌};
 ghost use Rattle.streaming.specs.declared.fault.SourceFault.{SourceFault};
 

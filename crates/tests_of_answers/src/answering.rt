@@ -46,7 +46,7 @@ pub const TWO: Crew = Crew {
 pub enum Way {
     /// Morsels of a cut, one for each frame.
     Morsels,
-    /// Blocks of 34 bytes of a source that is read at places, as many as there are frames.
+    /// Blocks of 34 bytes of a source that is read at places, one for each frame.
     Blocks,
 }
 
@@ -85,7 +85,7 @@ pub fn day_of(alloc: Global, forms: &[Form]) -> Result<DayFile, Fail> {
     file_of(Day::of(alloc, forms)?.bytes)
 }
 
-/// The answer to a query over these frames, with so many partitions.
+/// The answer to a query over these frames, with `parts` partitions.
 pub fn answer_of_day<G: Gate, R: Threads + Wait + Sync>(
     rt: &R,
     alloc: Global,
@@ -115,7 +115,7 @@ pub fn answer_of_day<G: Gate, R: Threads + Wait + Sync>(
     }
 }
 
-/// Whether the answer to a query over these frames, with so many partitions, is this text.
+/// Whether the answer to a query over these frames, with `parts` partitions, is this text.
 pub fn is_answered_by<G: Gate, R: Threads + Wait + Sync>(
     rt: &R,
     alloc: Global,

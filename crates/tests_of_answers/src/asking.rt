@@ -31,7 +31,7 @@ pub fn settings(limit: u64) -> Settings
     settings_of(2, 1, limit)
 }
 
-/// Settings with so many workers, at least 1 and at most 64, with the least size of a morsel, and
+/// Settings with `workers` workers, at least 1 and at most 64, with the least size of a morsel, and
 /// with this limit, both in bytes.
 pub fn settings_of(workers: u32, morsel: u16, limit: u64) -> Settings
     requires { limit ≤ LONGEST_FILE }

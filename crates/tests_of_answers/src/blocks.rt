@@ -14,7 +14,7 @@ use std::thread::Threads;
 use tests_support::{BROKEN_EARLIER, Day, Form, UNNAMED, UNNAMED_TEXT, in_memory};
 use tests_works::hold;
 
-/// What `run_blocks` gives with so many workers, and whether it wrote this text, or nothing if there is a fault.
+/// What `run_blocks` gives with `workers` workers, and whether it wrote this text, or nothing if there is a fault.
 fn told_by_blocks<R: Threads + Wait + Sync, S: BlockSource + Send + Sync>(
     rt: &R,
     alloc: Global,
@@ -199,7 +199,7 @@ fn long_day(alloc: Global) -> Result<Vec<u8>, OutOfMemory> {
 /// A query that no trade of the day answers.
 const NONE: &str = "sales where symbol in NONE";
 
-/// Whether so many workers tell by the blocks of a long day that no trade answers that query.
+/// Whether `workers` workers tell by the blocks of a long day that no trade answers that query.
 fn is_told_by_meeting<R: Threads + Wait + Sync>(
     rt: &R,
     alloc: Global,
@@ -222,7 +222,7 @@ fn two_threads_read_at_once(rt: HostRuntime) -> Result<(), Fail> {
 }
 
 /// One worker is given no block twice. A guess looks at 4,096 bytes of the second block, and for the last frame of
-/// the first one as many are read behind its target.
+/// the first one the same number is read behind its target.
 #[test]
 fn no_byte_is_read_twice_but_for_guesses(rt: HostRuntime) -> Result<(), Fail> {
     let bytes = long_day(rt.alloc())?;

@@ -73,7 +73,7 @@ impl Sink for Narrow {
     }
 }
 
-/// A writer that takes so many bytes a call, or fails, and whose flush fails.
+/// A writer that takes at most `takes` bytes a call, or fails, and whose flush fails.
 #[derive(Drop)]
 pub struct Stuck {
     pub takes: Option<usize>,

@@ -19,7 +19,7 @@ pub struct Shape {
     pub gatherers: u32,
 }
 
-/// So many partitions, and two gatherers.
+/// `parts` partitions, and two gatherers.
 pub fn by_two(parts: u32) -> Shape {
     Shape {
         parts,

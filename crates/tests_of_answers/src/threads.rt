@@ -155,7 +155,7 @@ fn each_worker_makes_its_share_of_the_text(rt: HostRuntime) -> Result<(), Fail> 
     Ok(())
 }
 
-/// Whether an answer is a text of so many pieces, none of which has more lines than `most`.
+/// Whether an answer is a text of `count` pieces, none of which has more lines than `most`.
 fn is_shared_out(answer: &Answer, count: usize, most: usize) -> bool {
     match answer {
         Answer::Printed(text) => {

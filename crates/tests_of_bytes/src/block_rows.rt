@@ -21,7 +21,7 @@ const ROWS: [Form; 8] = [
     Form::Q(100, 4_107_000, 13),
 ];
 
-/// The bytes of a day that has these frames so many times.
+/// The bytes of a day that has these frames `times` times.
 fn day_of(alloc: Global, forms: &[Form], times: u32) -> Result<Vec<u8>, OutOfMemory> {
     let once = Day::of(alloc, forms)?.bytes;
     let mut bytes = Vec::new(alloc);

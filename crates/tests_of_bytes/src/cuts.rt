@@ -173,7 +173,7 @@ fn count_of(found: Starts) -> Result<usize, CutFault> {
     }
 }
 
-/// How many morsels a file of so many zeros is cut into by `cut`, and by a `Cutter`.
+/// How many morsels a file of `length` zeros is cut into by `cut`, and by a `Cutter`.
 fn counts_of_zeros(
     alloc: Global,
     length: usize,

@@ -5,7 +5,7 @@ use std::alloc::Allocator;
 use std::test::Fail;
 use tests_support::{Day, NAMED, file_of};
 
-/// The bytes from one place until another, and none if there are not so many.
+/// The bytes from one place until another, and none if it has fewer.
 fn cut(bytes: &[u8], from: usize, until: usize) -> &[u8] {
     bytes.get(from..until).unwrap_or(&[])
 }

@@ -96,14 +96,14 @@ pub fn digest_of_total(alloc: Global, total: ScanTotal) -> Result<Digest, OutOfM
     digest_of(alloc, &total.into_rows(), wrong)
 }
 
-/// So many blocks, by which a source of this length would be divided evenly.
+/// `blocks` blocks, by which a source of this length would be divided evenly.
 pub fn division_of(blocks: u32, length: u64) -> Division {
     let blocks = blocks.clamp(1, 64);
     let bytes = (length / u64::from(blocks)).min(LONGEST_FILE - 1) + 1;
     Division { bytes, blocks }
 }
 
-/// What the blocks of a source give, with as many workers as there are blocks.
+/// What the blocks of a source give, with a worker for each.
 pub fn told_by_blocks<R: Threads + Wait + Sync, S: BlockSource + Send + Sync>(
     rt: &R,
     alloc: Global,

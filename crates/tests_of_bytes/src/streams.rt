@@ -42,7 +42,7 @@ fn read_whole<S: Source>(
 /// Whether the source failed, how often its reader was called, and how many bytes that kept.
 type Told = (bool, u32, usize);
 
-/// What a reader of these bytes gives that gives so many of them a call, where at most so many are wanted: the cut by
+/// What a reader of these bytes gives that gives `step` of them a call, where at most `limit` are wanted: the cut by
 /// this target, or the fault, and what is told of the reader.
 fn read_by(
     alloc: Global,
@@ -75,7 +75,7 @@ fn what_is_read_by_few_bytes_a_call_is_cut_alike(rt: HostRuntime) -> Result<(), 
     Ok(())
 }
 
-/// How many morsels are read by so many bytes a call, or the fault.
+/// How many morsels are read by `step` bytes a call, or the fault.
 fn count_by(alloc: Global, bytes: &[u8], step: usize, target: u64) -> Result<usize, SourceFault> {
     let (read, _) = read_by(alloc, bytes, step, LONGEST_FILE, target);
     Ok(read?.count() as usize)

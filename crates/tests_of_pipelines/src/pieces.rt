@@ -137,7 +137,7 @@ fn gatherings_that_overlap_add_each_task_once(rt: HostRuntime) -> Result<(), Fai
 }
 
 /// Whether twelve pieces are added where a gathering of other tasks is merged into one of these, whose pieces below
-/// the first gap are so many: the longer prefix stays, and the total adds none again.
+/// the first gap are `own`: the longer prefix stays, and the total adds none again.
 fn adds_once(
     alloc: Global,
     own: &[u32],

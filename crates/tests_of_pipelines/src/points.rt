@@ -20,7 +20,7 @@ const TASKS: [(u8, u32); 5] = [(1, 0), (1, 1), (1, 2), (2, 0), (2, 1)];
 /// The sums of 1 and 2, and of 1, 2 and 4.
 const RIGHT: Option<(u128, u128)> = Some((3, 7));
 
-/// What a crew gives under this gate, while memory is refused to so many runs of one task.
+/// What a crew gives under this gate, while memory is refused to some runs of one task.
 fn sums<R: Threads + Wait + Sync>(
     rt: &R,
     alloc: Global,

@@ -19,7 +19,7 @@ type Sums = (u128, u128);
 /// The sums of 1 and 2, and of 1, 2 and 4.
 const RIGHT: Option<Sums> = Some((3, 7));
 
-/// What so many workers give.
+/// What this crew gives.
 fn run<R: Threads + Wait + Sync>(
     rt: &R,
     alloc: Global,

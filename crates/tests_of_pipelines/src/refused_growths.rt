@@ -115,7 +115,7 @@ fn is_done_on_full_heaps<'a>(
     Ok(have_total_on(heap, second, gathering, other) && are_full && are_filed && stay_full)
 }
 
-/// Whether a heap of so many bytes has room for a gathering, and how many bytes it keeps once that is gone.
+/// Whether a heap of `size` bytes has room for a gathering, and how many bytes it keeps once that is gone.
 fn room_in(
     alloc: Global,
     inputs: &Arc<Inputs<Sum>, Global>,
@@ -142,7 +142,7 @@ fn least_heap<R: Abort>(
     Ok(None)
 }
 
-/// Whether all comes as it should on two heaps of so many bytes, which are used again.
+/// Whether all comes as it should on two heaps of `size` bytes, which are used again.
 fn is_done_twice(
     alloc: Global,
     inputs: &Arc<Inputs<Sum>, Global>,

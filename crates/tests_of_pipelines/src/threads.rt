@@ -155,7 +155,7 @@ impl Ledger {
         self.tasks(pipeline, round) == wanted
     }
 
-    /// Whether it heard nothing wrong, and of so many runs in all, of which so many were made when the pipelines were
+    /// Whether it heard nothing wrong, and of `all` runs in all, of which `when_done` were made when the pipelines were
     /// done, each so often.
     pub(crate) fn has_all(&self, all: u64, when_done: [u64; 2], done: [u64; 2]) -> bool {
         !self.is_wrong.load(Ordering::SeqCst)

@@ -11,7 +11,7 @@ use std::test::Fail;
 use std::thread::Threads;
 use time_and_sales::{DirectoryRow, Names};
 
-/// A sale of five shares at half past nine and so many seconds.
+/// A sale of five shares at half past nine and `seconds`.
 pub(crate) fn sale(place: u64, locate: u16, seconds: u8, price: u32) -> Sale
     ensures place { result.place ≡ place }
     ensures shares { result.shares ≡ 5 }
@@ -136,7 +136,7 @@ fn lines_of_one_table(alloc: Global) -> Result<Vec<u8>, OutOfMemory> {
     lines(alloc, &all, &names(alloc)?)
 }
 
-/// The lines of the bars that threads make by so many ranges, and in how many pieces.
+/// The lines of the bars that threads make by `ranges` ranges, and in how many pieces.
 fn lines_by_ranges(
     rt: &(impl Threads + Sync),
     alloc: Global,

@@ -65,7 +65,7 @@ fn united_in<A: Allocator + Copy>(alloc: A, more: &Breaks) -> Option<(bool, bool
     Some((is_united, breaks.items() == want))
 }
 
-/// What comes of more breaks in a heap of so many bytes.
+/// What comes of more breaks in a heap of `bytes` bytes.
 fn united_within(
     alloc: Global,
     bytes: usize,

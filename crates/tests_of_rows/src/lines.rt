@@ -1,3 +1,4 @@
+//! Prices, times and lines of sales: their texts, whole or not at all.
 use linked_list_allocator::LocalHeap;
 use probe::{Kind, Sale};
 use std::test::Fail;

@@ -1,3 +1,4 @@
+//! Listings are merged by place, or refused and as they were.
 ghost use Rattle.std.specs.Prelude.{◌≡◌, ◌++◌, IfOk};
 ghost use Rattle.time_and_sales.specs.Lent.{AreApart, all_sales};
 

@@ -1,3 +1,4 @@
+//! Names of locates, by the last directory row.
 use linked_list_allocator::LocalHeap;
 use std::alloc::Allocator;
 use std::test::Fail;

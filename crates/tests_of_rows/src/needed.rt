@@ -36,7 +36,7 @@ impl Shape {
     }
 }
 
-/// A filter with room for so many orders and a tenth as many executions, an execution of every tenth of a thousand
+/// A filter with this room for orders and a tenth of it for executions, an execution of every tenth of a thousand
 /// references, and an order of each.
 fn filter_of(alloc: Global, room: usize, shape: Shape) -> Result<OrderFilter, OutOfMemory> {
     let mut filter = OrderFilter::new(alloc, room, room / 10)?;

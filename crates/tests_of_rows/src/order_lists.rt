@@ -175,7 +175,7 @@ fn taken<A: Allocator + Copy>(
     }
 }
 
-/// How many of these rows a list takes in a heap of so many bytes.
+/// How many of these rows a list takes in a heap of `bytes` bytes.
 fn taken_within(
     alloc: Global,
     bytes: usize,
@@ -204,7 +204,7 @@ fn a_row_that_is_refused_leaves_the_list(rt: HostRuntime) -> Result<(), Fail> {
     Ok(())
 }
 
-/// How many bytes of the heap a list of a hundred rows takes with no row, with so many lean ones, with a wide one more,
+/// How many bytes of the heap a list of a hundred rows takes with no row, with `lean` lean ones, with a wide one more,
 /// and with all rows.
 fn used_by_rows(heap: &LocalHeap, lean: u64) -> Result<[usize; 4], OutOfMemory> {
     let mut list = OrderList::with_room(heap, 100)?;

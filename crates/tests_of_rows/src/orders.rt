@@ -116,7 +116,7 @@ fn has_room_for_all(alloc: Global, heap: &LocalHeap) -> Result<Option<bool>, Fai
     }
 }
 
-/// The same in so many bytes.
+/// The same in `bytes` bytes.
 fn is_room_for_all(alloc: Global, bytes: usize) -> Result<Option<bool>, Fail> {
     let heap = LocalHeap::new(alloc, bytes)?;
     has_room_for_all(alloc, &heap)

@@ -17,7 +17,7 @@ fn takes_nine(heap: &LocalHeap) -> Option<bool> {
     Some(are_pushed && is_taken_at_once && list.len() == 9)
 }
 
-/// The same in so many bytes.
+/// The same in `bytes` bytes.
 fn takes_nine_within(alloc: Global, bytes: usize) -> Result<Option<bool>, AllocError> {
     let heap = LocalHeap::new(alloc, bytes)?;
     Ok(takes_nine(&heap))
@@ -64,7 +64,7 @@ fn used_by_three(heap: &LocalHeap) -> Option<usize> {
     }
 }
 
-/// How many bytes three partitions of 24 rows take of so many, if there is room for them; if there isn't, how
+/// How many bytes three partitions of 24 rows take of `bytes`, if there is room for them; if there isn't, how
 /// many are taken all the same.
 fn taken_by_three(alloc: Global, bytes: usize) -> Result<Result<usize, usize>, AllocError> {
     let heap = LocalHeap::new(alloc, bytes)?;
@@ -88,7 +88,7 @@ fn each_partition_takes_its_room_or_all_are_refused(rt: HostRuntime) -> Result<(
     Ok(())
 }
 
-/// Each partition takes room for as many order rows as are asked for, and for trades, and gives back what no row took.
+/// Each partition takes the room for order rows that is asked for, and for trades, and gives back what no row took.
 #[test]
 fn room_is_taken_for_so_many_rows_and_given_back(rt: HostRuntime) -> Result<(), Fail> {
     let (with_few, without) = taken_and_left(rt.alloc(), 16, 0)?;
@@ -103,7 +103,7 @@ fn room_is_taken_for_so_many_rows_and_given_back(rt: HostRuntime) -> Result<(), 
     Ok(())
 }
 
-/// Whether three partitions with room for so many rows take no memory of the heap, which nothing else takes.
+/// Whether three partitions with room for `count` rows take no memory of the heap, which nothing else takes.
 fn take_none(heap: &LocalHeap, count: usize) -> Result<bool, AllocError> {
     let rows = MorselRows::new(heap, 3, count)?;
     Ok(heap.used() == 0 && are_three_without_orders(&rows))
@@ -141,7 +141,7 @@ fn executions_in<A: Allocator>(rows: &MorselRows<A>, number: u32) -> Option<usiz
     }
 }
 
-/// Adds so many executions of the reference 5, then gives back the room that no row takes.
+/// Adds executions of the reference 5, then gives back the room that no row takes.
 fn add_and_shrink<A: Allocator + Copy>(
     rows: &mut MorselRows<A>,
     executions: u64,
@@ -153,8 +153,8 @@ fn add_and_shrink<A: Allocator + Copy>(
     Ok(())
 }
 
-/// How many bytes of the heap three partitions take with room for so many rows, and how many once they gave back what
-/// so many executions of the last didn't take.
+/// How many bytes of the heap three partitions take with this room for rows, and how many once they gave back what
+/// the executions of the last didn't take.
 fn used_and_left(
     heap: &LocalHeap,
     room: usize,

@@ -26,7 +26,7 @@ pub(crate) fn list_of(alloc: Global, rows: &[(u64, u64)]) -> Result<OrderList, O
     Ok(list)
 }
 
-/// Pushes so many rows: the first of this reference and place, each further one by the steps behind the one before.
+/// Pushes `count` rows: the first of this reference and place, each further one by the steps behind the one before.
 pub(crate) fn push_each<A: Allocator + Copy>(
     list: &mut OrderList<A>,
     count: u64,

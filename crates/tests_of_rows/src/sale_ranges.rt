@@ -77,7 +77,7 @@ fn lines(alloc: Global, listing: &Listing, names: &Names) -> Result<Vec<u8>, Out
     Ok(text)
 }
 
-/// The lines of the sales that threads make by so many ranges, and in how many pieces.
+/// The lines of the sales that threads make by `ranges` ranges, and in how many pieces.
 fn lines_by_ranges(
     rt: &(impl Threads + Sync),
     alloc: Global,

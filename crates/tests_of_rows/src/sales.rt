@@ -31,7 +31,7 @@ fn priced_in<A: Allocator>(alloc: A, table: &OrderTable) -> Option<bool> {
     }
 }
 
-/// The same in so many bytes.
+/// The same in `bytes` bytes.
 fn priced_within(
     alloc: Global,
     bytes: usize,
@@ -101,7 +101,7 @@ fn priced_twice_in<A: Allocator>(alloc: A, table: &OrderTable) -> Option<(bool, 
     Some((is_priced, is_right))
 }
 
-/// The same in so many bytes.
+/// The same in `bytes` bytes.
 fn priced_twice_within(
     alloc: Global,
     bytes: usize,

@@ -12,7 +12,7 @@ pub struct Counter {
     others: AtomicU64,
 }
 
-/// A count for each of so many tasks.
+/// A count for each of `tasks` tasks.
 fn counts(alloc: Global, tasks: u32) -> Result<Vec<AtomicU64>, OutOfMemory> {
     let mut counts = Vec::new(alloc);
     for _ in 0..tasks {
@@ -27,7 +27,7 @@ fn are_ones(counts: &[AtomicU64]) -> bool {
 }
 
 impl Counter {
-    /// The gate of two pipelines with so many tasks.
+    /// The gate of two pipelines with `first` and `second` tasks.
     pub fn new(alloc: Global, first: u32, second: u32) -> Result<Self, OutOfMemory> {
         Ok(Counter {
             first: counts(alloc, first)?,

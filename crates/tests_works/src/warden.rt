@@ -18,7 +18,7 @@ pub enum Heard {
     Done(u8),
 }
 
-/// The run of a task in a round is held until something is heard, for so many turns at most.
+/// The run of a task in a round is held until something is heard, for a number of turns at most.
 #[derive(Clone, Copy, Debug)]
 pub struct Hold {
     pub pipeline: u8,

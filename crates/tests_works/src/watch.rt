@@ -13,7 +13,7 @@ pub fn hold(flag: &AtomicBool, gave_up: &AtomicBool) {
     hold_for(1_000_000, flag, gave_up);
 }
 
-/// Does as `hold` does, but gives up after so many turns.
+/// Does as `hold` does, but gives up after `turns`.
 pub fn hold_for(turns: u32, flag: &AtomicBool, gave_up: &AtomicBool) {
     for _ in 0..turns {
         if flag.load(Ordering::SeqCst) {
@@ -86,7 +86,7 @@ impl Watch {
         Watch::made(alloc, growths, (0, 0), false)
     }
 
-    /// It refuses so many runs, the first ones, of the input with this number.
+    /// It refuses the first `runs` runs of the input with this number.
     pub fn refusing_runs(
         alloc: Global,
         number: u64,

@@ -11,7 +11,7 @@ use crate::texts::write_sale;
 use row_types::Sale;
 use std::alloc::Global;
 
-/// The names of the locates up to the greatest that has a row, by locate, but of so many at most.
+/// The names of the locates up to the greatest that has a row, by locate, but of `most` at most.
 pub(crate) fn made_names(
     alloc: Global,
     names: &Names,

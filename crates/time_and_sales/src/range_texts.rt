@@ -11,7 +11,7 @@ use std::thread::Threads;
 
 /// The text of items in order of a number, in pieces that are one text when they are put together. A range of numbers
 /// begins at 0, and one at each of `numbers`, or at a greater one before it. `text` makes the lines of each range: it
-/// is given the bounds of that range and of those behind it. So many threads, or fewer if they can't be made, make the
+/// is given the bounds of that range and of those behind it. `threads` threads, or fewer if they can't be made, make the
 /// ranges, each an even share of them, one after the other. It is refused if a call is, or if there is no memory.
 pub fn texts_in_ranges<T, R: Threads + Sync, F: Fn(&[u64]) -> Result<Vec<u8>, OutOfMemory> + Sync>(
     rt: &R,
@@ -31,7 +31,7 @@ pub fn texts_in_ranges<T, R: Threads + Sync, F: Fn(&[u64]) -> Result<Vec<u8>, Ou
     texts_on_threads(rt, alloc, bounds.as_slice(), count, threads, text)
 }
 
-/// The texts of the first ranges, which so many threads make, or fewer.
+/// The texts of the first `count` ranges, which at most `threads` threads make.
 #[cycle(halves)]
 fn texts_on_threads<R: Threads + Sync, F: Fn(&[u64]) -> Result<Vec<u8>, OutOfMemory> + Sync>(
     rt: &R,

@@ -29,7 +29,7 @@ use std::thread::Threads;
 const USUAL_LINE: usize = 48;
 
 /// The lines of the sales of all listings, by place, in pieces that are one text when they are put
-/// together. There are as many pieces as `threads`, or fewer: each is of the sales in a range of
+/// together. There are at most `threads` pieces: each is of the sales in a range of
 /// places, which a thread of its own merges and writes. It is refused if a thread was refused memory.
 pub fn lines_in_ranges<R: Threads + Sync>(
     rt: &R,

@@ -18,7 +18,7 @@ const LOOKS_AT_A_MARK: u32 = 1 << 10;
 /// Claims until no task is left, and runs each task that is not marked yet: it calls the gate,
 /// makes the task's piece, sends it, and marks the task once the port took it.
 ///
-/// It answers how many pieces were refused, by memory or by the port: after so many of its claims
+/// It answers how many pieces were refused, by memory or by the port: of that many of its claims
 /// the task was left unmarked. It waits for what the gate and the port wait for.
 pub fn work<W: Work, P: Port<Piece<W>>, G: Gate>(
     alloc: Global,

@@ -1,3 +1,4 @@
+//! `answer`: a query over a day that is cut already.
 ghost use Rattle.std.specs.Prelude.{◌≡◌, ℕ, List, ◌<◌, ◌≤◌, Err, IfOk};
 ghost use Rattle.std.specs.List.{concat};
 ghost use Rattle.lists.specs.declared.limits.TheConstants.{MOST_PARTITIONS};
@@ -41,7 +42,7 @@ pub fn answer<G: Gate, R: Threads + Wait + Sync>(
     answer_of_outcome(rt, alloc, query, outcome, Some(crew))
 }
 
-/// The answer that the outcome of both pipelines gives. As many threads as the crew has workers make its text.
+/// The answer that the outcome of both pipelines gives. Its text is made by a thread for each worker of the crew.
 /// Meanwhile another one frees what the scans found, or the caller does first if none can be made. Without a crew the
 /// caller's thread does all of it.
 pub(crate) fn answer_of_outcome<R: Threads + Sync>(

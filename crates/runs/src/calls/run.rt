@@ -1,3 +1,4 @@
+//! `run`: a query over a source, to a sink.
 ghost use Rattle.std.specs.Prelude.{◌≡◌, false};
 ghost use Rattle.streaming.specs.Readings.{of_stream};
 ghost use Rattle.runs.specs.Runs.{IsAnsweredOrRefused, Ran, is_read_failed, is_write_failed};

@@ -1,3 +1,4 @@
+//! `run_blocks` and `answer_blocks`: a query over a source that is read at places.
 ghost use Rattle.std.specs.Prelude.{◌≡◌, ℕ, List, false, IfErr, IfOk};
 ghost use Rattle.std.specs.Arc.{arc_value};
 ghost use Rattle.std.specs.List.{concat};

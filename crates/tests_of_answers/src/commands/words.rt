@@ -16,7 +16,7 @@ fn job_of(alloc: Global, words: &[&str]) -> Result<Job, Fail> {
     }
 }
 
-/// Whether a job asks for the sales of the file `day`, with so many workers, partitions and gatherers.
+/// Whether a job asks for the sales of the file `day`, with these numbers of workers, partitions and gatherers.
 fn is_for_sales(job: &Job, workers: u32, parts: u32, gatherers: u32) -> bool {
     let crew = job.settings.crew;
     job.file.as_str() == "day"
@@ -26,7 +26,7 @@ fn is_for_sales(job: &Job, workers: u32, parts: u32, gatherers: u32) -> bool {
         && job.settings.parts == parts
 }
 
-/// Whether a job has morsels of so many bytes, and whether its words say so.
+/// Whether a job has morsels of `morsel` bytes, and whether its words say so.
 fn has_morsel(job: &Job, morsel: u64, is_given: bool) -> bool {
     job.settings.morsel == morsel && job.morsel_given == is_given
 }
