@@ -4,3 +4,4 @@ pub mod MomentLaws
 pub mod OneAnswer
 pub mod SelectedSales
 mod WrittenLines
+pub mod Computed

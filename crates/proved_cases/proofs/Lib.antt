@@ -1,0 +1,4 @@
+pub mod Days
+mod Messages
+mod Places
+pub mod Told
