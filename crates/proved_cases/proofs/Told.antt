@@ -1,8 +1,8 @@
 -- What is told of a query's text over a day: a text, or a fault's line. Where both are written out, computing shows it.
-use Rattle.std.proofs.Common.{◌≡◌, ℕ, Bool, true, false, nat_lt, List, Option, Some, None, Result, Ok, Err, refl, ap, sym, ◌∙◌, ⊤}
+use Rattle.std.proofs.Common.{◌≡◌, ℕ, Bool, true, false, nat_lt, List, Option, Some, None, Result, Ok, Err, refl, ap, sym, ◌∙◌}
 use Rattle.std.specs.List.{list_all}
-use Rattle.std.specs.Prelude.{if◌then◌else◌}
-use Rattle.core.specs.Fmt.{digits as decimal_digits}
+use Rattle.std.specs.Prelude.{⊤, if◌then◌else◌}
+use Rattle.std.specs.Fmt.{digits as decimal_digits}
 use Rattle.query.specs.Faults.{QueryFault, query, read_from, step}
 use Rattle.query.specs.Grammar.{Means}
 use Rattle.query.specs.Values.{clock_of, count_of, kinds_of, pair_at, symbols_of, time_of, unit_of}
