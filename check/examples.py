@@ -22,8 +22,8 @@ PARTS = {
 IMPORTS = [
     ("Rattle.std.proofs.Common", "◌≡◌ [] ◌++◌ refl"),
     ("Rattle.std.specs.Prelude", "codes"),
-    ("Rattle.proved_cases.proofs.Days", "at attributed broken cross executed executed_at hex named number order price printable reference "
-     "replaced shares stock trade volume"),
+    ("Rattle.proved_cases.proofs.Days", "attributed broken cross executed executed_at named order replaced trade"),
+    ("Rattle.proved_cases.proofs.Days", "at hex number price printable reference shares stock volume"),
     ("Rattle.proved_cases.proofs.Told", "Prints Reports on_days printed reported"),
 ]
 # Of each form its name in proofs/Days.antt and its fields, the time that it has if none is given, and what itch.py makes of it.
@@ -45,7 +45,7 @@ FORMS = {
 
 def quoted(text):
     """A text as antt has it; a byte that isn't a visible letter stands in hexadecimal."""
-    return '"' + "".join(it if " " <= it <= "~" else "\\n" if it == "\n" else f"\\u{{{ord(it):x}}}" for it in text) + '"'
+    return '"' + "".join({"\n": "\\n", "\0": "\\0"}.get(it, it) for it in text) + '"'
 
 
 def nanoseconds(time):
@@ -112,7 +112,7 @@ def written():
         file = next((file for heading, file in PARTS.items() if title.startswith(heading)), None)
         if file:
             files[file] = file_of(f"{title}.", [theorem_of(case + "\n", taken, samples) for case in cases.strip("\n").split("\n\n")])
-    bytes_of = [f"bytes_of_{name} : {part} ≡ hex {quoted(made.hex())}\nbytes_of_{name} = refl" for name, (part, made) in samples.items()]
+    bytes_of = [f"bytes_of_{name} : {part}\n    ≡ hex {quoted(made.hex())}\nbytes_of_{name} = refl" for name, (part, made) in samples.items()]
     files["Messages"] = file_of("A message of each type, as check/itch.py makes it.", bytes_of)
     return {FOLDER / f"{name}.antt": text for name, text in files.items()}
 

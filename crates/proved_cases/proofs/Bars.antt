@@ -2,7 +2,8 @@
 -- `python3 check/test_definitions.py write` writes this file from crates/answer_cases/stdin.
 use Rattle.std.proofs.Common.{◌++◌, refl}
 use Rattle.std.specs.Prelude.{codes}
-use Rattle.proved_cases.proofs.Days.{at, cross, executed, named, number, order, price, reference, shares, stock, trade, volume}
+use Rattle.proved_cases.proofs.Days.{cross, executed, named, order, trade}
+use Rattle.proved_cases.proofs.Days.{at, number, price, reference, shares, stock, volume}
 use Rattle.proved_cases.proofs.Told.{Prints, on_days, printed}
 
 -- Trades at the last nanosecond of a minute, and at the first of the next.

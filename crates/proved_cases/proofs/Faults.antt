@@ -2,7 +2,8 @@
 -- `python3 check/test_definitions.py write` writes this file from crates/answer_cases/stdin.
 use Rattle.std.proofs.Common.{◌++◌, refl}
 use Rattle.std.specs.Prelude.{codes}
-use Rattle.proved_cases.proofs.Days.{at, broken, executed, executed_at, hex, named, number, order, price, printable, reference, replaced, shares, stock}
+use Rattle.proved_cases.proofs.Days.{broken, executed, executed_at, named, order, replaced}
+use Rattle.proved_cases.proofs.Days.{at, hex, number, price, printable, reference, shares, stock}
 use Rattle.proved_cases.proofs.Told.{Prints, Reports, on_days, printed, reported}
 
 -- An order that lacks its last byte, behind an empty message and one of a type that isn't read.

@@ -1,9 +1,10 @@
 mod Bars
-pub mod Days
+mod Computed
+mod Days
 mod Faults
 mod Messages
 mod Moments
 mod Places
 mod Sales
 mod Selections
-pub mod Told
+mod Told

@@ -2,7 +2,8 @@
 -- `python3 check/test_definitions.py write` writes this file from crates/answer_cases/stdin.
 use Rattle.std.proofs.Common.{◌++◌, refl}
 use Rattle.std.specs.Prelude.{codes}
-use Rattle.proved_cases.proofs.Days.{at, attributed, broken, cross, executed, executed_at, hex, named, number, order, price, printable, reference, replaced, shares, stock, trade, volume}
+use Rattle.proved_cases.proofs.Days.{attributed, broken, cross, executed, executed_at, named, order, replaced, trade}
+use Rattle.proved_cases.proofs.Days.{at, hex, number, price, printable, reference, shares, stock, volume}
 use Rattle.proved_cases.proofs.Told.{Prints, Reports, on_days, printed, reported}
 
 -- A message at the moment counts.

@@ -2,7 +2,8 @@
 -- `python3 check/test_definitions.py write` writes this file from crates/answer_cases/stdin.
 use Rattle.std.proofs.Common.{◌++◌, refl}
 use Rattle.std.specs.Prelude.{codes}
-use Rattle.proved_cases.proofs.Days.{at, broken, executed, named, number, order, price, reference, shares, stock, trade}
+use Rattle.proved_cases.proofs.Days.{broken, executed, named, order, trade}
+use Rattle.proved_cases.proofs.Days.{at, number, price, reference, shares, stock}
 use Rattle.proved_cases.proofs.Told.{Prints, Reports, on_days, printed, reported}
 
 -- An order, its execution and a break.

@@ -2,7 +2,8 @@
 -- `python3 check/test_definitions.py write` writes this file from crates/answer_cases/stdin.
 use Rattle.std.proofs.Common.{[], ◌++◌, refl}
 use Rattle.std.specs.Prelude.{codes}
-use Rattle.proved_cases.proofs.Days.{at, attributed, broken, cross, executed, executed_at, hex, named, number, order, price, printable, reference, replaced, shares, stock, trade, volume}
+use Rattle.proved_cases.proofs.Days.{attributed, broken, cross, executed, executed_at, named, order, replaced, trade}
+use Rattle.proved_cases.proofs.Days.{at, hex, number, price, printable, reference, shares, stock, volume}
 use Rattle.proved_cases.proofs.Told.{Prints, on_days, printed}
 
 -- An empty day has no sales.
@@ -182,7 +183,7 @@ names_spaces_at_the_end_arent_told_those_at_the_beginning_and_commas_are_questio
     (named (at 1 "00:00:00") (stock " LEAD")
     ++ named (at 2 "00:00:00") (stock "A,B")
     ++ named (at 3 "00:00:00") (stock "")
-    ++ named (at 4 "00:00:00") (stock "\u{ff}Z\u{0}")
+    ++ named (at 4 "00:00:00") (stock "ÿZ\0")
     ++ named (at 5 "00:00:00") (stock "~!")
     ++ trade (at 1 "09:30:01.000000005") (shares 1) (price 10000) (number 1)
     ++ trade (at 2 "09:30:01.000000005") (shares 1) (price 10000) (number 2)

@@ -2,7 +2,8 @@
 -- `python3 check/test_definitions.py write` writes this file from crates/answer_cases/stdin.
 use Rattle.std.proofs.Common.{◌++◌, refl}
 use Rattle.std.specs.Prelude.{codes}
-use Rattle.proved_cases.proofs.Days.{at, attributed, broken, cross, executed, executed_at, named, number, order, price, printable, reference, replaced, shares, stock, trade, volume}
+use Rattle.proved_cases.proofs.Days.{attributed, broken, cross, executed, executed_at, named, order, replaced, trade}
+use Rattle.proved_cases.proofs.Days.{at, number, price, printable, reference, shares, stock, volume}
 use Rattle.proved_cases.proofs.Told.{Prints, on_days, printed}
 
 -- Symbol, span and kind together.

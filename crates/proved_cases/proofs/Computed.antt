@@ -1,5 +1,5 @@
 -- The answer to a query over a file, computed: each file of bytes has one, and `IsAnswer` holds of it.
-use Rattle.std.proofs.Common.{◌≡◌, ℕ, ◌+◌, ◌<◌, true, nat_lt, List, [], ◌∷◌, length, Option, Some, None, MatchOption, Result, Ok, Err, inl, inr, refl, sym, ap, ◌∙◌, subst, arith}
+use Rattle.std.proofs.Common.{◌≡◌, ℕ, ◌+◌, true, nat_lt, List, length, Option, Some, None, MatchOption, Result, Ok, Err, inl, inr, refl, sym, subst, arith}
 use Rattle.std.specs.List.{list_all}
 use Rattle.std.proofs.lemmas.Bool.Decides.{nat_tests}
 use Rattle.std.proofs.lemmas.List.Sums.{AllPass-from_list_all}
@@ -65,9 +65,11 @@ messages_are_answered messages query =
     ((text : List ℕ) × IsTextOfMessages query messages text × (answer ≡ Ok text)))
     (or_is (first_unknown (order_rows messages) (executions messages)) unknown_at
     (Ok (text_of query.what (name_of (directory_rows messages)) (selected_sales query messages)))
-    (λ answer. (text : List ℕ) × IsTextOfMessages query messages text × (answer ≡ Ok text))
-    (text_of query.what (name_of (directory_rows messages)) (selected_sales query messages),
-    text_is query.what (name_of (directory_rows messages)) (selected_sales query messages), refl))
+    (λ answer. (text : List ℕ) × IsTextOfMessages query messages text × (answer ≡ Ok text)) (
+      text_of query.what (name_of (directory_rows messages)) (selected_sales query messages),
+      text_is query.what (name_of (directory_rows messages)) (selected_sales query messages),
+      refl,
+    ))
 
 frames_are_answered : (frames : List PlacedBody) (query : Meaning) → IsAnswerToFrames frames query (answer_to_frames frames query)
 frames_are_answered frames query =
