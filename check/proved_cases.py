@@ -115,8 +115,3 @@ def written():
     bytes_of = [f"bytes_of_{name} : {part}\n    ≡ hex {quoted(made.hex())}\nbytes_of_{name} = refl" for name, (part, made) in samples.items()]
     files["Messages"] = file_of("A message of each type, as check/itch.py makes it.", bytes_of)
     return {FOLDER / f"{name}.antt": text for name, text in files.items()}
-
-
-if __name__ == "__main__":
-    for path, text in written().items():
-        path.write_text(text)
