@@ -28,6 +28,27 @@ an_average_that_isnt_a_whole_number_of_ten_thousandths : Prints (codes "bars 1 m
 unfolding on_days
 an_average_that_isnt_a_whole_number_of_ten_thousandths = printed refl
 
+-- An average is rounded down, whatever its rest.
+an_average_is_rounded_down_whatever_its_rest : Prints (codes "bars 1 m")
+    (named (at 7 "00:00:00") (stock "MSFT")
+    ++ trade (at 7 "09:30:01.000000005") (shares 1) (price 100001) (number 31)
+    ++ trade (at 7 "09:30:01.000000005") (shares 2) (price 100001) (number 32)
+    ++ trade (at 7 "09:30:01.000000005") (shares 1) (price 100000) (number 33))
+    (codes "symbol,start,first,high,low,last,volume,trades,average\n"
+    ++ codes "MSFT,09:30:00,10.0001,10.0001,10.0000,10.0000,4,3,10.0000+3/4\n")
+unfolding on_days
+an_average_is_rounded_down_whatever_its_rest = printed refl
+
+-- A fraction isn't reduced.
+a_fraction_isnt_reduced : Prints (codes "bars 1 m")
+    (named (at 7 "00:00:00") (stock "MSFT")
+    ++ trade (at 7 "09:30:01.000000005") (shares 2) (price 100001) (number 31)
+    ++ trade (at 7 "09:30:01.000000005") (shares 2) (price 100000) (number 32))
+    (codes "symbol,start,first,high,low,last,volume,trades,average\n"
+    ++ codes "MSFT,09:30:00,10.0001,10.0001,10.0000,10.0000,4,2,10.0000+2/4\n")
+unfolding on_days
+a_fraction_isnt_reduced = printed refl
+
 -- The most shares at the highest price, twice.
 the_most_shares_at_the_highest_price_twice : Prints (codes "bars 1 m")
     (named (at 7 "00:00:00") (stock "MSFT")
