@@ -1,8 +1,10 @@
-"""Writes cases of crates/answer_cases/stdin as theorems on the definitions: `crates/proved_cases/proofs/`, a file for each part.
+"""Writes cases of crates/answer_cases/stdin as theorems on the definitions, files of crates/proved_cases/proofs.
 
-Each theorem says of a case's query, day and answer, as they stand there, that `IsAnswer` holds, and its proof computes it. The
-layout of messages is proofs/Days.antt; of one message of each type the bytes are compared with those of itch.py.
+Each says of a case's query, day and answer, as they stand there, that `IsAnswer` holds, and is proved by computing it. Days.antt
+there has the layout of messages; the bytes of one message of each type are compared with those that itch.py makes. Where two
+cases of a heading have one comment, their theorems have one name, and the prover refuses them.
 """
+import collections
 import re
 
 import itch
@@ -43,9 +45,13 @@ FORMS = {
 }
 
 
+ESCAPES = str.maketrans({"\n": "\\n", "\0": "\\0", '"': '\\"', "\\": "\\\\"})
+
+Case = collections.namedtuple("Case", "comment words query answer")
+
+
 def quoted(text):
-    """A text as antt has it; a byte that isn't a visible letter stands in hexadecimal."""
-    return '"' + "".join({"\n": "\\n", "\0": "\\0"}.get(it, it) for it in text) + '"'
+    return f'"{text.translate(ESCAPES)}"'
 
 
 def nanoseconds(time):
@@ -54,64 +60,74 @@ def nanoseconds(time):
 
 
 def part_of(word):
-    """Of a word of a day what stands for it in a theorem, and the bytes that itch.py makes of it, if it is a form."""
-    said = re.fullmatch(r"([A-Z])\(([^()]*)\)(?:@([\d:.]+))?(?:#(\d+))?", word)
-    if not said:
+    """What stands in a theorem for a word of a day, and the bytes that itch.py makes of it, if it is a form."""
+    form = re.fullmatch(r"([A-Z])\(([^()]*)\)(?:@([\d:.]+))?(?:#(\d+))?", word)
+    if not form:
         digits, _, times = word.partition("*")
         return f"hex {quoted(digits * int(times or 1))}", None
-    letter, fields, time, locate = said.groups()
-    (name, *names), usual, make = FORMS[letter][0].split(), *FORMS[letter][1:]
+    letter, fields, time, locate = form.groups()
+    said, usual, make = FORMS[letter]
+    name, *kinds = said.split()
     fields = [re.sub(r"\\x(..)", lambda it: chr(int(it[1], 16)), field) for field in fields.split(",")]
-    locate, fields = (fields[0], fields[1:]) if letter == "R" else (locate or "7", fields)
-    fields = [it if kind in ("stock", "printable") else int(it) for kind, it in zip(names, fields)]
-    given = [f"({kind} {quoted(it) if isinstance(it, str) else it})" for kind, it in zip(names, fields)]
-    bytes_of = make((int(locate), nanoseconds(time or usual)), *(it.encode("latin-1").ljust(8) if letter == "R" else it for it in fields))
-    return " ".join([name, f"(at {locate} {quoted(time or usual)})", *given]), bytes_of
+    locate = fields.pop(0) if letter == "R" else locate or "7"
+    values = [it if kind in ("stock", "printable") else int(it) for kind, it in zip(kinds, fields)]
+    given = [f"({kind} {quoted(it) if isinstance(it, str) else it})" for kind, it in zip(kinds, values)]
+    fields = [it.encode("latin-1").ljust(8) for it in values] if letter == "R" else values
+    made = make((int(locate), nanoseconds(time or usual)), *fields)
+    return " ".join([name, f"(at {locate} {quoted(time or usual)})", *given]), made
 
 
 def joined(parts):
     """Lists of bytes, a line each."""
-    return "    (" + "\n    ++ ".join(parts) + ")"
+    return "    (" + "\n    ++ ".join(parts or ["[]"]) + ")"
 
 
-def file_of(title, theorems):
-    """A file of proofs with the imports that its theorems need."""
-    text = "\n\n".join(theorems)
-    words = re.split(r"[\s()]+", re.sub(r'(?m)^--.*|"[^"]*"', "", text))
-    used = [(module, [name for name in names.split() if name.strip("◌") in words]) for module, names in IMPORTS]
-    uses = "".join(f"use {module}.{{{', '.join(names)}}}\n" for module, names in used if names)
-    return f"-- {title}\n-- `python3 check/test_definitions.py write` writes this file from crates/answer_cases/stdin.\n{uses}\n{text}\n"
-
-
-def theorem_of(case, taken, samples):
-    """The theorem of a case; `taken` are the names of others, `samples` the first message of each form with its bytes."""
-    comment, day, query, answer = re.fullmatch(r'# (.*)\nday ?(.*)\nquery "([^"\\]*)"\n(?:.*\n)*?----\n((?:.*\n)*)', case).groups()
-    parts = [part_of(word) for word in day.split()]
-    for part, bytes_of in parts:
-        samples.setdefault(part.split()[0], (part, bytes_of)) if bytes_of else None
-    name = re.sub(r"\W+", "_", comment.lower().replace("n't", "nt")).strip("_")
-    if name in taken:
-        raise ValueError(f"two cases have the comment {comment}")
-    taken.add(name)
-    word, proof = ("Reports", "reported") if answer.startswith("fault: ") else ("Prints", "printed")
+def theorem_of(case):
+    word, proof = ("Reports", "reported") if case.answer.startswith("fault: ") else ("Prints", "printed")
+    name = re.sub(r"\W+", "_", case.comment.lower().replace("'", "")).strip("_")
     return "\n".join([
-        f"-- {comment}",
-        f"{name} : {word} (codes {quoted(query)})",
-        joined([part for part, _ in parts] or ["[]"]),
-        joined([f"codes {quoted(line)}" for line in answer.splitlines(keepends=True)]),
+        f"-- {case.comment}",
+        f"{name} : {word} (codes {quoted(case.query)})",
+        joined([part_of(it)[0] for it in case.words]),
+        joined([f"codes {quoted(line)}" for line in case.answer.splitlines(keepends=True)]),
         "unfolding on_days",
         f"{name} = {proof} refl",
     ])
 
 
+def bytes_theorem(name, part, made):
+    return f"bytes_of_{name} : {part}\n    ≡ hex {quoted(made.hex())}\nbytes_of_{name} = refl"
+
+
+def file_of(title, theorems):
+    """A file of proofs, with the imports that its theorems need."""
+    text = "\n\n".join(theorems)
+    words = re.split(r"[\s()]+", re.sub(r'(?m)^--.*|"[^"]*"', "", text))
+    used = [(module, [name for name in names.split() if name.strip("◌") in words]) for module, names in IMPORTS]
+    uses = "".join(f"use {module}.{{{', '.join(names)}}}\n" for module, names in used if names)
+    source = "-- `python3 check/test_definitions.py write` writes this file from crates/answer_cases/stdin."
+    return f"-- {title}.\n{source}\n{uses}\n{text}\n"
+
+
+def cases_of(part):
+    """The cases under a heading: a comment of one line, a day, a query, perhaps ways to answer it, and the answer."""
+    form = r'# (.*)\nday ?(.*)\nquery "([^"\\]*)"\n(?:.*\n)*?----\n((?:.*\n)*)'
+    found = [re.fullmatch(form, f"{case}\n").groups() for case in part.strip("\n").split("\n\n")]
+    return [Case(comment, day.split(), query, answer) for comment, day, query, answer in found]
+
+
 def written():
-    """The text of each file."""
-    files, taken, samples = {}, set(), {}
-    for part in re.findall(r"(?m)^# == ((?:.*\n)*?)(?=# == |\Z)", CASES.read_text()):
-        title, _, cases = part.partition("\n")
+    """The text of each file by its path."""
+    files, first = {}, {}
+    for part in re.split(r"(?m)^# == ", CASES.read_text())[1:]:
+        title, _, rest = part.partition("\n")
         file = next((file for heading, file in PARTS.items() if title.startswith(heading)), None)
+        cases = cases_of(rest) if file else []
+        for part, made in (part_of(word) for case in cases for word in case.words):
+            if made:
+                first.setdefault(part.split()[0], (part, made))
         if file:
-            files[file] = file_of(f"{title}.", [theorem_of(case + "\n", taken, samples) for case in cases.strip("\n").split("\n\n")])
-    bytes_of = [f"bytes_of_{name} : {part}\n    ≡ hex {quoted(made.hex())}\nbytes_of_{name} = refl" for name, (part, made) in samples.items()]
-    files["Messages"] = file_of("A message of each type, as check/itch.py makes it.", bytes_of)
+            files[file] = file_of(title, [theorem_of(case) for case in cases])
+    messages = [bytes_theorem(name, *it) for name, it in first.items()]
+    files["Messages"] = file_of("A message of each type, as check/itch.py makes it", messages)
     return {FOLDER / f"{name}.antt": text for name, text in files.items()}

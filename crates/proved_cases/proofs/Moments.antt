@@ -138,11 +138,11 @@ unfolding on_days
 a_truncated_day_is_told_whatever_the_moment = reported refl
 
 -- A message behind the day's end counts at no moment.
-a_message_behind_the_day_s_end_counts_at_no_moment : Prints (codes "sales as of 24:00:00")
+a_message_behind_the_days_end_counts_at_no_moment : Prints (codes "sales as of 24:00:00")
     (trade (at 7 "78:11:14.976710655") (shares 1) (price 10000) (number 61))
     (codes "time,symbol,kind,price,shares,number\n")
 unfolding on_days
-a_message_behind_the_day_s_end_counts_at_no_moment = printed refl
+a_message_behind_the_days_end_counts_at_no_moment = printed refl
 
 -- Sales of each kind are behind the moment, and their orders at it.
 sales_of_each_kind_are_behind_the_moment_and_their_orders_at_it : Prints (codes "sales as of 09:30:00")

@@ -27,7 +27,7 @@ unfolding on_days
 a_span_has_its_beginning_and_lacks_its_end = printed refl
 
 -- Executions at their order's price alone.
-executions_at_their_order_s_price_alone : Prints (codes "sales where kind in E")
+executions_at_their_orders_price_alone : Prints (codes "sales where kind in E")
     (attributed (at 7 "09:30:00") (reference 1) (price 4105000)
     ++ replaced (at 7 "09:30:00") (reference 1) (reference 2) (price 4106000)
     ++ executed (at 7 "09:30:01.000000005") (reference 2) (shares 10) (number 11)
@@ -37,7 +37,7 @@ executions_at_their_order_s_price_alone : Prints (codes "sales where kind in E")
     (codes "time,symbol,kind,price,shares,number\n"
     ++ codes "09:30:01.000000005,#7,E,410.6000,10,11\n")
 unfolding on_days
-executions_at_their_order_s_price_alone = printed refl
+executions_at_their_orders_price_alone = printed refl
 
 -- Executions with a price of their own alone.
 executions_with_a_price_of_their_own_alone : Prints (codes "sales where kind in C")
@@ -114,6 +114,14 @@ a_locate_that_has_a_name_isnt_asked_for_by_its_number : Prints (codes "sales whe
     (codes "time,symbol,kind,price,shares,number\n")
 unfolding on_days
 a_locate_that_has_a_name_isnt_asked_for_by_its_number = printed refl
+
+-- A symbol that no locate has.
+a_symbol_that_no_locate_has : Prints (codes "sales where symbol in MSF,MSFTX")
+    (named (at 7 "00:00:00") (stock "MSFT")
+    ++ trade (at 7 "09:30:01.000000005") (shares 1) (price 10000) (number 1))
+    (codes "time,symbol,kind,price,shares,number\n")
+unfolding on_days
+a_symbol_that_no_locate_has = printed refl
 
 -- A symbol is asked for by the last name of its locate.
 a_symbol_is_asked_for_by_the_last_name_of_its_locate : Prints (codes "sales where symbol in MSFT")
