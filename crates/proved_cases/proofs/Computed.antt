@@ -21,8 +21,9 @@ use Rattle.day_rows.specs.Messages.{Placed, counted, directory_rows, executions,
 use Rattle.answers.specs.Answers.{DayFault, FaultOr, IsAnswer, IsAnswerToFrames, IsAnswerToMessages, IsTextOfMessages, IsTextOfSales, Truncated}
 use Rattle.answers.specs.Answers.{repeated_at, selected_sales, unknown_at, wrong_length_at}
 
--- ---- the answer
+-- ---- the answer: as `IsAnswer` says, from a file's end and frames to the text or the fault
 
+-- of bars the table that sales make, put in one by one
 abbrev pub text_of : What → (ℕ → List ℕ) → List Sale → List ℕ
 text_of Sales names sales = listing_text names sales
 text_of (Bars width) names sales = bars_text names (bars_of width sales)
@@ -39,6 +40,7 @@ answer_to_messages messages query =
 abbrev pub answer_to_frames : List PlacedBody → Meaning → Result (List ℕ) DayFault
 answer_to_frames frames query = fault_or (first_wrong frames) wrong_length_at (answer_to_messages (counted query.as_of (messages_of frames)) query)
 
+-- of the frames that a walk over the file comes to, and the place where it is truncated, if it is
 abbrev pub answer_to_rest : FramesLeft → Meaning → Result (List ℕ) DayFault
 answer_to_rest left query = fault_or left.truncated Truncated (answer_to_frames left.frames query)
 
