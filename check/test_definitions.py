@@ -1,5 +1,5 @@
 """Holds the documents against the code: what has to be believed, which functions have no clause, what pages name and quote; and
-sees that each edit applies. `python3 check/test_definitions.py write` writes the tables of docs/DEFINITIONS.md.
+sees that each edit applies. `python3 check/test_definitions.py write` writes the tables of docs/DEFINITIONS.md, and the proved cases.
 
 A definition of specs/ is of the kind `program` if a clause of a call that the program makes, or a member of one of its devices,
 cites it, or cites a definition that rests on it; of the kind `crate` if another public contract rests on it; and of the kind
@@ -7,6 +7,7 @@ cites it, or cites a definition that rests on it; of the kind `crate` if another
 """
 import difflib, functools, pathlib, re, sys, unittest
 
+import proved_cases
 from rattle import TOP, cited_by, code_of, crates, definitions, edits_of, functions_of, ghost_members
 from rattle import is_derived, is_product, is_silent_on_refusals, kit, named_in, rested_on, sources
 
@@ -107,6 +108,10 @@ class Definitions(unittest.TestCase):
         old = DOCUMENT.read_text()
         changes = [it for it in difflib.unified_diff(old.split("\n"), written(old).split("\n"), n=0, lineterm="")][2:]
         self.assertEqual([], changes[:9], "run `python3 check/test_definitions.py write`")
+
+    def test_the_proved_cases_are_the_stored_ones(self):
+        for path, text in proved_cases.written().items():
+            self.assertEqual(text, path.read_text(), "run `python3 check/test_definitions.py write`")
 
     def test_each_file_says_who_has_to_believe_it(self):
         for module, second in definitions()[3].items():
@@ -264,4 +269,5 @@ class Pages(unittest.TestCase):
 
 
 if __name__ == "__main__" and sys.argv[1:] == ["write"]:
-    DOCUMENT.write_text(written(DOCUMENT.read_text()))
+    for path, text in [(DOCUMENT, written(DOCUMENT.read_text())), *proved_cases.written().items()]:
+        path.write_text(text)

@@ -1,5 +1,4 @@
 pub mod AnswerOfSteps
-pub mod Examples
 pub mod MomentLaws
 pub mod OneAnswer
 pub mod SelectedSales

@@ -1,0 +1,10 @@
+mod Bars
+mod Computed
+mod Days
+mod Faults
+mod Messages
+mod Moments
+mod Places
+mod Sales
+mod Selections
+mod Told
