@@ -69,9 +69,7 @@ FAULTY = {
     "unknown and broken": [AB, executed(2, 2), broken(2)],
     "unknown and of no shares": [AB, executed(2, 2, shares=0)],
     **{f"wrong length of {kind}": [AB, frame(kind.encode() * 12)] for kind in "AFECUPQBR"},
-}
-# Faulty as of an earlier moment only, and as of a later one only: times need not rise.
-LATE = {
+    # faulty as of an earlier moment only, and as of a later one only: times need not rise
     "late order": [order(1, time=after(9)), executed(1, 1, time=after(3)), AB],
     "late repeat": [AB, GIVEN, SALE, order(1, time=after(9))],
 }
@@ -111,7 +109,8 @@ class Trace(Case):
     def test_sales_and_faults_are_those_of_the_program(self):
         edges = self.file("edges", *EDGES)
         asked = [(self.file(name, *frames), "AB") for name, frames in {**FAULTY, **FRAMES}.items()]
-        asked += [(self.file(name, *frames), "AB", *WHOLE_DAY, moment) for name, frames in LATE.items() for moment in MOMENTS]
+        late = [self.folder / name for name in FAULTY if name.startswith("late")]
+        asked += [(path, "AB", *WHOLE_DAY, moment) for path in late for moment in MOMENTS]
         asked += [(edges, symbol) for symbol in SYMBOLS]
         asked += [(edges, symbol, *WHOLE_DAY, moment) for symbol in SYMBOLS[:4] for moment in MOMENTS]
         asked += [(edges, symbol, *span) for symbol in SYMBOLS[:4] for span in SPANS]
