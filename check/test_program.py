@@ -35,9 +35,9 @@ class OfProgram(Case):
         words, given = (["-", query], file) if way == INPUT else ([file, query, *way.split()], b"")
         return self.counted(program(), *words, input=given, preload=preload, cwd=self.folder)
 
-    def shell(self, line, **more):
+    def shell(self, line):
         """Runs a line of the shell, whose $0 is the program."""
-        return run("bash", "-c", line, program(), cwd=self.folder, **more)
+        return run("bash", "-c", line, program(), cwd=self.folder)
 
     # ---- words, statuses and streams
 
@@ -62,8 +62,8 @@ class OfProgram(Case):
         """A source has no end, and all its rows are to be kept."""
         self.file("days", *[trade(9)] * 100_000)
         for file, query in itertools.product(("-", "/dev/stdin"), ("sales", "bars 1 s")):
-            endless = f'while cat days; do :; done 2>&- | "$0" {file} "{query}"'
-            self.gives(self.shell(endless, memory=400 << 20), 3, "", "fault: out of memory\n")
+            endless = f'ulimit -v 400000; while cat days; do :; done 2>&- | "$0" {file} "{query}"'
+            self.gives(self.shell(endless), 3, "", "fault: out of memory\n")
 
     # ---- files
 
