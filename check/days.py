@@ -89,18 +89,17 @@ def walk(seed, price, step):
 def whole_day():
     day = Day()
     # Before trading. The state H is halted, P paused, Q quotation only, T trading.
-    day.add("S", NOBODY, "03:02:00", "O")
+    for time in ("03:02:00 O", "04:00:00 S", "09:30:00 Q", "16:00:00 M", "20:00:00 E", "20:05:00 C"):
+        day.add("S", NOBODY, *time.split())
     for it in (MSFT, AAPL, NEWCO, CLASS_B, PREFERRED, IDLE, TEST):
         fields = it.name, it.market, "N", it.lot, "N", it.sort, b"Z ", it.test, "N", it.first, "1", "N", 0, "N"
         day.add("R", it, "03:05:00", *fields)
         day.add("H", it, "03:05:00", it.name, "H" if it is NEWCO else "T", " ", "IPO1" if it is NEWCO else "")
-    day.add("S", NOBODY, "04:00:00", "S")
     early = day.order(MSFT, "04:15:00", "S", 100, 4091500)
     day.traded("E", MSFT, "04:15:02.5", early, 25)
     day.add("X", MSFT, "07:00:00", early, 50)
     # The opening. What a cross takes from the book comes again as executions that aren't printable.
     waiting = day.order(MSFT, "09:28:30", "B", 500, 4100000)
-    day.add("S", NOBODY, "09:30:00", "Q")
     day.cross(MSFT, "09:30:00.113", 30000, 4099000, "O")
     day.traded("C", MSFT, "09:30:00.113", waiting, 400, behind=("N", 4099000))
     day.traded("C", MSFT, "09:30:01", waiting, 100, behind=("Y", 4099500))
@@ -131,14 +130,11 @@ def whole_day():
     day.add("B", MSFT, "14:52:00", day.traded("E", MSFT, "14:20:01", wrong, 100))
     day.add("B", AAPL, "20:01:00", day.hidden(AAPL, "15:58:30", 500, 1812500))
     # The closing, the late session, the end.
-    day.add("S", NOBODY, "16:00:00", "M")
     day.cross(MSFT, "16:00:00.3", 45000, 4078000, "C")
     day.cross(AAPL, "16:00:00.5", 38000, 1897000, "C")
     day.cross(NEWCO, "16:00:00.6", 9000, 318000, "C")
     day.cross(IDLE, "16:00:00.7", 0, 0, "C")
     day.hidden(MSFT, "17:30:00", 20, 4081000)
-    day.add("S", NOBODY, "20:00:00", "E")
-    day.add("S", NOBODY, "20:05:00", "C")
     return day.bytes()
 
 

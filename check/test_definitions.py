@@ -240,17 +240,15 @@ class Pages(unittest.TestCase):
         rows = [row[1:2] for row in rows_below(proofs, "| Premise | Where it is | What follows |")]
         rows += [row[1:] for row in rows_below(map_of_code, "| Rule | Definition | Code |")]
         rows += [row[2:] for row in rows_below(map_of_code, "| Step | What happens | Where |")]
-        for cell in (cell for row in rows for cell in row):
-            folder = pathlib.Path()
-            for group in cell.split("; "):
-                names, _, where = group.rpartition(": ")
-                for path in re.findall(r"[\w/]+\.(?:rt|antt)", where):
-                    folder = pathlib.Path("crates", path).parent if "/" in path else folder
-                    text = TEXTS.get(TOP / folder / pathlib.Path(path).name)
-                    self.assertIsNotNone(text, f"there is no {path}: {cell}")
-                    for last in (name.rpartition("::")[2] for name in words_in(names)):
-                        kind = "fn|ghost|struct|trait|enum|const|abbrev|unfoldable|opaque|pub|record|data"
-                        self.assertTrue(re.search(rf"(?m)\b({kind}) {last}\b|^{last} ", text), f"{path} has no {last}: {cell}")
+        kinds, folder = "fn|ghost|struct|trait|enum|const|abbrev|unfoldable|opaque|pub|record|data", None
+        for group in (group for row in rows for cell in row for group in cell.split("; ")):
+            names, _, where = group.rpartition(": ")
+            for path in re.findall(r"[\w/]+\.(?:rt|antt)", where):
+                folder = pathlib.Path("crates", path).parent if "/" in path else folder
+                text = TEXTS.get(TOP / folder / pathlib.Path(path).name, "")
+                lasts = [name.rpartition("::")[2] for name in words_in(names)]
+                missing = [it for it in lasts if not re.search(rf"(?m)\b({kinds}) {it}\b|^{it} ", text)]
+                self.assertTrue(text and not missing, f"{path} isn't there, or has no {missing}: {group}")
 
     def test_promises_have_their_clauses(self):
         page = TOP / "docs/PROOFS.md"

@@ -35,9 +35,9 @@ class OfProgram(Case):
         words, given = (["-", query], file) if way == INPUT else ([file, query, *way.split()], b"")
         return self.counted(program(), *words, input=given, preload=preload, cwd=self.folder)
 
-    def shell(self, line, **more):
+    def shell(self, line):
         """Runs a line of the shell, whose $0 is the program."""
-        return run("bash", "-c", line, program(), cwd=self.folder, **more)
+        return run("bash", "-c", line, program(), cwd=self.folder)
 
     # ---- words, statuses and streams
 
@@ -62,8 +62,8 @@ class OfProgram(Case):
         """A source has no end, and all its rows are to be kept."""
         self.file("days", *[trade(9)] * 100_000)
         for file, query in itertools.product(("-", "/dev/stdin"), ("sales", "bars 1 s")):
-            endless = f'while cat days; do :; done 2>&- | "$0" {file} "{query}"'
-            self.gives(self.shell(endless, memory=400 << 20), 3, "", "fault: out of memory\n")
+            endless = f'ulimit -v 400000; while cat days; do :; done 2>&- | "$0" {file} "{query}"'
+            self.gives(self.shell(endless), 3, "", "fault: out of memory\n")
 
     # ---- files
 
@@ -91,22 +91,14 @@ class OfProgram(Case):
         os.truncate(self.day, (64 << 30) + 1)
         self.gives(self.of(self.day, "sales"), 1, "", "fault: file is longer than 68719476736 bytes\n")
 
-    def test_few_bytes(self):
-        """A reading gives few bytes, and a write takes one."""
-        for query, way in itertools.product(("sales", "bars 5 m"), WAYS):
-            answer = self.of(EXAMPLE, query)
-            self.assertGreater(answer.out.count(b"\n"), 2)
-            for settings in (*({"GIVES": count} for count in (1, 2, 3, 7, 47, 4096)), {"TAKES": 1}):
-                self.assertEqual(self.over(way, EXAMPLE, query, **settings)[0], answer, f"{way} {settings}")
-        self.gives(self.over(INPUT, self.cut_off, TAKES=1)[0], 1, "", END)
-
     def test_readings_that_fail(self):
         """Each reading of a byte fails in turn, by an error of the device, an interruption, or want of bytes, until a run has fewer;
-        those behind it would be well. Several workers may read a block twice, and the first that is read counts."""
+        those behind it would be well, and a write takes few bytes. Several workers may read a block twice, and the first reading
+        counts."""
         failed, sales = Ran(4, b"", READING.encode()), Ran(0, SALE.encode(), b"")
         for way, error in itertools.product(WAYS, (5, 4, 11)):
             for reading in itertools.count(1):
-                ran, report = self.over(way, self.day, GIVES=1, FAILS=reading, ERROR=error)
+                ran, report = self.over(way, self.day, GIVES=1, TAKES=7, FAILS=reading, ERROR=error)
                 if report.failed == [0]:
                     break
                 self.assertIn(ran, (failed, sales if way == SEVERAL else failed), f"{way}, reading {reading}, {error}")

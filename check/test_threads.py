@@ -125,18 +125,15 @@ class OfThreads(Case):
         for workers in (1, 4):
             self.blocks(file, workers)
 
-    def test_wrong_guess(self):
+    def test_wrong_guess_and_long_file(self):
         """Where long frames lie over a block's beginning, the caller reads that block again and no other."""
         long, file = (60_000).to_bytes(2, "big") + b"Z" + bytes(59_999), day()
         at = MIB // 46 * 46 - 2 * len(long) // 46 * 46
         for workers in (1, 4):
             self.blocks(self.file("day", file[:at], long * 4, file[at:]), workers, again=MIB + 2 * SEEN)
-
-    def test_long_file(self):
-        """However long a file is, its blocks aren't, and the caller looks at none."""
-        file = self.file("day")
-        os.truncate(file, 80 * MIB)
-        self.blocks(file, 1, is_empty=True)
+        # However long a file is, its blocks aren't, and the caller looks at none.
+        os.truncate(self.file("long"), 80 * MIB)
+        self.blocks(self.folder / "long", 1, is_empty=True)
 
     def test_short_days(self):
         """A day of less than two MiB is answered by the caller alone, however it is read, and one of two MiB by threads."""
@@ -145,9 +142,7 @@ class OfThreads(Case):
             for name, given, morsel in ((file, b"", []), ("-", file, []), (file, b"", ["--morsel", MIB])):
                 started = self.counted(program(), name, "bars 1 m", "--workers", 4, *morsel, input=given)[1].started
                 self.assertEqual(started == 0, is_short, f"{length} bytes of {name}, {started} threads")
-
-    def test_fault(self):
-        """What is read when the fault of a stream is found isn't scanned: for a day of one batch no thread is started."""
+        # What is read when the fault of a stream is found isn't scanned: for a day of one batch no thread is started.
         ran, report = self.counted(program(), "-", "sales", "--workers", 3, input=day()[:-1])
         self.assertEqual((ran.status, report.started), (1, 0))
 

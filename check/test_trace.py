@@ -1,8 +1,8 @@
-"""Tests bin/trace_sales: its sales are the program's, over the example, days that are made here, and damaged ones; each byte that it
+"""Tests bin/trace_sales: its sales are the program's, over the example and days that are made here, faulty ones too; each byte that it
 shows stands in the file where it says; what else it prints, and its faults; and that its memory doesn't grow with the file."""
-import random, re, sys
+import re, sys
 
-from itch import OPEN, SECOND, attributed, broken, cross, executed, executed_at, frame, frames_of, message, named, order, replaced, trade
+from itch import OPEN, SECOND, attributed, broken, cross, executed, executed_at, frame, message, named, order, replaced, trade
 from run import EXAMPLE, TOP, Case, on_terminal, program, run
 
 TOOL, TEXTS = TOP / "bin/trace_sales", TOP / "check/test_trace.txt"
@@ -69,9 +69,7 @@ FAULTY = {
     "unknown and broken": [AB, executed(2, 2), broken(2)],
     "unknown and of no shares": [AB, executed(2, 2, shares=0)],
     **{f"wrong length of {kind}": [AB, frame(kind.encode() * 12)] for kind in "AFECUPQBR"},
-}
-# Faulty as of an earlier moment only, and as of a later one only: times need not rise.
-LATE = {
+    # faulty as of an earlier moment only, and as of a later one only: times need not rise
     "late order": [order(1, time=after(9)), executed(1, 1, time=after(3)), AB],
     "late repeat": [AB, GIVEN, SALE, order(1, time=after(9))],
 }
@@ -111,33 +109,14 @@ class Trace(Case):
     def test_sales_and_faults_are_those_of_the_program(self):
         edges = self.file("edges", *EDGES)
         asked = [(self.file(name, *frames), "AB") for name, frames in {**FAULTY, **FRAMES}.items()]
-        asked += [(self.file(name, *frames), "AB", *WHOLE_DAY, moment) for name, frames in LATE.items() for moment in MOMENTS]
+        late = [self.folder / name for name in FAULTY if name.startswith("late")]
+        asked += [(path, "AB", *WHOLE_DAY, moment) for path in late for moment in MOMENTS]
         asked += [(edges, symbol) for symbol in SYMBOLS]
         asked += [(edges, symbol, *WHOLE_DAY, moment) for symbol in SYMBOLS[:4] for moment in MOMENTS]
         asked += [(edges, symbol, *span) for symbol in SYMBOLS[:4] for span in SPANS]
         spans, names = (WHOLE_DAY, ("09:30:13", "09:33:07"), ("09:41:33", "09:41:34")), ("MSFT", "AAPL", "ZVZZT", "NONE")
         asked += [(EXAMPLE, name, *span, moment) for name in names for span in spans for moment in (None, "09:31:05")]
         self.assertGreater(sum(self.compare(path, symbol, *more) for path, symbol, *more in asked), 300)
-
-    def test_damage(self):
-        """Frames that are cut, dropped, doubled or swapped, and bits of them. A fault of a reference is one of that order."""
-        chance, faults = random.Random(1), 0
-        for _ in range(50):
-            frames = frames_of(EXAMPLE.read_bytes())
-            for sort in chance.choices(range(6), k=chance.randint(1, 2)):
-                at, other = chance.sample(range(len(frames)), 2)
-                old, bit = frames[at], chance.randrange(8 * len(frames[at]))
-                changed = (int.from_bytes(old, "big") ^ 1 << bit).to_bytes(len(old), "big")
-                frames[at : at + 1] = [[old[: bit // 8]], [], [old, old], [frames[other]], [changed], [changed]][sort]
-            path = self.file("damaged", *frames)
-            said = run(program(), path, "sales").errors.decode()
-            faults += bool(said)
-            reference = re.search(r"order reference (\d+)", said)
-            if reference:
-                self.traced(path, "--order", reference[1], status=1, errors=said)
-            else:
-                self.compare(path, chance.choice(["MSFT", "AAPL", "ZVZZT"]))
-        self.assertTrue(10 < faults < 40, faults)
 
     def test_texts(self):
         """Commands over the day of edges, and lines that they print, in this order; documents show whole answers."""
