@@ -12,10 +12,10 @@
 mod bits;
 mod filter;
 mod lean;
-mod offsets;
 mod order_rows;
 mod orders;
 mod rising_rows;
+mod step;
 mod wide;
 
 pub use filter::OrderFilter;

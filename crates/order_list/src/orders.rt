@@ -116,8 +116,10 @@ impl<A: Allocator> OrderList<A> {
         ensures { result ≡ self.now }
     {
         OrderRows {
-            origin: self.lean.origin,
-            lean: self.lean.rows.as_slice(),
+            marks: self.lean.marks.as_slice(),
+            begun: 0,
+            index: 0,
+            steps: self.lean.steps.as_slice(),
             wide: self.wide.as_slice(),
         }
     }

@@ -1,68 +1,50 @@
 //! Order rows whose references rise, searched where they lie.
-ghost use Rattle.std.specs.Prelude.{◌≡◌, ◌==◌, ◌<◌, ◌≤◌, All, length, map};
-ghost use Rattle.std.specs.List.{AllPairs, find};
-ghost use Rattle.order_list.specs.ShortRows.{IsOrigin, Rise, row_of_lean};
+ghost use Rattle.std.specs.Prelude.{◌≡◌, ◌==◌, ◌<◌, ◌≤◌, All, IsTrue, length, nat_lt, true, false};
+ghost use Rattle.std.specs.List.{AllWithin, find};
+ghost use Rattle.std.specs.List.Sorted.{IsPartitionPoint};
+ghost use Rattle.order_list.specs.ShortRows.{AreInOrder, IsAround, Rise, rows_from};
 
-use crate::lean::Lean;
-use crate::offsets::Origin;
-use order_table::{Referenced, Spread, first_of};
+use crate::step::{Mark, Step, row_at};
 use row_types::OrderRow;
 use std::marker::Model;
-
-impl Referenced for Lean {
-    ghost reference_of = { λ row. row.reference };
-
-    #[inline(always)]
-    fn reference(&self) -> u64 {
-        u64::from(self.reference)
-    }
-}
 
 /// The rows of a list, one or more, each of a greater reference than the row before it. They are not copied.
 #[derive(Drop)]
 pub struct RisingRows<'a> {
-    origin: Origin,
-    spread: Spread,
-    rows: &'a [Lean],
+    marks: &'a [Mark],
+    steps: &'a [Step],
 }
 
 impl<'a> Model for RisingRows<'a> {
-    ghost use Rattle.std.specs.Prelude.{List, ◌+◌, ◌^◌, ◌<◌, ◌≤◌, length, map};
+    ghost use Rattle.std.specs.Prelude.{List, ◌<◌, length};
     ghost use Rattle.row_types.specs.declared.order.OrderRow.{OrderRow};
-    ghost use Rattle.order_list.specs.ShortRows.{IsOrigin, Rise, row_of_lean};
+    ghost use Rattle.order_list.specs.ShortRows.{AreInOrder, Rise, rows_from};
 
     ghost Value = { List OrderRow };
 
-    ghost view = { λ rising. map (row_of_lean rising.origin) rising.rows.now };
+    ghost view = { λ rising. rows_from rising.marks.now 0 rising.steps.now };
 
-    ghost invariant = { λ rising. IsOrigin rising.origin
-        × (0 < length rising.rows.now)
-        × Rise rising.rows.now };
+    ghost invariant = { λ rising. AreInOrder rising.marks.now
+        × (0 < length rising.steps.now)
+        × Rise (rows_from rising.marks.now 0 rising.steps.now) };
 }
 
 impl<'a> RisingRows<'a> {
     /// The rows, of which there are some, and whose references rise.
-    pub(crate) fn of(origin: Origin, rows: &'a [Lean]) -> Self
-        requires origin { IsOrigin origin }
-        requires some { 0 < length rows.now }
-        requires rise { Rise rows.now }
-        ensures rows { result ≡ map (row_of_lean origin) rows.now }
-        ensures rise { AllPairs (λ x y. x.order_no < y.order_no) result }
+    pub(crate) fn of(marks: &'a [Mark], steps: &'a [Step]) -> Self
+        requires in_order { AreInOrder marks.now }
+        requires some { 0 < length steps.now }
+        requires rise { Rise (rows_from marks.now 0 steps.now) }
+        ensures { result ≡ rows_from marks.now 0 steps.now }
     {
-        let last = rows[rows.len() - 1].reference();
-        let spread = Spread::of(rows.len(), rows[0].reference(), last);
-        RisingRows {
-            origin,
-            spread,
-            rows,
-        }
+        RisingRows { marks, steps }
     }
 
     /// The reference of the first row.
     pub fn least(&self) -> u64
         ensures { All (λ row. result ≤ row.order_no) self.now }
     {
-        self.origin.order_no + u64::from(self.rows[0].reference)
+        row_at(self.marks, self.steps, 1, 0).order_no
     }
 
     /// The reference of the last row.
@@ -70,7 +52,8 @@ impl<'a> RisingRows<'a> {
         ensures some { 0 < length self.now }
         ensures greatest { All (λ row. row.order_no ≤ result) self.now }
     {
-        self.origin.order_no + u64::from(self.rows[self.rows.len() - 1].reference)
+        let last = self.steps.len() - 1;
+        row_at(self.marks, self.steps, self.marks.len(), last).order_no
     }
 
     /// The row that gives the reference.
@@ -78,13 +61,87 @@ impl<'a> RisingRows<'a> {
     pub fn first(&self, order_no: u64) -> Option<OrderRow>
         ensures { result ≡ find (λ row. row.order_no == order_no) self.now }
     {
-        if order_no < self.origin.order_no {
-            return None;
+        let at = point(self.marks, self.steps, order_no);
+        if at < self.steps.len() {
+            let row = row_at(self.marks, self.steps, 1, at);
+            if row.order_no == order_no {
+                return Some(row);
+            }
         }
-        let reference = order_no - self.origin.order_no;
-        match first_of(self.rows, self.spread, reference) {
-            Some(row) => Some(row.row(self.origin)),
-            None => None,
+        None
+    }
+}
+
+/// How many rows have a smaller reference. Those between the two marks that are around it are searched.
+#[inline(always)]
+fn point(marks: &[Mark], steps: &[Step], order_no: u64) -> usize
+    requires in_order { AreInOrder marks.now }
+    requires rise { Rise (rows_from marks.now 0 steps.now) }
+    ensures { IsPartitionPoint (λ row. nat_lt row.order_no order_no ≡ true)
+        (λ row. nat_lt row.order_no order_no ≡ false) (rows_from marks.now 0 steps.now) result }
+{
+    let begun = marks.partition_point(|mark| mark.reference() <= order_no);
+    let low = marks
+        .get(begun.wrapping_sub(1))
+        .map_or(0, |mark| mark.first);
+    let high = marks.get(begun).map_or(steps.len(), |mark| mark.first);
+    if low <= high
+        && high <= steps.len()
+        && have_smaller(marks, steps, begun, low, order_no)
+        && have_others(marks, steps, begun, high, order_no)
+    {
+        point_within(marks, steps, begun, (low, high), order_no)
+    } else {
+        point_within(marks, steps, begun, (0, steps.len()), order_no)
+    }
+}
+
+/// Whether so many rows, the first ones, have smaller references. The last of them counts from about this mark.
+#[inline(always)]
+fn have_smaller(marks: &[Mark], steps: &[Step], begun: usize, count: usize, order_no: u64) -> bool
+    requires in_order { AreInOrder marks.now }
+    requires rise { Rise (rows_from marks.now 0 steps.now) }
+    requires few { count ≤ length steps.now }
+    ensures { IsTrue result → AllWithin (λ row. nat_lt row.order_no order_no ≡ true) (rows_from marks.now 0 steps.now)
+        0 count }
+{
+    count == 0 || row_at(marks, steps, begun, count - 1).order_no < order_no
+}
+
+/// Whether the rows from the index on have other references than smaller ones.
+#[inline(always)]
+fn have_others(marks: &[Mark], steps: &[Step], begun: usize, index: usize, order_no: u64) -> bool
+    requires in_order { AreInOrder marks.now }
+    requires rise { Rise (rows_from marks.now 0 steps.now) }
+    ensures { IsTrue result → AllWithin (λ row. nat_lt row.order_no order_no ≡ false) (rows_from marks.now 0 steps.now)
+        index (length (rows_from marks.now 0 steps.now)) }
+{
+    index >= steps.len() || order_no <= row_at(marks, steps, begun, index).order_no
+}
+
+/// How many rows have a smaller reference, where that is between two indices. They count from about this mark.
+#[inline(always)]
+fn point_within(
+    marks: &[Mark],
+    steps: &[Step],
+    begun: usize,
+    between: (usize, usize),
+    order_no: u64,
+) -> usize
+    requires in_order { AreInOrder marks.now }
+    requires rise { Rise (rows_from marks.now 0 steps.now) }
+    requires around { IsAround (rows_from marks.now 0 steps.now) order_no between.0 between.1 }
+    ensures { IsPartitionPoint (λ row. nat_lt row.order_no order_no ≡ true)
+        (λ row. nat_lt row.order_no order_no ≡ false) (rows_from marks.now 0 steps.now) result }
+{
+    let (mut low, mut high) = between;
+    while low < high {
+        let middle = low + (high - low) / 2;
+        if row_at(marks, steps, begun, middle).order_no < order_no {
+            low = middle + 1;
+        } else {
+            high = middle;
         }
     }
+    low
 }
