@@ -61,9 +61,12 @@ impl<'a> RisingRows<'a> {
     pub fn first(&self, order_no: u64) -> Option<OrderRow>
         ensures { result ≡ find (λ row. row.order_no == order_no) self.now }
     {
-        let at = point(self.marks, self.steps, order_no);
+        let begun = self
+            .marks
+            .partition_point(|mark| mark.reference() <= order_no);
+        let at = point(self.marks, self.steps, begun, order_no);
         if at < self.steps.len() {
-            let row = row_at(self.marks, self.steps, 1, at);
+            let row = row_at(self.marks, self.steps, begun, at);
             if row.order_no == order_no {
                 return Some(row);
             }
@@ -72,15 +75,15 @@ impl<'a> RisingRows<'a> {
     }
 }
 
-/// How many rows have a smaller reference. Those between the two marks that are around it are searched.
+/// How many rows have a smaller reference. Those that count from this mark are searched, if it is among them, and else
+/// all.
 #[inline(always)]
-fn point(marks: &[Mark], steps: &[Step], order_no: u64) -> usize
+fn point(marks: &[Mark], steps: &[Step], begun: usize, order_no: u64) -> usize
     requires in_order { AreInOrder marks.now }
     requires rise { Rise (rows_from marks.now 0 steps.now) }
     ensures { IsPartitionPoint (λ row. nat_lt row.order_no order_no ≡ true)
         (λ row. nat_lt row.order_no order_no ≡ false) (rows_from marks.now 0 steps.now) result }
 {
-    let begun = marks.partition_point(|mark| mark.reference() <= order_no);
     let low = marks
         .get(begun.wrapping_sub(1))
         .map_or(0, |mark| mark.first);

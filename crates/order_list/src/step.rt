@@ -94,6 +94,17 @@ pub(crate) fn begun(marks: &[Mark], guess: usize, index: usize) -> usize
     if are_begun(marks, next, index) {
         return next;
     }
+    begun_of_all(marks, index)
+}
+
+/// How many of all marks begin at the index or before it.
+#[cold]
+#[inline(never)]
+fn begun_of_all(marks: &[Mark], index: usize) -> usize
+    requires { AreInOrder marks.now }
+    ensures few { result ≤ length marks.now }
+    ensures begun { Begun marks.now index result }
+{
     marks.partition_point(|mark| mark.first <= index)
 }
 
