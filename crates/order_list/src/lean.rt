@@ -145,7 +145,7 @@ impl<A: Allocator> LeanRows<A> {
     pub(crate) fn reserve(&mut self, rows: usize) -> Result<(), OutOfMemory>
         ensures { self.new ≡ self.old }
     {
-        self.marks.reserve_exact(rows / EACH)?;
+        self.marks.reserve_exact(rows.div_ceil(EACH))?;
         self.steps.reserve_exact(rows)
     }
 
