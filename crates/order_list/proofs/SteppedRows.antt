@@ -1,14 +1,15 @@
 -- Rows as steps from marks, and what a search finds among those whose references rise.
-use Rattle.std.proofs.Common.{◌≡◌, ℕ, zero, suc, ◌+◌, ◌-◌, ◌<◌, ◌≤◌, leb, ltb, cond, true, false, List, [], ◌∷◌, ◌++◌, ap, length, get_or, arith, refl, sym, ◌∙◌}
-use Rattle.std.proofs.Common.{inl, inr}
+use Rattle.std.proofs.Common.{◌≡◌, ℕ, zero, suc, ◌+◌, ◌-◌, ◌<◌, ◌≤◌, leb, cond, List, [], ◌∷◌, ◌++◌, ap, length, get_or, arith, refl, sym, ◌∙◌}
+use Rattle.std.proofs.Common.{inl, inr, Some, None, ⊎_elim, eqb, find}
 use Rattle.std.specs.List.{All, AllWithin}
 use Rattle.std.specs.List.Sorted.{IsNonDecreasingBy, IsPartitionedBy}
-use Rattle.std.proofs.lemmas.Bool.{cases_Bool, le-leb, le-ltb, leb-true, lt-leb, lt-ltb}
+use Rattle.std.proofs.lemmas.Bool.{cases_Bool, cases_lt, le-leb, le-ltb, leb-true, lt-leb, lt-ltb}
 use Rattle.std.proofs.lemmas.List.{get_or_default}
 use Rattle.std.proofs.lemmas.List.Elements.{All-push}
 use Rattle.std.proofs.lemmas.List.Quantifiers.{all_pairs_push}
 use Rattle.std.proofs.lemmas.List.Sorted.{IsNonDecreasingBy-push}
 use Rattle.row_types.specs.declared.order.OrderRow.{OrderRow}
+use Rattle.order_table.proofs.SearchedRows.{found_itself, none_gives}
 use Rattle.order_table.proofs.RowsInOrder.{rising_does_not_fall}
 use Rattle.order_list.specs.ShortRows.{AreInOrder, AreMarks, Begun, Rise, last_begun, row_of_step, rows_from, start}
 use Rattle.order_list.specs.declared.step.Mark.{Mark}
@@ -66,14 +67,11 @@ rows_same marks mark i (step ∷ steps) behind =
 
 -- a row at the last mark, and one with a mark of its own
 module _ (marks : List Mark) (steps : List Step) (step : Step) (row : OrderRow) where
-  pub more_at_last : (d : Mark) → AreMarks marks (length steps) → 0 < length marks → row_of_step (get_or marks (length marks - 1) d) step ≡ row
+  pub more_at_last : AreMarks marks (length steps) → row_of_step (get_or (start ∷ marks) (length marks) start) step ≡ row
       → rows_from marks 0 (steps ++ step ∷ []) ≡ rows_from marks 0 steps ++ row ∷ []
-  more_at_last d are some is =
+  more_at_last are is =
       let all : Begun marks (length steps) (length marks) = (λ k e low high. le-leb _ _ (are.within k e high), λ k e low high. absurd (omega (arith, low, high))) in
-      let long : length marks ≡ suc (length marks - 1) = omega (arith, some) in
-      let last : last_begun start marks (0 + length steps) ≡ get_or marks (length marks - 1) d =
-      ap (last_begun start marks) (omega arith) ∙ last_is start marks (length steps) (length marks) d (omega arith) all
-      ∙ ap (λ n. get_or (start ∷ marks) n d) long in
+      let last = ap (last_begun start marks) (omega arith) ∙ last_is start marks (length steps) (length marks) start (omega arith) all in
       rows_more marks 0 steps step ∙ ap (λ (it : OrderRow). rows_from marks 0 steps ++ it ∷ []) (ap (λ m. row_of_step m step) last ∙ is)
 
   pub more_marked : (mark : Mark) → mark.first ≡ length steps → row_of_step mark step ≡ row
@@ -85,9 +83,6 @@ module _ (marks : List Mark) (steps : List Step) (step : Step) (row : OrderRow) 
       ∙ ap (λ (it : OrderRow). rows_from (marks ++ mark ∷ []) 0 steps ++ it ∷ []) (ap (λ m. row_of_step m step) last ∙ is)
       ∙ ap (λ rows. rows ++ row ∷ []) (rows_same marks mark 0 steps (omega (arith, first)))
 
-pub marks_stay : (marks : List Mark) (m n : ℕ) → m ≤ n → AreMarks marks m → AreMarks marks n
-marks_stay marks m n more are = record { in_order = are.in_order; within = λ k d l. omega (arith, more, are.within k d l) }
-
 pub marks_more : (marks : List Mark) (mark : Mark) (n m : ℕ) → AreMarks marks n → mark.first ≡ n → n ≤ m → AreMarks (marks ++ mark ∷ []) m
 marks_more marks mark n m are first more = record {
   in_order = IsNonDecreasingBy-push (λ (it : Mark). it.first) marks mark are.in_order
@@ -96,19 +91,23 @@ marks_more marks mark n m are first more = record {
 }
 
 -- so many have begun if the last of them has, and the next hasn't
-pub begun_from : (marks : List Mark) (i count : ℕ) (d : Mark) → AreInOrder marks → (0 < count → (get_or marks (count - 1) d).first ≤ i)
-    → (count < length marks → i < (get_or marks count d).first) → count ≤ length marks → Begun marks i count
-begun_from marks i count d up last next few = (
+pub begun_from : (marks : List Mark) (i count : ℕ) → AreInOrder marks → (get_or (start ∷ marks) count start).first ≤ i
+    → (count < length marks → i < (get_or marks count start).first) → count ≤ length marks → Begun marks i count
+begun_from marks i zero up last next few = (
+  λ k e low high. absurd (omega (arith, high)),
+  λ k e low high. lt-leb _ _ (omega (arith, up 0 k e low high, ap (λ (m : Mark). m.first) (get_or_default marks 0 e start (omega (arith, high))), next (omega (arith, high)))),
+)
+begun_from marks i (suc count) up last next few = (
   λ k e low high. le-leb _ _ (omega (
     arith,
-    up k (count - 1) e (omega (arith, high)) (omega (arith, high, few)),
-    ap (λ (m : Mark). m.first) (get_or_default marks (count - 1) e d (omega (arith, high, few))),
-    last (omega (arith, high)),
+    up k count e (omega (arith, high)) (omega (arith, few)),
+    ap (λ (m : Mark). m.first) (get_or_default marks count e start (omega (arith, few))),
+    last,
   )),
   λ k e low high. lt-leb _ _ (omega (
     arith,
-    up count k e low high,
-    ap (λ (m : Mark). m.first) (get_or_default marks count e d (omega (arith, low, high))),
+    up (suc count) k e low high,
+    ap (λ (m : Mark). m.first) (get_or_default marks (suc count) e start (omega (arith, low, high))),
     next (omega (arith, low, high)),
   )),
 )
@@ -138,24 +137,21 @@ module _ (rows : List OrderRow) (up : Rise rows) where
   pub not_falling : IsNonDecreasingBy (λ (row : OrderRow). row.order_no) rows
   not_falling = rising_does_not_fall (λ (row : OrderRow). row.order_no) rows up
 
-  module _ (q : ℕ) where
-    pub smaller_to : (n : ℕ) (row : OrderRow) → n < length rows → row ≡ get_or rows n row → row.order_no < q
-        → AllWithin (λ (row : OrderRow). ltb row.order_no q ≡ true) rows 0 (n + 1)
-    smaller_to n row inside here less k d low below = lt-ltb _ q (omega (
-      arith,
-      not_falling k n d (omega (arith, below)) inside,
-      ap (λ (it : OrderRow). it.order_no) (here ∙ get_or_default rows n row d inside),
-      less,
-    ))
+  module _ (q n : ℕ) (row : OrderRow) (inside : n < length rows) (here : row ≡ get_or rows n row) where
+    number : (d : OrderRow) → row.order_no ≡ (get_or rows n d).order_no
+    number d = ap (λ (it : OrderRow). it.order_no) (here ∙ get_or_default rows n row d inside)
 
-    pub others_from : (n : ℕ) (row : OrderRow) → n < length rows → row ≡ get_or rows n row → q ≤ row.order_no
-        → AllWithin (λ (row : OrderRow). ltb row.order_no q ≡ false) rows n (length rows)
-    others_from n row inside here more k d low below = le-ltb _ q (omega (
-      arith,
-      not_falling n k d low below,
-      ap (λ (it : OrderRow). it.order_no) (here ∙ get_or_default rows n row d inside),
-      more,
-    ))
+    pub below_to : row.order_no < q → AllWithin (λ (row : OrderRow). row.order_no < q) rows 0 (n + 1)
+    below_to less k d low below = omega (arith, not_falling k n d (omega (arith, below)) inside, number d, less)
+
+    pub above_from : q < row.order_no → AllWithin (λ (row : OrderRow). q < row.order_no) rows n (length rows)
+    above_from more k d low below = omega (arith, not_falling n k d low below, number d, more)
+
+    pub found : row.order_no ≡ q → find (λ (row : OrderRow). eqb row.order_no q) rows ≡ Some row
+    found same = found_itself (λ (row : OrderRow). row.order_no) rows q not_falling n (
+      λ k d low below. lt-ltb _ q (omega (arith, up k n d below inside, number d, same)),
+      λ k d low below. le-ltb _ q (omega (arith, not_falling n k d low below, number d, same)),
+    ) row inside here same
 
   pub least_first : (row : OrderRow) → 0 < length rows → row ≡ get_or rows 0 row → All (λ it. row.order_no ≤ it.order_no) rows
   least_first row some here k d l =
@@ -168,6 +164,12 @@ module _ (rows : List OrderRow) (up : Rise rows) where
         not_falling k n d (omega (arith, l, long)) (omega (arith, long)),
         ap (λ (it : OrderRow). it.order_no) (here ∙ get_or_default rows n row d (omega (arith, long))),
       )
+
+-- a reference that all rows are below or above isn't there
+pub not_there : (rows : List OrderRow) (q n : ℕ) → AllWithin (λ row. row.order_no < q) rows 0 n → AllWithin (λ row. q < row.order_no) rows n (length rows)
+    → find (λ (row : OrderRow). eqb row.order_no q) rows ≡ None
+not_there rows q n below above = none_gives (λ (row : OrderRow). row.order_no) rows q rows (λ k d within same. ⊎_elim
+    (λ (less : k < n). omega (arith, below k d (omega arith) less, same)) (λ (more : n ≤ k). omega (arith, above k d more within, same)) (cases_lt k n))
 
 -- the first of the rows that are left, and the others
 pub first_left : (marks : List Mark) (i count : ℕ) (steps rest : List Step) (step : Step) (row : OrderRow) (more : List OrderRow) → steps ≡ step ∷ rest

@@ -1,7 +1,7 @@
 -- Order rows in fewer bytes.
 -- Derived: callers see a list of order rows.
-use Rattle.std.specs.Prelude.{◌≡◌, ℕ, suc, ◌+◌, ◌*◌, ◌/◌, ◌%◌, ◌^◌, ◌<◌, ◌≤◌, nat_le, nat_lt, true, false, cond, List, [], ◌∷◌, length}
-use Rattle.std.specs.List.{All, AllPairs, AllWithin}
+use Rattle.std.specs.Prelude.{◌≡◌, ℕ, suc, ◌+◌, ◌*◌, ◌/◌, ◌%◌, ◌^◌, ◌<◌, ◌≤◌, nat_le, true, false, cond, List, [], ◌∷◌}
+use Rattle.std.specs.List.{All, AllPairs}
 use Rattle.std.specs.List.Sorted.{IsNonDecreasingBy, IsPartitionPoint}
 use Rattle.row_types.specs.declared.order.OrderRow.{OrderRow}
 use Rattle.order_list.specs.declared.step.Mark.{Mark}
@@ -45,13 +45,6 @@ AreInOrder = IsNonDecreasingBy (λ mark. mark.first)
 -- each reference is above those before it
 abbrev pub Rise : List OrderRow → Type 0
 Rise = AllPairs (λ x y. x.order_no < y.order_no)
-
--- all rows with references below this one lie before the second index, and rows before the first index have no others
-pub record IsAround (rows : List OrderRow) (order_no low high : ℕ) : Type 0 where
-  pub order : low ≤ high
-  pub end : high ≤ length rows
-  pub before : AllWithin (λ row. nat_lt row.order_no order_no ≡ true) rows 0 low
-  pub behind : AllWithin (λ row. nat_lt row.order_no order_no ≡ false) rows high (length rows)
 
 -- the marks of so many steps
 pub record AreMarks (marks : List Mark) (steps : ℕ) : Type 0 where

@@ -6,7 +6,7 @@ ghost use Rattle.order_list.specs.ShortRows.{AreMarks, Rise, rows_from};
 
 use crate::OutOfMemory;
 use crate::rising_rows::RisingRows;
-use crate::step::{Mark, Step, row_at};
+use crate::step::{Mark, Step, last_of, row_at};
 use lists::push;
 use row_types::OrderRow;
 use std::alloc::Allocator;
@@ -15,7 +15,7 @@ use std::marker::Model;
 /// Of how many rows one is expected to begin a mark, where room is taken.
 const EACH: usize = 32;
 
-/// Order rows, of which two or more count from a mark.
+/// Order rows as steps from marks, of which there is one to two rows or more.
 #[derive(Drop)]
 pub(crate) struct LeanRows<A: Allocator> {
     pub(crate) marks: Vec<Mark, A>,
@@ -40,63 +40,8 @@ impl<A: Allocator> Model for LeanRows<A> {
         × (IsTrue lean.rises → All (λ row. row.order_no ≤ lean.last) (rows_from lean.marks.items 0 lean.steps.items)) };
 }
 
-/// Adds a row that is near the last mark, and says whether it is.
-#[inline(always)]
-fn push_step<A: Allocator>(
-    marks: &[Mark],
-    steps: &mut Vec<Step, A>,
-    row: OrderRow,
-) -> Result<bool, OutOfMemory>
-    requires { AreMarks marks.now (length steps.old.items) }
-    ensures near { IfOk result (λ near. rows_from marks.now 0 steps.new.items
-        ≡ (if near then rows_from marks.now 0 steps.old.items ++ row ∷ [] else rows_from marks.now 0 steps.old.items)) }
-    ensures unchanged { OnErr result (steps.new.items ≡ steps.old.items) }
-    ensures marks { AreMarks marks.now (length steps.new.items) }
-{
-    if marks.is_empty() {
-        return Ok(false);
-    }
-    match marks[marks.len() - 1].step(row) {
-        Some(step) => {
-            push(steps, step)?;
-            Ok(true)
-        }
-        None => Ok(false),
-    }
-}
-
-/// Adds a row with a mark of its own, if there are two rows or more to each mark, so that none takes more memory than a
-/// wide one; and says whether it does.
-#[cold]
-#[inline(never)]
-fn push_mark<A: Allocator>(
-    marks: &mut Vec<Mark, A>,
-    steps: &mut Vec<Step, A>,
-    row: OrderRow,
-) -> Result<bool, OutOfMemory>
-    requires { AreMarks marks.old.items (length steps.old.items) }
-    ensures near { IfOk result (λ near. rows_from marks.new.items 0 steps.new.items
-        ≡ (if near then rows_from marks.old.items 0 steps.old.items ++ row ∷ []
-        else rows_from marks.old.items 0 steps.old.items)) }
-    ensures unchanged { OnErr result (rows_from marks.new.items 0 steps.new.items
-        ≡ rows_from marks.old.items 0 steps.old.items) }
-    ensures marks { AreMarks marks.new.items (length steps.new.items) }
-{
-    if marks.len() > steps.len() / 2 {
-        return Ok(false);
-    }
-    let mark = Mark::of(steps.len(), row);
-    match mark.step(row) {
-        Some(step) => {
-            push(marks, mark)?;
-            push(steps, step)?;
-            Ok(true)
-        }
-        None => Ok(false),
-    }
-}
-
-/// Adds a row that is near the last mark or may have one of its own, and says whether it did.
+/// Adds a row that is near the last mark, or gives it one of its own, if there are two rows or more to each mark; and
+/// says whether it did.
 #[inline(always)]
 fn push_row<A: Allocator>(
     marks: &mut Vec<Mark, A>,
@@ -111,10 +56,20 @@ fn push_row<A: Allocator>(
         ≡ rows_from marks.old.items 0 steps.old.items) }
     ensures marks { AreMarks marks.new.items (length steps.new.items) }
 {
-    if push_step(marks.as_slice(), steps, row)? {
+    let so_far = marks.as_slice();
+    if let Some(step) = last_of(so_far, so_far.len()).step(row) {
+        push(steps, step)?;
         return Ok(true);
     }
-    push_mark(marks, steps, row)
+    let mark = Mark::of(steps.len(), row);
+    match mark.step(row) {
+        Some(step) if marks.len() <= steps.len() / 2 => {
+            push(marks, mark)?;
+            push(steps, step)?;
+            Ok(true)
+        }
+        _ => Ok(false),
+    }
 }
 
 /// Whether rows go on rising with this reference behind those that there are.
@@ -202,7 +157,7 @@ impl<A: Allocator> LeanRows<A> {
         requires { index < length self.now }
         ensures { result ≡ slice_index_or self.now index result }
     {
-        row_at(self.marks.as_slice(), self.steps.as_slice(), 1, index)
+        row_at(self.marks.as_slice(), self.steps.as_slice(), 0, index)
     }
 
     /// The rows where they are, if there are some and each has a greater reference than the row before it.

@@ -1,7 +1,7 @@
 //! Order rows, one after the other.
 ghost use Rattle.std.specs.Iterator.{YieldsFirst, item_count};
 
-use crate::step::{Mark, Step, begun, row_of};
+use crate::step::{Mark, Step, begun, last_of};
 use crate::wide::Wide;
 use row_types::OrderRow;
 use std::marker::Model;
@@ -43,7 +43,7 @@ impl<'a> Iterator for OrderRows<'a> {
             self.begun = begun(self.marks, self.begun, self.index);
             self.index += 1;
             self.steps = rest;
-            return Some(row_of(self.marks, self.begun, *step));
+            return Some(last_of(self.marks, self.begun).row(*step));
         }
         let (first, rest) = self.wide.split_first()?;
         self.wide = rest;

@@ -1,5 +1,5 @@
 //! Order rows in 8 bytes each.
-ghost use Rattle.std.specs.Prelude.{◌≡◌, ◌<◌, ◌≤◌, ◌∷◌, IsTrue, length, slice_index_or};
+ghost use Rattle.std.specs.Prelude.{◌≡◌, ◌<◌, ◌≤◌, ◌∷◌, length, slice_index_or};
 ghost use Rattle.std.specs.Option.{IfSome};
 ghost use Rattle.order_list.specs.ShortRows.{AreInOrder, Begun, row_of_step, rows_from, start};
 
@@ -80,19 +80,34 @@ impl Mark {
     }
 }
 
-/// How many marks begin at the index or before it. This many, or one more, is looked at first.
+/// The last of so many marks, and one of all zeros if there is none.
+#[inline(always)]
+pub(crate) fn last_of(marks: &[Mark], count: usize) -> Mark
+    requires { count ≤ length marks.now }
+    ensures { result ≡ slice_index_or (start ∷ marks.now) count start }
+{
+    if count == 0 {
+        return Mark {
+            first: 0,
+            order_no: 0,
+            place: 0,
+        };
+    }
+    marks[count - 1]
+}
+
+/// How many marks begin at the index or before it; this many are looked at first.
 #[inline(always)]
 pub(crate) fn begun(marks: &[Mark], guess: usize, index: usize) -> usize
     requires { AreInOrder marks.now }
     ensures few { result ≤ length marks.now }
     ensures begun { Begun marks.now index result }
 {
-    if are_begun(marks, guess, index) {
+    if guess <= marks.len()
+        && last_of(marks, guess).first <= index
+        && (guess == marks.len() || index < marks[guess].first)
+    {
         return guess;
-    }
-    let next = guess.saturating_add(1);
-    if are_begun(marks, next, index) {
-        return next;
     }
     begun_of_all(marks, index)
 }
@@ -108,42 +123,12 @@ fn begun_of_all(marks: &[Mark], index: usize) -> usize
     marks.partition_point(|mark| mark.first <= index)
 }
 
-/// Whether so many marks begin at the index or before it.
-#[inline(always)]
-fn are_begun(marks: &[Mark], count: usize, index: usize) -> bool
-    requires { AreInOrder marks.now }
-    ensures few { IsTrue result → count ≤ length marks.now }
-    ensures begun { IsTrue result → Begun marks.now index count }
-{
-    count <= marks.len()
-        && (count == 0 || marks[count - 1].first <= index)
-        && (count == marks.len() || index < marks[count].first)
-}
-
-/// The row of a step, where so many marks have begun.
-#[inline(always)]
-pub(crate) fn row_of(marks: &[Mark], begun: usize, step: Step) -> OrderRow
-    requires { begun ≤ length marks.now }
-    ensures { result ≡ row_of_step (slice_index_or (start ∷ marks.now) begun start) step }
-{
-    let mark = if begun == 0 {
-        Mark {
-            first: 0,
-            order_no: 0,
-            place: 0,
-        }
-    } else {
-        marks[begun - 1]
-    };
-    mark.row(step)
-}
-
-/// The row of this index, which counts from the last of about so many marks.
+/// The row of this index. It counts from the last of about so many marks.
 #[inline(always)]
 pub(crate) fn row_at(marks: &[Mark], steps: &[Step], guess: usize, index: usize) -> OrderRow
     requires in_order { AreInOrder marks.now }
     requires within { index < length steps.now }
     ensures { result ≡ slice_index_or (rows_from marks.now 0 steps.now) index result }
 {
-    row_of(marks, begun(marks, guess, index), steps[index])
+    last_of(marks, begun(marks, guess, index)).row(steps[index])
 }
