@@ -9,7 +9,7 @@ use std::test::Fail;
 /// Farther than a place or a reference may be from that of a mark.
 const FAR: u64 = 1 << 33;
 
-/// References and places of lists: of no rows, of lean ones at one mark and at several, and of some that get none.
+/// References and places of lists: of no rows, of lean ones at one mark, at several and before all, and of wide ones.
 const LISTS: [&[(u64, u64)]; 11] = [
     &[],
     &[(3, 100), (4, 140), (2, 180)],
@@ -154,11 +154,11 @@ fn rows_are_near_by_reference(rt: HostRuntime) -> Result<(), Fail> {
     for first in FIRST {
         let lowest = first.wrapping_sub(1 << 13);
         for near in [first, lowest, lowest.wrapping_add((1 << 14) - 1)] {
-            let lean = are_lean(rt.alloc(), (first, 100), (near, 140))?;
+            let lean = are_lean(rt.alloc(), (first, FAR), (near, FAR + 40))?;
             assert!(rt; lean == Some(true), "{first} {near}");
         }
         for far in [lowest.wrapping_sub(1), lowest.wrapping_add(1 << 14)] {
-            let lean = are_lean(rt.alloc(), (first, 100), (far, 140))?;
+            let lean = are_lean(rt.alloc(), (first, FAR), (far, FAR + 40))?;
             assert!(rt; lean.is_none(), "{first} {far}");
         }
     }
@@ -170,11 +170,15 @@ fn rows_are_near_by_reference(rt: HostRuntime) -> Result<(), Fail> {
 fn rows_are_near_by_place(rt: HostRuntime) -> Result<(), Fail> {
     for first in FIRST {
         for near in [0, 1, (1 << 18) - 1] {
-            let lean = are_lean(rt.alloc(), (7, first), (8, first.wrapping_add(near)))?;
+            let lean = are_lean(
+                rt.alloc(),
+                (FAR, first),
+                (FAR + 1, first.wrapping_add(near)),
+            )?;
             assert!(rt; lean == Some(true), "{first} {near}");
         }
         for far in [u64::MAX, 1 << 18] {
-            let lean = are_lean(rt.alloc(), (7, first), (8, first.wrapping_add(far)))?;
+            let lean = are_lean(rt.alloc(), (FAR, first), (FAR + 1, first.wrapping_add(far)))?;
             assert!(rt; lean.is_none(), "{first} {far}");
         }
     }
@@ -241,7 +245,7 @@ fn a_row_that_is_refused_leaves_the_list(rt: HostRuntime) -> Result<(), Fail> {
 fn used_by_rows(heap: &LocalHeap, near: u64) -> Result<[usize; 3], OutOfMemory> {
     let mut list = OrderList::with_room(heap, 100)?;
     let room = heap.used();
-    push_each(&mut list, near, (0, 100), (1, 0))?;
+    push_each(&mut list, near, (FAR / 2, 100), (1, 0))?;
     let with_near = heap.used();
     push_each(&mut list, 100u64.saturating_sub(near), (FAR, 100), (FAR, 0))?;
     let all = if list.len() == 100 { heap.used() } else { 0 };
