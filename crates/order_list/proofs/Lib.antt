@@ -1,3 +1,3 @@
 pub mod FilteredOrders
-mod SearchedRows
+mod SteppedRows
 mod SetBits

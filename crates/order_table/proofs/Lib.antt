@@ -1,4 +1,4 @@
 pub mod Repeats
 pub mod RowsInOrder
 pub mod PartRows
-mod SearchedRows
+pub mod SearchedRows
