@@ -10,13 +10,10 @@ use Rattle.std.proofs.lemmas.List.Sorted.{ranks_by, sorted_far}
 use Rattle.std.proofs.lemmas.List.{set_at}
 use Rattle.std.proofs.lemmas.Map.Keys.{Less-from_sorted, sorted_from_all_adjacent}
 use Rattle.bars.specs.Bars.{Bar, key_cmp, joined_bar, AllSumsFit, CanJoin, IsByKey, IsUnionOf}
+pub use Rattle.bars.specs.Grids.{no_bar}
 use Rattle.bars.proofs.Bars.{key_total}
 use Rattle.bars.proofs.JoinedTables.{alike_parts, pair_alike, table_has, union_from, union_itself, union_more, union_of_one}
 use Rattle.bars.proofs.SumsAreBounded.{next_fits}
-
--- a bar where there is none
-abbrev pub no_bar : Bar
-no_bar = record { locate = 0; start = 0; first_place = 0; first = 0; high = 0; low = 0; last_place = 0; last = 0; volume = 0; notional = 0; trades = 0 }
 
 -- ---- the next bar
 

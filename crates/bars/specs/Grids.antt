@@ -1,5 +1,5 @@
 -- Bars in the slots of a grid of locates and intervals.
--- To be believed of a crate used by itself: the table of a range is seen as the bars of its slots.
+-- Derived: no public clause cites it.
 use Rattle.std.specs.Prelude.{◌≡◌, ℕ, ◌+◌, ◌-◌, ◌*◌, ◌/◌, ◌<◌, ◌≤◌, ◌^◌, List, [], ◌∷◌, length, get_or, Option, Some, None}
 use Rattle.std.specs.List.{flat_map}
 use Rattle.bars.specs.Bars.{Bar}
@@ -15,6 +15,7 @@ pub record IsIn (grid : Grid) (bar : Bar) (slot : ℕ) : Type 0 where
   pub narrow : column grid bar.start < grid.columns
   pub is : slot ≡ (bar.locate - grid.locate) * grid.columns + column grid bar.start
 
+-- what stands where there is no bar
 abbrev pub no_bar : Bar
 no_bar = record { locate = 0; start = 0; first_place = 0; first = 0; high = 0; low = 0; last_place = 0; last = 0; volume = 0; notional = 0; trades = 0 }
 

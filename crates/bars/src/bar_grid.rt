@@ -63,9 +63,11 @@ impl BarGrid {
     fn empty(alloc: Global, grid: Grid, slots: usize, keys: usize) -> Result<BarGrid, OutOfMemory>
         ensures { IfOk result (λ bars. bars ≡ []) }
     {
+        let mut numbers = Vec::with_capacity(alloc, slots)?;
+        numbers.resize(slots, None)?;
         Ok(BarGrid {
             grid,
-            slots: vec![in alloc; None; slots]?,
+            slots: numbers,
             bars: Vec::with_capacity(alloc, keys.min(slots))?,
         })
     }
