@@ -6,11 +6,11 @@ use crate::bar::Bar;
 use crate::keyed::Keyed;
 use lists::limits::NANOSECONDS;
 
-/// How many slots a grid has at most. A table of them then takes half a mebibyte at most.
-const MOST_SLOTS: u64 = 131_072;
+/// How many slots a grid has at most. A list of them then takes a mebibyte at most.
+const MOST_SLOTS: u64 = 262_144;
 
-/// How many slots it has at most for each sale or bar. With more, it takes longer to look at the slots than to sort.
-const SLOTS_A_KEY: u64 = 16;
+/// How many slots it has at most for each sale or bar. With more, to look at all slots soon takes as long as to sort.
+const SLOTS_A_KEY: u64 = 32;
 
 /// A row of slots for each locate, and in it one for each interval. The slot of a bar depends on its locate and its
 /// start alone, and of two bars the one with the greater slot has the greater key. That bars of different keys have
