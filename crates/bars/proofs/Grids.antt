@@ -32,7 +32,8 @@ column_rises : (grid : Grid) (a b : ℕ) → a ≤ b → column grid a ≤ colum
 column_rises grid a b h =
     let behind : a - grid.start ≤ b - grid.start = omega (arith, h) in
     let times = mul-le-mul_right grid.scale behind in
-    le-div (column grid a) ((b - grid.start) * grid.scale) (2 ^ 64) (omega arith) (omega (arith, times, div-mul-le_self ((a - grid.start) * grid.scale) (2 ^ 64)))
+    le-div (column grid a) ((b - grid.start) * grid.scale) (2 ^ 64) (omega arith)
+    (omega (arith, times, div-mul-le_self ((a - grid.start) * grid.scale) (2 ^ 64)))
 
 row_above : (columns m n x y : ℕ) → m < n → x < columns → m * columns + x < n * columns + y
 row_above columns m n x y h narrow = omega (arith, mul-add-lt m columns x n h narrow)
@@ -90,7 +91,8 @@ module _ (grid : Grid) (bars : List Bar) where
       )
 
   pub slots_by_key : (slots : List (Option ℕ)) → AreInSlots grid bars slots → IsByKey (bars_in bars slots)
-  slots_by_key slots are = from_by_key 0 slots (λ slot number h e. let one = are slot number h e in (one.0, subst (IsIn grid (get_or bars number no_bar)) (omega arith) one.1))
+  slots_by_key slots are = from_by_key 0 slots (λ slot number h e.
+      let one = are slot number h e in (one.0, subst (IsIn grid (get_or bars number no_bar)) (omega arith) one.1))
 
 -- ---- a bar put among them
 
@@ -131,7 +133,8 @@ module _ (grid : Grid) (bars : List Bar) (slots : List (Option ℕ)) (are : AreI
   changed new at made one same =
       let before = unmoved bars new front (λ k number h e. grind (arith, elements, same k number)) in
       let behind = unmoved bars new rest (λ k number h e. grind (arith, elements, same (slot + 1 + k) number)) in
-      rw (set_split slots slot at within, flat_map-append (bar_in new) front (at ∷ rest), before) (ap (λ m. bars_in bars front ++ m) (ap₂ (λ a b. a ++ b) one behind))
+      rw (set_split slots slot at within, flat_map-append (bar_in new) front (at ∷ rest), before)
+      (ap (λ m. bars_in bars front ++ m) (ap₂ (λ a b. a ++ b) one behind))
 
   slots_now : (at : Option ℕ) → get_or slots slot None ≡ at → bars_in bars slots ≡ bars_in bars front ++ (bar_in bars at ++ bars_in bars rest)
   slots_now at e =
@@ -148,7 +151,8 @@ module _ (grid : Grid) (bars : List Bar) (slots : List (Option ℕ)) (are : AreI
       × IsUnionOf (bars_in bars slots ++ bar ∷ []) (bars_in (bars ++ bar ∷ []) (set slots slot (Some (length bars))))
   put_in e =
       let new : AreInSlots grid (bars ++ bar ∷ []) (set slots slot (Some (length bars))) = λ k number h f. grind (arith, elements, are k number) in
-      let made = changed (bars ++ bar ∷ []) (Some (length bars)) bar (grind (arith, elements)) (λ k number h differs f. grind (arith, elements, are k number)) in (
+      let made = changed (bars ++ bar ∷ []) (Some (length bars)) bar (grind (arith, elements))
+      (λ k number h differs f. grind (arith, elements, are k number)) in (
         new,
         union_from _ _ (slots_by_key grid _ _ new)
             (rw (made, slots_now None e) (moved_behind (bars_in bars front) (bars_in bars rest) bar rest_below)),

@@ -8,7 +8,6 @@ use Rattle.bars.proofs.bar_grid.BarGrid.add.Goals as goal
 
 pub index-requires : goal.index-requires
 index-requires c =
-    let lookup = c.in-Some-Some.ensures.lookup in
     let there : get_or c.self.inside.slots.items c.in-Some.slot None ≡ Some c.from-number.result = grind (arith, get_or_default) in
     let within : c.in-Some.slot < length c.self.inside.slots.items = grind (arith) in
     omega (arith, (c.self.invariant c.in-Some.slot c.from-number.result within there).0, c.self.inside.bars.ok.0)
@@ -36,8 +35,8 @@ invariant_of-self c =
     let known = (c.self.invariant c.in-Some.slot c.from-number.result within there).0 in
     let kept = c.index.ensures ∙ get_or_default c.self.inside.bars.items c.from-number.result c.index.result.now no_bar known in
     let same : key_cmp c.index.result.now c.args.bar.now ≡ Equal = equal_from _ (sym c.has_key_of.ensures ∙ c.if-not-has_key_of.false) in
-    rw c.join.ensures.value (join_in c.self.inside.grid c.self.inside.bars.items c.self.inside.slots.items c.self.invariant c.args.bar.now c.in-Some.slot within c.in-Some.ensures
-    c.from-number.result c.index.result.now there kept same).0
+    rw c.join.ensures.value (join_in c.self.inside.grid c.self.inside.bars.items c.self.inside.slots.items c.self.invariant
+    c.args.bar.now c.in-Some.slot within c.in-Some.ensures c.from-number.result c.index.result.now there kept same).0
 
 pub invariant_of-self-in_err-push-in-Some-None : goal.invariant_of-self-in_err-push-in-Some-None
 invariant_of-self-in_err-push-in-Some-None c = rw c.in_err-push-in-Some-None.ensures.items c.self.invariant
@@ -48,7 +47,8 @@ invariant_of-self-in-Some-None c =
     let within : c.in-Some.slot < length c.self.inside.slots.items = grind (arith) in
     let number : c.in-Ok.number ≡ length c.self.inside.bars.items = omega (arith, c.in-Ok.ensures, c.len.ensures, c.self.inside.bars.ok.0) in
     rw (c.in_ok-push-in-Some-None.ensures.items, number)
-    (put_in c.self.inside.grid c.self.inside.bars.items c.self.inside.slots.items c.self.invariant c.args.bar.now c.in-Some.slot within c.in-Some.ensures there).0
+    (put_in c.self.inside.grid c.self.inside.bars.items c.self.inside.slots.items c.self.invariant
+    c.args.bar.now c.in-Some.slot within c.in-Some.ensures there).0
 
 pub returns-else-not-has_key_of : goal.returns-else-not-has_key_of
 returns-else-not-has_key_of c = λ _.
@@ -57,8 +57,8 @@ returns-else-not-has_key_of c = λ _.
     let known = (c.self.invariant c.in-Some.slot c.from-number.result within there).0 in
     let kept = c.index.ensures ∙ get_or_default c.self.inside.bars.items c.from-number.result c.index.result.now no_bar known in
     let same : key_cmp c.index.result.now c.args.bar.now ≡ Equal = equal_from _ (sym c.has_key_of.ensures ∙ c.if-not-has_key_of.false) in
-    rw (← c.self.view_is, c.join.ensures.value) (join_in c.self.inside.grid c.self.inside.bars.items c.self.inside.slots.items c.self.invariant c.args.bar.now c.in-Some.slot within c.in-Some.ensures
-    c.from-number.result c.index.result.now there kept same).1
+    rw (← c.self.view_is, c.join.ensures.value) (join_in c.self.inside.grid c.self.inside.bars.items c.self.inside.slots.items c.self.invariant
+    c.args.bar.now c.in-Some.slot within c.in-Some.ensures c.from-number.result c.index.result.now there kept same).1
 
 pub returns-in_ok-push-in-Some-None : goal.returns-in_ok-push-in-Some-None
 returns-in_ok-push-in-Some-None c = λ _.
@@ -66,4 +66,5 @@ returns-in_ok-push-in-Some-None c = λ _.
     let within : c.in-Some.slot < length c.self.inside.slots.items = grind (arith) in
     let number : c.in-Ok.number ≡ length c.self.inside.bars.items = omega (arith, c.in-Ok.ensures, c.len.ensures, c.self.inside.bars.ok.0) in
     rw (← c.self.view_is, c.in_ok-push-in-Some-None.ensures.items, number)
-    (put_in c.self.inside.grid c.self.inside.bars.items c.self.inside.slots.items c.self.invariant c.args.bar.now c.in-Some.slot within c.in-Some.ensures there).1
+    (put_in c.self.inside.grid c.self.inside.bars.items c.self.inside.slots.items c.self.invariant
+    c.args.bar.now c.in-Some.slot within c.in-Some.ensures there).1
