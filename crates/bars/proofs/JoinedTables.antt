@@ -58,7 +58,7 @@ pub pair_alike : (a b : Bar) → key_cmp a b ≡ Equal → AreJoinedAlike (joine
 pair_alike a b e key = grind (arith, same_has)
 
 -- above a bar there is none of its key
-none_above : (bar : Bar) (bars : List Bar) (key : Key) → AllByRecursion (λ z. key_cmp bar z ≡ Less) bars → has bar key ≡ true → under key bars ≡ []
+pub none_above : (bar : Bar) (bars : List Bar) (key : Key) → AllByRecursion (λ z. key_cmp bar z ≡ Less) bars → has bar key ≡ true → under key bars ≡ []
 none_above bar [] key above t = refl
 none_above bar (z ∷ bars) key above t = rw (higher_misses bar z key above.0 t) (none_above bar bars key above.1 t)
 

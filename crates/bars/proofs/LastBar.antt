@@ -10,13 +10,10 @@ use Rattle.std.proofs.lemmas.List.Sorted.{ranks_by, sorted_far}
 use Rattle.std.proofs.lemmas.List.{set_at}
 use Rattle.std.proofs.lemmas.Map.Keys.{Less-from_sorted, sorted_from_all_adjacent}
 use Rattle.bars.specs.Bars.{Bar, key_cmp, joined_bar, AllSumsFit, CanJoin, IsByKey, IsUnionOf}
+pub use Rattle.bars.specs.Grids.{no_bar}
 use Rattle.bars.proofs.Bars.{key_total}
 use Rattle.bars.proofs.JoinedTables.{alike_parts, pair_alike, table_has, union_from, union_itself, union_more, union_of_one}
 use Rattle.bars.proofs.SumsAreBounded.{next_fits}
-
--- a bar where there is none
-abbrev pub no_bar : Bar
-no_bar = record { locate = 0; start = 0; first_place = 0; first = 0; high = 0; low = 0; last_place = 0; last = 0; volume = 0; notional = 0; trades = 0 }
 
 -- ---- the next bar
 
@@ -87,6 +84,18 @@ next_can_add sorted table i d rise fit within union =
           grind (arith, nat_tests, get_or-take, get_or_default sorted i e d));
       sums = λ kept there same. next_fits sorted table i d kept within union fit there same;
     }
+
+-- a bar that is joined to what those before it are joined to, wherever it comes: with one of its key its sums fit, and one bar more is joined
+pub next_anywhere : {X : Type 0} (f : X → Bar) (xs : List X) (i : ℕ) (d : X) (bar : Bar) (table : List Bar) → AllSumsFit (map f xs)
+    → i < length xs → bar ≡ f (get_or xs i d) → IsUnionOf (take i (map f xs)) table
+    → ((kept : Bar) → Contains table kept → key_cmp kept bar ≡ Equal → CanJoin kept bar)
+    × ((new : List Bar) → IsUnionOf (table ++ bar ∷ []) new → IsUnionOf (take (i + 1) (map f xs)) new)
+next_anywhere f xs i d bar table fit within is union =
+    let n = length-map xs f in
+    let here : get_or (map f xs) i no_bar ≡ bar = get_or-map f xs i d no_bar within ∙ sym is in (
+      λ kept there same. rw here at (next_fits (map f xs) table i no_bar kept (omega (arith, n)) union fit there (rw here same)),
+      λ new made. grind (arith, union_more (map f xs) i no_bar table new),
+    )
 
 -- so can that of the next of what has bars, and with it one bar more is joined
 pub next_bar : {X : Type 0} (f : X → Bar) (xs : List X) (i : ℕ) (d : X) (bar : Bar) (table : List Bar) → IsSorted key_cmp (map f xs) → AllSumsFit (map f xs)

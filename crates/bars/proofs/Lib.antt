@@ -1,4 +1,5 @@
 pub mod Bars
+pub mod Grids
 pub mod BarsInRanges
 pub mod JoinedTables
 pub mod LastBar

@@ -1,19 +1,20 @@
 //! The lines of many tables, of ranges of locates by threads.
 ghost use Rattle.std.specs.Prelude.{◌≡◌, ◌<◌, ◌++◌, All, IfOk, OnOk, List, filter, map};
-ghost use Rattle.std.specs.List.Sorted.{IsSorted};
 ghost use Rattle.lists.specs.declared.limits.TheConstants.{TIME_LIMIT};
 ghost use Rattle.time_and_sales.specs.Ranges.{all_items, is_in_first};
 ghost use Rattle.time_and_sales.specs.Lent.{lent};
 ghost use Rattle.time_and_sales.specs.Names.{names_by};
-ghost use Rattle.bars.specs.Bars.{AllSumsFit, FitIfTraded, IsTraded, IsUnionOf, all_bars, key_cmp};
+ghost use Rattle.bars.specs.Bars.{AllSumsFit, FitIfTraded, IsTraded, IsUnionOf, all_bars};
 ghost use Rattle.bars.specs.Steps.{AreJoinedAlike, AreOfForm, bar_at, bars_of_form};
 ghost use Rattle.bars.specs.Texts.{lines_text};
 ghost use Rattle.bars.specs.declared.bar.Bar.{Bar as TheBar};
 
 use crate::OutOfMemory;
 use crate::bar::Bar;
+use crate::bar_grid::BarGrid;
 use crate::bucket_bars::BucketBars;
 use crate::form::Form;
+use crate::grid::Grid;
 use crate::joined_lines::joined_lines;
 use crate::keyed::{Keyed, append_bars, append_sales};
 use crate::located::ByLocate;
@@ -94,26 +95,40 @@ fn range_lines(
         text.items ≡ lines_text (names_by names.now)
         (filter (is_in_first (λ bar. bar.locate) bounds.now) all)) }
 {
-    let sorted = range_of(alloc, tables, bounds)?;
-    joined_lines(alloc, sorted.as_slice(), names)
+    let keyed = gathered(alloc, tables, bounds)?;
+    lines_of(alloc, keyed, width_of(tables), names)
 }
 
-/// What is kept of all tables of locates in the first range, in order of the keys of the bars.
-fn range_of<'a>(
+/// The width in seconds, unless all bars are made.
+fn width_of(tables: &[&BucketBars]) -> Option<u32> {
+    for table in tables {
+        if let Form::Sales { width, .. } = table.form() {
+            return Some(*width);
+        }
+    }
+    None
+}
+
+/// The lines of what there is, each sale or bar beside its key, those of one key joined: in the slots of a grid, or
+/// where that would be too large, one after the other in order of their keys.
+fn lines_of(
     alloc: Global,
-    tables: &[&'a BucketBars],
-    bounds: &[u64],
-) -> Result<Vec<Keyed<'a>>, OutOfMemory>
-    requires { FitIfTraded (all_bars (lent tables.now)) }
-    ensures rise { IfOk result (λ sorted. IsSorted key_cmp (map bar_at sorted.items)) }
-    ensures alike { IfOk result (λ sorted. AreJoinedAlike (map bar_at sorted.items)
-        (filter (is_in_first (λ bar. bar.locate) bounds.now) (all_bars (lent tables.now)))) }
-    ensures traded { IfOk result (λ sorted. All IsTraded (map bar_at sorted.items)) }
-    ensures sums { IfOk result (λ sorted. AllSumsFit (map bar_at sorted.items)) }
+    mut keyed: Vec<Keyed>,
+    width: Option<u32>,
+    names: &Names,
+) -> Result<Vec<u8>, OutOfMemory>
+    requires told { All (λ bar. IsTraded bar × (bar.start < TIME_LIMIT)) (map bar_at keyed.items) }
+    requires sums { AllSumsFit (map bar_at keyed.items) }
+    ensures { IfOk result (λ text. (all : List TheBar) → IsUnionOf (map bar_at keyed.entry.items) all →
+        text.items ≡ lines_text (names_by names.now) all) }
 {
-    let mut keyed = gathered(alloc, tables, bounds)?;
+    if let Some((grid, slots)) = Grid::of(keyed.as_slice(), width) {
+        if let Some(bars) = BarGrid::of(alloc, keyed.as_slice(), grid, slots)? {
+            return bars.lines(alloc, names);
+        }
+    }
     keyed.sort_by_key(|one| one.key())?;
-    Ok(keyed)
+    joined_lines(alloc, keyed.as_slice(), names)
 }
 
 /// What is kept of all tables of locates in the first range, each sale or bar beside its key.

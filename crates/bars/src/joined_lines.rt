@@ -15,7 +15,7 @@ use std::alloc::Global;
 use time_and_sales::{Name, Names};
 
 /// How many bytes most lines have at most.
-const USUAL_LINE: usize = 72;
+pub(crate) const USUAL_LINE: usize = 72;
 
 /// The lines of the bars of sales in order of their keys, each under the name of its locate. No bar
 /// is made but the one that the next line is of.
@@ -52,7 +52,7 @@ pub(crate) fn joined_lines(
 
 /// The name of a locate, which isn't looked up if it is the same locate as before.
 #[inline]
-fn next_name(names: &Names, name: Name, before: u16, locate: u16) -> Name
+pub(crate) fn next_name(names: &Names, name: Name, before: u16, locate: u16) -> Name
     requires { name ≡ names_by names.now before }
     ensures { result ≡ names_by names.now locate }
 {

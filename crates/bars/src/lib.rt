@@ -6,10 +6,12 @@
 
 mod average;
 mod bar;
+mod bar_grid;
 mod bar_table;
 mod bars_in_ranges;
 mod bucket_bars;
 mod form;
+mod grid;
 mod joined_lines;
 mod keyed;
 mod located;

@@ -44,8 +44,8 @@ fn minutes(alloc: Global, sales: &[Sale]) -> Result<BucketBars, OutOfMemory>
 }
 
 /// Tables of four locates, of which 7 has bars in all three, and 9 in two of them. The bar of the
-/// third is made, since it has three sales.
-fn tables(alloc: Global) -> Result<(BucketBars, BucketBars, BucketBars), OutOfMemory>
+/// third is made, since it has three sales. The greatest locate is `last`.
+fn tables(alloc: Global, last: u16) -> Result<(BucketBars, BucketBars, BucketBars), OutOfMemory>
     ensures sums { IfOk result (λ three. AllSumsFit (all_bars (three.0 ∷ three.1 ∷ three.2 ∷ []))) }
     ensures starts { IfOk result (λ three.
         All (λ bar. bar.start < TIME_LIMIT) (all_bars (three.0 ∷ three.1 ∷ three.2 ∷ []))) }
@@ -59,7 +59,7 @@ fn tables(alloc: Global) -> Result<(BucketBars, BucketBars, BucketBars), OutOfMe
         sale(20, 7, 3, 26_000),
         sale(50, 8, 4, 40_000),
         sale(80, 9, 5, 31_000),
-        sale(81, 12, 6, 10_000),
+        sale(81, last, 6, 10_000),
     ];
     let third = [
         sale(6, 7, 10, 22_000),
@@ -117,7 +117,7 @@ pub(crate) fn joined(alloc: Global, pieces: &[Vec<u8>]) -> Result<Vec<u8>, OutOf
 
 #[test]
 fn bars_are_made_of_three_sales_each(rt: HostRuntime) -> Result<(), Fail> {
-    let (one, other, third) = tables(rt.alloc())?;
+    let (one, other, third) = tables(rt.alloc(), 12)?;
     let pair = minutes(rt.alloc(), &[sale(6, 7, 10, 22_000), sale(5, 7, 0, 15_000)])?;
     assert!(rt; matches!(pair.form(), Form::Sales { .. }));
     assert!(rt; matches!(one.form(), Form::Sales { .. }));
@@ -127,8 +127,8 @@ fn bars_are_made_of_three_sales_each(rt: HostRuntime) -> Result<(), Fail> {
 }
 
 /// The lines of the bars of all tables joined.
-fn lines_of_one_table(alloc: Global) -> Result<Vec<u8>, OutOfMemory> {
-    let (one, other, third) = tables(alloc)?;
+fn lines_of_one_table(alloc: Global, last: u16) -> Result<Vec<u8>, OutOfMemory> {
+    let (one, other, third) = tables(alloc, last)?;
     let first = one.table(alloc)?;
     let second = other.table(alloc)?;
     let last = third.table(alloc)?;
@@ -140,9 +140,10 @@ fn lines_of_one_table(alloc: Global) -> Result<Vec<u8>, OutOfMemory> {
 fn lines_by_ranges(
     rt: &(impl Threads + Sync),
     alloc: Global,
+    last: u16,
     ranges: u32,
 ) -> Result<(Vec<u8>, usize), OutOfMemory> {
-    let (one, other, third) = tables(alloc)?;
+    let (one, other, third) = tables(alloc, last)?;
     let names = names(alloc)?;
     let pieces = lines_in_ranges(rt, alloc, &[&one, &other, &third], &names, ranges)?;
     Ok((joined(alloc, pieces.as_slice())?, pieces.len()))
@@ -150,11 +151,21 @@ fn lines_by_ranges(
 
 #[test]
 fn lines_of_bars_in_ranges_are_those_of_one_table(rt: HostRuntime) -> Result<(), Fail> {
-    assert!(rt; lines_of_one_table(rt.alloc())?.as_slice() == LINES.as_bytes());
+    assert!(rt; lines_of_one_table(rt.alloc(), 12)?.as_slice() == LINES.as_bytes());
     for ranges in [1, 2, 3, 5, 100] {
-        let (text, pieces) = lines_by_ranges(&rt, rt.alloc(), ranges)?;
+        let (text, pieces) = lines_by_ranges(&rt, rt.alloc(), 12, ranges)?;
         assert!(rt; pieces == ranges as usize, "{ranges}");
         assert!(rt; text.as_slice() == LINES.as_bytes(), "{ranges}");
+    }
+    Ok(())
+}
+
+#[test]
+fn lines_of_locates_far_apart_are_those_of_one_table(rt: HostRuntime) -> Result<(), Fail> {
+    let lines = lines_of_one_table(rt.alloc(), 60_000)?;
+    for ranges in [1, 3] {
+        let (text, _) = lines_by_ranges(&rt, rt.alloc(), 60_000, ranges)?;
+        assert!(rt; text.as_slice() == lines.as_slice(), "{ranges}");
     }
     Ok(())
 }
