@@ -1,3 +1,4 @@
 mod EachOnce
+mod OneOutcome
 mod OneRehearsal
 mod Rehearsed
