@@ -1,4 +1,5 @@
 mod EachOnce
+mod OneOutcome
 mod OneRehearsal
 mod Rehearsed
 pub mod Steps

@@ -1,2 +1,3 @@
+pub mod Outcomes
 pub mod Rehearsals
 pub mod Steps

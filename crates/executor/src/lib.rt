@@ -5,12 +5,14 @@
 
 mod answering;
 mod joined;
+mod outcome_law;
 mod refused;
 mod rehearsal_laws;
 mod rehearsing;
 
 pub use answering::plain;
 pub use answers::one_answer;
+pub use outcome_law::one_outcome_of_a_cut;
 pub use rehearsal_laws::{
     all_arrived_answers, each_once_answers, one_rehearsal, schedules_and_threads_agree,
 };
@@ -18,7 +20,7 @@ pub use rehearsing::{Rehearsal, rehearse};
 pub use runs::{
     Answer, BlockSource, Counted, CountedSink, Crew, Cut, DayFault, DayFile, DeviceFailed,
     Division, FileBlocks, FreeGate, Gate, LONGEST_FILE, OutOfMemory, Query, QueryFault, ReadsAt,
-    RunFault, Settings, Sink, Source, Text, What, WriteFailed, answer, answer_blocks, deliver,
-    parse, run, run_blocks,
+    RunFault, Settings, Sink, Source, Text, What, WriteFailed, answer, answer_alone, answer_blocks,
+    answer_blocks_alone, deliver, parse, run, run_blocks, run_blocks_alone,
 };
 pub use schedules::Event;

@@ -1,11 +1,12 @@
 //! Pipelines of work on threads: one (`run_pipeline`), or two, of which the second works on what a link makes
-//! of the first one's total (`run_pair`; `run_both`, also on the caller's thread alone).
+//! of the first one's total (`run_pair`; `run_alone`, on the caller's thread and without any handle).
 //!
 //! Workers claim tasks of a dispatcher, run them and send the pieces to gatherers, of which the
 //! caller's thread is the first. The caller runs itself what no worker brought. Neither the crew nor the
 //! schedule of its threads changes a total or an answer.
 #![tactic(auto)]
 
+mod alone;
 mod by_number;
 mod channel_port;
 mod employ;
@@ -15,6 +16,7 @@ pub mod outcome_law;
 mod pair;
 mod pipeline;
 
+pub use alone::run_alone;
 pub use channel_port::ChannelPort;
 pub use dispatcher::{Dispatcher, Seat};
 pub use gatherers::{
@@ -23,6 +25,6 @@ pub use gatherers::{
 pub use gathering::{Gathering, Inputs, Link, Linked, OutOfMemory, Piece, Work};
 pub use outcome::Outcome;
 pub use outcomes::Crew;
-pub use pair::{run_both, run_first, run_pair, run_second};
+pub use pair::{run_first, run_pair, run_second};
 pub use pipeline::run_pipeline;
 pub use workers::{FreeGate, Gate, Port, run_missing, run_task, work};

@@ -25,20 +25,6 @@ pub fn run_pair<A: Work, B: Work, L: Link<A, B>, G: Gate, R: Threads + Wait + Sy
 ) -> Result<Outcome<B::Total, L::Kept, L::Stop>, OutOfMemory>
     ensures { IfOk result (IsOutcome (A.IsTotalOf (arc_value inputs)) (L.Links link.now) B.IsTotalOf) }
 {
-    run_both(rt, alloc, inputs, link, Some(crew), gate)
-}
-
-/// Runs both pipelines as `run_pair` does, or without a crew on the caller's thread alone.
-pub fn run_both<A: Work, B: Work, L: Link<A, B>, G: Gate, R: Threads + Wait + Sync>(
-    rt: &R,
-    alloc: Global,
-    inputs: Arc<Inputs<A>, Global>,
-    link: &L,
-    crew: Option<Crew>,
-    gate: &G,
-) -> Result<Outcome<B::Total, L::Kept, L::Stop>, OutOfMemory>
-    ensures { IfOk result (IsOutcome (A.IsTotalOf (arc_value inputs)) (L.Links link.now) B.IsTotalOf) }
-{
     thread::scope(
         thread::scope_env(),
         rt,
@@ -52,29 +38,29 @@ pub fn run_both<A: Work, B: Work, L: Link<A, B>, G: Gate, R: Threads + Wait + Sy
     )
 }
 
-/// Runs the first pipeline alone, as `run_both` does, and gives the total of all inputs.
+/// Runs the first pipeline alone, as `run_pair` does, and gives the total of all inputs.
 pub fn run_first<W: Work, G: Gate, R: Threads + Wait + Sync>(
     rt: &R,
     alloc: Global,
     inputs: &Arc<Inputs<W>, Global>,
-    crew: Option<Crew>,
+    crew: Crew,
     gate: &G,
 ) -> Result<W::Total, OutOfMemory>
     ensures total { IfOk result (λ total. W.IsTotalOf (arc_value inputs.now) total) }
     ensures admissible { OnOk result (W.IsAdmissible (arc_value inputs.now)) }
 {
     let inputs = Arc::try_clone(inputs)?;
-    run_alone(rt, alloc, inputs, crew, gate, 1)
+    run_on_threads(rt, alloc, inputs, crew, gate, 1)
 }
 
 /// Links a total, which some inputs of the first pipeline have, and runs the second pipeline alone, as
-/// `run_both` does once the first is done.
+/// `run_pair` does once the first is done.
 pub fn run_second<A: Work, B: Work, L: Link<A, B>, G: Gate, R: Threads + Wait + Sync>(
     rt: &R,
     alloc: Global,
     total: A::Total,
     link: &L,
-    crew: Option<Crew>,
+    crew: Crew,
     gate: &G,
 ) -> Result<Outcome<B::Total, L::Kept, L::Stop>, OutOfMemory>
     requires total { IsTotal A.IsTotalOf A.IsAdmissible total }
@@ -84,18 +70,18 @@ pub fn run_second<A: Work, B: Work, L: Link<A, B>, G: Gate, R: Threads + Wait + 
         Linked::Halt { stop } => Ok(Outcome::Stopped { stop }),
         Linked::Next { inputs, kept } => {
             let inputs = Arc::new(alloc, inputs)?;
-            let total = run_alone(rt, alloc, inputs, crew, gate, 2)?;
+            let total = run_on_threads(rt, alloc, inputs, crew, gate, 2)?;
             Ok(Outcome::Finished { total, kept })
         }
     }
 }
 
 /// Runs the pipeline of this number alone, and waits at the end for all its workers.
-fn run_alone<W: Work, G: Gate, R: Threads + Wait + Sync>(
+fn run_on_threads<W: Work, G: Gate, R: Threads + Wait + Sync>(
     rt: &R,
     alloc: Global,
     inputs: Arc<Inputs<W>, Global>,
-    crew: Option<Crew>,
+    crew: Crew,
     gate: &G,
     number: u8,
 ) -> Result<W::Total, OutOfMemory>

@@ -12,11 +12,10 @@ use std::sync::{Arc, Wait};
 use std::thread::{Scope, Threads};
 use workers::{Gate, run_missing};
 
-/// The total of all inputs of one pipeline. If there is a crew and a task, it starts the crew's workers on
-/// threads of their own; without a crew the caller's thread runs all tasks. The crew's gatherers gather: the
-/// caller's thread, and if there are more each on a thread of its own. A worker sends its pieces to the gatherer
-/// of its number modulo theirs. The caller's thread runs itself the tasks whose pieces no worker brought: one
-/// that couldn't be made or sent is among them.
+/// The total of all inputs of one pipeline. If there is a task, it starts the crew's workers on threads of their
+/// own. The crew's gatherers gather: the caller's thread, and if there are more each on a thread of its own. A
+/// worker sends its pieces to the gatherer of its number modulo theirs. The caller's thread runs itself the tasks
+/// whose pieces no worker brought: one that couldn't be made or sent is among them.
 ///
 /// It waits for the pieces: with one gatherer until all tasks are covered, whatever a slow worker still holds,
 /// with several until all workers have ended, and then merges what was gathered. A thread, a seat or a channel
@@ -26,7 +25,7 @@ pub fn run_pipeline<'s, E, W: Work + 's, G: Gate, R: Threads + Wait + Sync>(
     rt: &'s R,
     alloc: Global,
     inputs: Arc<Inputs<W>, Global>,
-    crew: Option<Crew>,
+    crew: Crew,
     gate: &'s G,
     number: u8,
 ) -> Result<W::Total, OutOfMemory>
@@ -43,7 +42,7 @@ fn run_known<'s, E, W: Work + 's, K: Known<W::Input> + 's, G: Gate, R: Threads +
     rt: &'s R,
     alloc: Global,
     inputs: &Inputs<W>,
-    crew: Option<Crew>,
+    crew: Crew,
     gate: &'s G,
     number: u8,
 ) -> Result<W::Total, OutOfMemory>
@@ -61,7 +60,7 @@ fn run_over<'s, E, W: Work + 's, G: Gate, R: Threads + Wait + Sync>(
     rt: &'s R,
     alloc: Global,
     inputs: Arc<Inputs<W>, Global>,
-    crew: Option<Crew>,
+    crew: Crew,
     gate: &'s G,
     number: u8,
 ) -> Result<W::Total, OutOfMemory>
@@ -76,9 +75,7 @@ fn run_over<'s, E, W: Work + 's, G: Gate, R: Threads + Wait + Sync>(
         gate,
         number,
     };
-    if let Some(crew) = crew {
-        pipeline.gather(scope, crew, &mut gathering);
-    }
+    pipeline.gather(scope, crew, &mut gathering);
     pipeline.complete(gathering)
 }
 

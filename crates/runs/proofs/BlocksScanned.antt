@@ -1,5 +1,5 @@
 -- What the blocks of a source give is what the scans of a cut of its bytes do.
-use Rattle.std.proofs.Common.{◌≡◌, ℕ, ◌<◌, List, Option, Result, Ok, Err, arith, refl, subst}
+use Rattle.std.proofs.Common.{◌≡◌, ℕ, ◌<◌, List, Option, Result, Ok, Err, IfErr, IfOk, arith, refl, subst}
 use Rattle.std.specs.List.{concat}
 use Rattle.row_types.specs.declared.directory.DirectoryRow.{DirectoryRow}
 use Rattle.meaning.specs.Meaning.{Meaning}
@@ -18,7 +18,7 @@ use Rattle.block_scan.specs.Pieces.{Asked, IsAskable, IsChained, IsScannedWhole}
 use Rattle.block_scan.specs.declared.block_source.BlockSource.{Ghosts as BlockSourceOf}
 use Rattle.streaming.specs.declared.fault.SourceFault.{SourceFault}
 use Rattle.block_scan.proofs.BlocksAndAttempts.{attempts_of, blocks_are}
-use Rattle.runs.specs.Steps.{IsOutcomeOf, IsScanOf, LinksAttempts}
+use Rattle.runs.specs.Steps.{IsOutcomeOf, IsScanOf, LinksAttempts, found_or_fault}
 use Rattle.runs.proofs.Answered.{IsGiven, Pair, given_of, link_of}
 
 -- the total of the scans of a file is that of one cut
@@ -66,27 +66,20 @@ module _ {S : Type 0} (device : BlockSourceOf S) (asked : Asked S) (asks : IsAsk
         → AreAttemptsOf asked attempts
     are count some of = attempts_of _ _ (blocks_are asked.source asked.request count asks some) of
 
-    -- what both pipelines give over all blocks
-    module _ (count : ℕ) (some : 0 < count) {blocks : List (BlockView S)} {link : LinkView}
-        {outcome : Outcome TotalView (List DirectoryRow) (Result WrongLength SourceFault)}
-        (all : blocks ≡ blocks_of asked.source asked.request count) (to : link ≡ link_of query asked.request.parts)
-        (given : IsOutcome (AreOf blocks) (LinksAttempts device link) (λ inputs total. total ≡ total_found inputs) outcome) where
-      by : {o : Outcome TotalView (List DirectoryRow) (Result WrongLength SourceFault)} → outcome ≡ o
+    module _ (count : ℕ) (some : 0 < count) where
+      found : (o : Outcome TotalView (List DirectoryRow) (Result WrongLength SourceFault))
           → IsOutcome (AreOf (blocks_of asked.source asked.request count)) (LinksAttempts device (link_of query asked.request.parts))
           (λ inputs total. total ≡ total_found inputs) o
-      by e = rw (← e, ← all, ← to) given
+          → IfOk (found_or_fault o) IsOfAll × IfErr (found_or_fault o) (IsBlocksFault device asked.source asked.request.limit)
+      found (Finished total kept) (first, inputs, of, links, is) =
+          let (scans, scanned, linked) = links asked (are count some of) in (whole (Finished _ _) scanned (scans, inputs, refl, linked, is), tt)
+      found (Stopped (Ok wrong)) (first, of, links) =
+          let (scans, scanned, linked) = links asked (are count some of) in (whole (Stopped _) scanned (scans, refl, linked), tt)
+      found (Stopped (Err fault)) (first, of, links) = (tt, links asked (are count some of))
 
-      pub finished : {total : TotalView} {kept : List DirectoryRow} → outcome ≡ Finished total kept → IsOfAll (Finished total kept)
-      finished e =
-          let (first, inputs, of, links, found) = by e in
-          let (total, scanned, is) = links asked (are count some of) in
-          whole (Finished _ _) scanned (total, inputs, refl, is, found)
-
-      pub stopped : {wrong : WrongLength} → outcome ≡ Stopped (Ok wrong) → IsOfAll (Stopped wrong)
-      stopped e =
-          let (first, of, links) = by e in
-          let (total, scanned, is) = links asked (are count some of) in
-          whole (Stopped _) scanned (total, refl, is)
-
-      pub refused : {fault : SourceFault} → outcome ≡ Stopped (Err fault) → IsBlocksFault device asked.source asked.request.limit fault
-      refused e = let (first, of, links) = by e in links asked (are count some of)
+      -- what both pipelines give over all blocks
+      pub found_in_blocks : {blocks : List (BlockView S)} {link : LinkView} (outcome : Outcome TotalView (List DirectoryRow) (Result WrongLength SourceFault))
+          {r : Result Pair SourceFault} → blocks ≡ blocks_of asked.source asked.request count → link ≡ link_of query asked.request.parts
+          → IsOutcome (AreOf blocks) (LinksAttempts device link) (λ inputs total. total ≡ total_found inputs) outcome → r ≡ found_or_fault outcome
+          → IfOk r IsOfAll × IfErr r (IsBlocksFault device asked.source asked.request.limit)
+      found_in_blocks outcome all to given is = rw is (found outcome (rw (← all, ← to) given))

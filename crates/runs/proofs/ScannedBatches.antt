@@ -1,5 +1,5 @@
 -- The batches of a source are scanned one after the other, and the totals of their scans are joined.
-use Rattle.std.proofs.Common.{inr, ◌≡◌, ℕ, ◌≤◌, Bool, true, false, List, ◌++◌, Option, Result, Ok, Err, All, length, IfErr, IfOk}
+use Rattle.std.proofs.Common.{inr, ◌≡◌, ℕ, ◌≤◌, Bool, true, false, List, [], ◌++◌, Option, Result, Ok, Err, All, length, IfErr, IfOk}
 use Rattle.std.proofs.Common.{refl, sym, ap₂, ◌∙◌, subst, arith, length-append}
 use Rattle.std.specs.List.{concat}
 use Rattle.std.proofs.lemmas.List.Elements.{All-append}
@@ -85,6 +85,12 @@ module _ {S : Type 0} {stream : SourceOf S} {limit target : ℕ} {before : S} wh
       by_end false e =
           let to = ahead.more e in
           record { bytes = to.bytes; gave = to.gave; within = omega (arith, read_length_is to.has, ahead.has_room e) }
+
+  -- the first batch is all that the source gave
+  pub one_batch : {now : S} {reader : ReaderView} {batch : Batch} → IsAhead stream limit target before now reader [] batch → batch.is_last ≡ true
+      → (of_stream stream limit target before now).all (concat batch.cut) × (of_stream stream limit target before now).answerable (concat batch.cut)
+  one_batch {batch = batch} ahead is_last =
+      let all = ahead.last is_last in (all.0, inr (batch.cut, all.1, omega (arith, batch.few)))
 
   module _ {as_of : Option ℕ} {parts : ℕ} where
     -- a batch is scanned, and the next one was read

@@ -8,6 +8,7 @@ use Rattle.gathering.specs.declared.linked.Linked.{Linked}
 use Rattle.gathering.specs.declared.linked.Linked.TheVariants.{Next, Halt}
 use Rattle.pipelines.specs.Outcomes.{IsOutcome}
 use Rattle.pipelines.specs.declared.outcome.Outcome.{Outcome}
+use Rattle.pipelines.specs.declared.outcome.Outcome.TheVariants.{Finished, Stopped}
 use Rattle.sources.specs.declared.source.Source.{Ghosts as SourceOf}
 use Rattle.streaming.specs.Batches.{IsNextBatch, IsReadTo, ReaderView}
 use Rattle.streaming.specs.Readings.{IsSourceFault, Reading, of_stream}
@@ -28,6 +29,8 @@ use Rattle.block_scan.specs.declared.block_source.BlockSource.{Ghosts as BlockSo
 use Rattle.buckets.specs.BucketRows.{BucketView}
 use Rattle.buckets.specs.Buckets.{total_found}
 use Rattle.buckets.specs.FoundRows.{TotalView}
+use Rattle.runs.specs.declared.calls.stream.WholeSource.{WholeSource}
+use Rattle.runs.specs.declared.calls.stream.WholeSource.TheVariants.{Short, Long}
 use Rattle.planning.specs.Planned.{LinkView, ToBuckets, linked_to}
 
 -- what a refusal says of the words that should be a query
@@ -66,6 +69,11 @@ IsScanOfAll reading as_of parts total =
     (runs : List (List ℕ)) × reading.all (concat runs) × reading.answerable (concat runs)
     × IsScanOf 0 0 as_of parts runs total
 
+-- all that a source gave was read and may be answered over: it is this cut, or this is the total of the scans of its cut
+abbrev pub IsReadWhole : Reading → Option ℕ → ℕ → WholeSource → Type 0
+IsReadWhole reading as_of parts (Short cut) = reading.all (concat cut) × reading.answerable (concat cut)
+IsReadWhole reading as_of parts (Long total) = IsScanOfAll reading as_of parts total
+
 -- what `next_batch` says of the source and of the reader, before and after it
 pub record IsBatchRead {S : Type 0} (stream : SourceOf S) (before after : S) (old new : ReaderView)
     (read : Result Batch SourceFault) : Type 0 where
@@ -94,3 +102,9 @@ module _ {S : Type 0} (device : BlockSourceOf S) where
   abbrev pub LinksAttempts : LinkView → List (AttemptView S)
       → Linked (List BucketView) (List DirectoryRow) (Result WrongLength SourceFault) → Type 0
   LinksAttempts link attempts linked = (asked : Asked S) → AreAttemptsOf asked attempts → IsLinked asked link linked
+
+-- what both pipelines found over the blocks of a source, or why it gives no rows
+abbrev pub found_or_fault : {T K W F : Type 0} → Outcome T K (Result W F) → Result (Outcome T K W) F
+found_or_fault (Finished total kept) = Ok (Finished total kept)
+found_or_fault (Stopped (Ok wrong)) = Ok (Stopped wrong)
+found_or_fault (Stopped (Err f)) = Err f

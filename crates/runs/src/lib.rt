@@ -6,6 +6,7 @@ pub mod run_laws;
 
 pub use answers::{Answer, DayFault, Text};
 pub use block_scan::{BlockSource, Division, FileBlocks, ReadsAt};
+pub use calls::alone::{answer_alone, answer_blocks_alone, run_blocks_alone};
 pub use calls::answer::{answer, told_of};
 pub use calls::run::run;
 pub use calls::run_blocks::{answer_blocks, run_blocks};

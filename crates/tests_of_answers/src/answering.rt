@@ -1,11 +1,11 @@
-//! What `answer` and `answer_blocks` tell in the tests.
+//! What `answer` and `answer_blocks` tell in the tests, and what they do of one thread alone.
 ghost use Rattle.std.specs.Prelude.{◌≡◌, ◌<◌, ◌≤◌};
 ghost use Rattle.lists.specs.declared.limits.TheConstants.{MOST_PARTITIONS};
 
 use day_file::cut;
 use executor::{
     Answer, Crew, DayFault, DayFile, Division, FileBlocks, Gate, LONGEST_FILE, OutOfMemory, Query,
-    Settings, answer, answer_blocks, parse,
+    Settings, answer, answer_alone, answer_blocks, answer_blocks_alone, parse,
 };
 use std::alloc::Global;
 use std::sync::{Arc, Wait};
@@ -48,21 +48,30 @@ pub enum Way {
     Morsels,
     /// Blocks of 34 bytes of a source that is read at places, one for each frame.
     Blocks,
+    /// Morsels, on the caller's thread alone.
+    MorselsAlone,
+    /// A source that is read at places, as one block, on the caller's thread alone.
+    BlockAlone,
 }
 
+/// The ways that start a crew.
 pub const WAYS: [Way; 2] = [Way::Morsels, Way::Blocks];
+
+/// The ways that start none.
+pub const ALONE: [Way; 2] = [Way::MorselsAlone, Way::BlockAlone];
 
 /// A source of these bytes, to be shared.
 fn shared(alloc: Global, bytes: &[u8]) -> Result<Arc<FileBlocks<Memory<'_>>, Global>, OutOfMemory> {
     Ok(Arc::new(alloc, in_memory(bytes))?)
 }
 
-/// The answer of pipelines over a source of these bytes that is read at places.
+/// The answer of pipelines over a source of these bytes that is read at places, or that of the caller's thread alone if
+/// it isn't divided.
 pub fn answer_by_blocks<G: Gate, R: Threads + Wait + Sync>(
     rt: &R,
     alloc: Global,
     bytes: &[u8],
-    division: Division,
+    division: Option<Division>,
     query: &Query,
     parts: u32,
     crew: Crew,
@@ -77,7 +86,10 @@ pub fn answer_by_blocks<G: Gate, R: Threads + Wait + Sync>(
         parts,
         limit: LONGEST_FILE,
     };
-    Ok(answer_blocks(rt, alloc, &source, division, query, settings, gate)?)
+    match division {
+        Some(division) => Ok(answer_blocks(rt, alloc, &source, division, query, settings, gate)?),
+        None => Ok(answer_blocks_alone(rt, alloc, &source, query, settings, gate)?),
+    }
 }
 
 /// The day of these frames.
@@ -105,12 +117,19 @@ pub fn answer_of_day<G: Gate, R: Threads + Wait + Sync>(
             let cut = cut(alloc, &day, 1)?;
             Ok(answer(rt, alloc, &cut, &query, parts, crew, gate)?)
         }
+        Way::MorselsAlone => {
+            let cut = cut(alloc, &day, 1)?;
+            Ok(answer_alone(rt, alloc, &cut, &query, parts, gate)?)
+        }
         Way::Blocks => {
-            let division = Division {
+            let division = Some(Division {
                 bytes: 34,
                 blocks: forms.len().clamp(1, 64) as u32,
-            };
+            });
             answer_by_blocks(rt, alloc, day.bytes(), division, &query, parts, crew, gate)
+        }
+        Way::BlockAlone => {
+            answer_by_blocks(rt, alloc, day.bytes(), None, &query, parts, crew, gate)
         }
     }
 }

@@ -119,15 +119,18 @@ fn a_device_that_fails_or_is_too_long_leaves_the_sink_alone(rt: HostRuntime) -> 
     Ok(())
 }
 
-/// Run also with each allocation of the process refused in turn, and without some threads.
+/// By three blocks, and by one, which the caller's thread reads alone (`run_blocks_alone`). Run also with each
+/// allocation of the process refused in turn, and without some threads.
 #[test]
 fn blocks_answer_or_want_memory(rt: HostRuntime) -> Result<(), Fail> {
     let alloc = rt.alloc();
     let bytes = Day::of(alloc, &BROKEN_EARLIER)?.bytes;
-    let source = in_memory(bytes.as_slice());
-    let (told, wrote) = told_by_blocks(&rt, alloc, source, 3 * HALF, "sales", 1_000, 2, HEADER);
-    assert!(rt; wrote);
-    told?;
+    for length in [3 * HALF, 0] {
+        let source = in_memory(bytes.as_slice());
+        let (told, wrote) = told_by_blocks(&rt, alloc, source, length, "sales", 1_000, 2, HEADER);
+        assert!(rt; wrote, "{length}");
+        told?;
+    }
     Ok(())
 }
 

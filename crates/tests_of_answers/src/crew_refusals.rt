@@ -1,6 +1,6 @@
 //! Answers that are also asked for with each allocation of the process refused in turn, and with threads that
 //! can't be started: what comes is the right answer, or want of memory.
-use crate::answering::{HEADER, TWO, WAYS, is_answered_by};
+use crate::answering::{ALONE, HEADER, TWO, WAYS, is_answered_by};
 use executor::FreeGate;
 use std::test::Fail;
 use tests_support::{BROKEN_EARLIER, Form, NAMED};
@@ -21,7 +21,7 @@ const ASKED: [(&str, &[Form], &str); 2] = [
 fn answer_or_want_of_memory(rt: HostRuntime) -> Result<(), Fail> {
     let alloc = rt.alloc();
     for (query, forms, want) in ASKED {
-        for way in WAYS {
+        for way in WAYS.into_iter().chain(ALONE) {
             let is_right = is_answered_by(&rt, alloc, way, query, forms, 2, TWO, &FreeGate, want)?;
             assert!(rt; is_right, "{query}");
         }

@@ -1,15 +1,13 @@
 //! A day that is answered by few workers, while a gate holds or counts their runs.
-use crate::answering::{
-    HEADER, TWO, WAYS, Way, answer_by_blocks, answer_of_day, is_answered_by, is_text,
-};
-use executor::{Answer, Crew, Division, FreeGate, Gate, parse};
+use crate::answering::{ALONE, HEADER, TWO, WAYS, Way, answer_of_day, is_answered_by};
+use executor::{Answer, Crew, FreeGate, Gate};
 use std::alloc::Global;
 use std::process::Abort;
 use std::sync::Wait;
 use std::sync::atomic::{AtomicU64, Ordering};
 use std::test::Fail;
 use std::thread::Threads;
-use tests_support::{BROKEN_EARLIER, Day, Form};
+use tests_support::{BROKEN_EARLIER, Form};
 use tests_works::{Counter, Heard, Hold, Warden};
 
 /// `sales` of a day whose one sale is broken is answered, with four tasks and 64 partitions.
@@ -108,30 +106,18 @@ impl Gate for Runs {
     fn done(&self, _pipeline: u8) {}
 }
 
-/// Whether two workers tell by one block of these bytes, and 64 partitions, that there are no sales.
-fn is_answered_by_one_block<R: Threads + Wait + Sync>(
-    rt: &R,
-    alloc: Global,
-    bytes: &[u8],
-    gate: &Runs,
-) -> Result<bool, Fail> {
-    let query = parse(alloc, "sales")?;
-    let division = Division::of(bytes.len() as u64, 2);
-    let found = answer_by_blocks(rt, alloc, bytes, division, &query, 64, TWO, gate)?;
-    Ok(is_text(alloc, found, HEADER)?)
-}
-
-/// One block, and each of 64 partitions.
+/// Four morsels or one block, and each of 64 partitions.
 #[test]
-fn the_caller_answers_a_day_of_one_block(rt: HostRuntime) -> Result<(), Fail> {
-    let bytes = Day::of(rt.alloc(), &BROKEN_EARLIER)?.bytes;
-    let gate = Runs {
-        by_caller: AtomicU64::new(0),
-        by_workers: AtomicU64::new(0),
-    };
-    assert!(rt; is_answered_by_one_block(&rt, rt.alloc(), bytes.as_slice(), &gate)?);
-    assert!(rt; gate.by_caller.load(Ordering::SeqCst) == 65);
-    assert!(rt; gate.by_workers.load(Ordering::SeqCst) == 0);
+fn the_caller_answers_a_short_day_alone(rt: HostRuntime) -> Result<(), Fail> {
+    for (way, runs) in ALONE.into_iter().zip([68, 65]) {
+        let gate = Runs {
+            by_caller: AtomicU64::new(0),
+            by_workers: AtomicU64::new(0),
+        };
+        is_answered(&rt, rt.alloc(), way, TWO, &gate)?;
+        assert!(rt; gate.by_caller.load(Ordering::SeqCst) == runs, "{way:?}");
+        assert!(rt; gate.by_workers.load(Ordering::SeqCst) == 0, "{way:?}");
+    }
     Ok(())
 }
 

@@ -124,7 +124,7 @@ pub fn told_by_blocks<R: Threads + Wait + Sync, S: BlockSource + Send + Sync>(
         workers: division.blocks.clamp(1, 64),
         gatherers: 1,
     };
-    let attempts = run_first(rt, alloc, &inputs, Some(crew), &FreeGate)?;
+    let attempts = run_first(rt, alloc, &inputs, crew, &FreeGate)?;
     let total = attempts.join(alloc)?;
     Ok(digest_of_total(alloc, total)?)
 }

@@ -1,8 +1,8 @@
-//! The first pipeline alone.
+//! The first pipeline alone, and both on the caller's thread alone.
 use crate::gatherers::{Order, Run, TWO_AND_TWO};
 use crate::link::OneAndTwo;
 use crate::threads::{Ledger, ONE, TWO};
-use pipelines::{FreeGate, Outcome, run_both, run_first};
+use pipelines::{FreeGate, Outcome, run_alone, run_first};
 use std::sync::Arc;
 use std::test::Fail;
 use tests_works::{NUMBERS, Watch, shared_inputs_of};
@@ -13,7 +13,7 @@ fn one_pipeline_gives_each_task_to_a_worker(rt: HostRuntime) -> Result<(), Fail>
     let watch = Watch::shared(alloc)?;
     let gate = Ledger::new(alloc, &watch)?;
     let inputs = shared_inputs_of(alloc, &watch, &NUMBERS)?;
-    assert!(rt; run_first(&rt, alloc, &inputs, Some(ONE), &gate)? == 255);
+    assert!(rt; run_first(&rt, alloc, &inputs, ONE, &gate)? == 255);
     assert!(rt; gate.has(1, 0, [1; 8]) && gate.has(1, 1, [0; 8]) && gate.has(1, 2, [0; 8]));
     assert!(rt; watch.runs() == 8 && gate.has_all(8, [8, 0], [1, 0]));
     Ok(())
@@ -29,26 +29,14 @@ fn workers_share_one_pipeline(rt: HostRuntime) -> Result<(), Fail> {
         let watch = Watch::shared(alloc)?;
         let gate = Order::new(&TOGETHER);
         let inputs = shared_inputs_of(alloc, &watch, &NUMBERS)?;
-        assert!(rt; run_first(&rt, alloc, &inputs, Some(crew), &gate)? == 255);
+        assert!(rt; run_first(&rt, alloc, &inputs, crew, &gate)? == 255);
         assert!(rt; gate.rounds()[0] == 8 && !gate.gave_up());
     }
     Ok(())
 }
 
 #[test]
-fn without_a_crew_the_caller_runs_each_task(rt: HostRuntime) -> Result<(), Fail> {
-    let alloc = rt.alloc();
-    let watch = Watch::shared(alloc)?;
-    let gate = Ledger::new(alloc, &watch)?;
-    let inputs = shared_inputs_of(alloc, &watch, &NUMBERS)?;
-    assert!(rt; run_first(&rt, alloc, &inputs, None, &gate)? == 255);
-    assert!(rt; gate.has(1, 0, [0; 8]) && gate.has(1, 1, [0; 8]) && gate.has(1, 2, [1; 8]));
-    assert!(rt; watch.runs() == 8 && gate.has_all(8, [8, 0], [1, 0]));
-    Ok(())
-}
-
-#[test]
-fn both_pipelines_run_without_a_crew(rt: HostRuntime) -> Result<(), Fail> {
+fn the_caller_runs_both_pipelines_alone(rt: HostRuntime) -> Result<(), Fail> {
     let alloc = rt.alloc();
     let watch = Watch::shared(alloc)?;
     let gate = Ledger::new(alloc, &watch)?;
@@ -57,11 +45,12 @@ fn both_pipelines_run_without_a_crew(rt: HostRuntime) -> Result<(), Fail> {
         watch: Arc::try_clone(&watch)?,
         halts: false,
     };
-    match run_both(&rt, alloc, inputs, &link, None, &gate)? {
+    match run_alone(alloc, &inputs, &link, &gate)? {
         Outcome::Finished { total, kept } => assert!(rt; total == 3 && kept == 255),
         Outcome::Stopped { stop: _ } => assert!(rt; false),
     }
-    assert!(rt; gate.has(1, 2, [1; 8]) && gate.has(2, 2, [1, 1, 0, 0, 0, 0, 0, 0]));
+    assert!(rt; gate.has(1, 0, [0; 8]) && gate.has(1, 1, [0; 8]) && gate.has(1, 2, [1; 8]));
+    assert!(rt; gate.has(2, 2, [1, 1, 0, 0, 0, 0, 0, 0]));
     assert!(rt; watch.runs() == 10 && gate.has_all(10, [8, 10], [1, 1]));
     Ok(())
 }
@@ -71,6 +60,6 @@ fn no_inputs_have_a_total(rt: HostRuntime) -> Result<(), Fail> {
     let alloc = rt.alloc();
     let watch = Watch::shared(alloc)?;
     let inputs = shared_inputs_of(alloc, &watch, &[])?;
-    assert!(rt; run_first(&rt, alloc, &inputs, Some(ONE), &FreeGate)? == 0);
+    assert!(rt; run_first(&rt, alloc, &inputs, ONE, &FreeGate)? == 0);
     Ok(())
 }

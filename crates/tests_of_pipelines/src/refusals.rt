@@ -5,7 +5,7 @@ use crate::gatherers::piece_of;
 use crate::link::OneAndTwo;
 use crate::threads::TWO;
 use linked_list_allocator::LocalHeap;
-use pipelines::{Crew, FreeGate, OutOfMemory, Outcome, run_first, run_pair};
+use pipelines::{Crew, FreeGate, OutOfMemory, Outcome, run_alone, run_first, run_pair};
 use schedules::{Event, Rehearsed, rehearse_pair, rehearse_pipeline};
 use std::alloc::Global;
 use std::sync::{Arc, Wait};
@@ -18,6 +18,27 @@ type Sums = (u128, u128);
 
 /// The sums of 1 and 2, and of 1, 2 and 4.
 const RIGHT: Option<Sums> = Some((3, 7));
+
+/// Who runs both pipelines.
+#[derive(Clone, Copy, Debug)]
+enum Way {
+    OneWorker,
+    Caller,
+    Rehearsal,
+}
+
+/// What the caller's thread gives alone.
+fn alone(alloc: Global, watch: &Arc<Watch, Global>) -> Result<Sums, OutOfMemory> {
+    let inputs = shared_inputs_of(alloc, watch, &[1, 2, 4])?;
+    let link = OneAndTwo {
+        watch: Arc::try_clone(watch)?,
+        halts: false,
+    };
+    match run_alone(alloc, &inputs, &link, &FreeGate)? {
+        Outcome::Finished { total, kept } => Ok((total, kept)),
+        Outcome::Stopped { stop } => Ok((stop, 0)),
+    }
+}
 
 /// What this crew gives.
 fn run<R: Threads + Wait + Sync>(
@@ -73,21 +94,21 @@ fn rehearse(alloc: Global, watch: &Arc<Watch, Global>) -> Result<Sums, OutOfMemo
     }
 }
 
-/// What one worker gives, or a rehearsal.
+/// What is given in a way.
 fn sums<R: Threads + Wait + Sync>(
     rt: &R,
     alloc: Global,
     watch: &Arc<Watch, Global>,
-    rehearses: bool,
+    way: Way,
 ) -> Option<Sums> {
     let crew = Crew {
         workers: 1,
         gatherers: 1,
     };
-    if rehearses {
-        rehearse(alloc, watch).ok()
-    } else {
-        run(rt, alloc, watch, crew).ok()
+    match way {
+        Way::OneWorker => run(rt, alloc, watch, crew).ok(),
+        Way::Caller => alone(alloc, watch).ok(),
+        Way::Rehearsal => rehearse(alloc, watch).ok(),
     }
 }
 
@@ -95,12 +116,12 @@ fn sums<R: Threads + Wait + Sync>(
 fn one_refused_each<R: Threads + Wait + Sync>(
     rt: &R,
     alloc: Global,
-    rehearses: bool,
+    way: Way,
 ) -> Result<Vec<Option<Sums>>, OutOfMemory> {
     let mut answers = Vec::new(alloc);
     for growth in 0..100 {
         let watch = Watch::refusing(alloc, growth..growth + 1)?;
-        answers.push(sums(rt, alloc, &watch, rehearses))?;
+        answers.push(sums(rt, alloc, &watch, way))?;
         if watch.growths() <= growth {
             break;
         }
@@ -111,14 +132,24 @@ fn one_refused_each<R: Threads + Wait + Sync>(
 #[test]
 fn each_growth_can_be_refused(rt: HostRuntime) -> Result<(), Fail> {
     // Three runs and their additions, the link, two runs and theirs. An addition that is refused is
-    // tried again, and a run that is refused to a worker is a lost piece. A rehearsal has none.
+    // tried again, and a run that is refused to a worker is a lost piece. A rehearsal has none, and a caller that is
+    // alone tries nothing again.
     let lost = [
         None, None, RIGHT, None, RIGHT, RIGHT, None, None, RIGHT, None, RIGHT, RIGHT,
     ];
     let mut run_again = [RIGHT; 12];
     run_again[6] = None;
-    for (rehearses, wanted) in [(false, run_again), (true, lost)] {
-        assert!(rt; one_refused_each(&rt, rt.alloc(), rehearses)?.as_slice() == &wanted[..]);
+    let mut none = [None; 12];
+    none[11] = RIGHT;
+    for (way, wanted) in [
+        (Way::OneWorker, run_again),
+        (Way::Caller, none),
+        (Way::Rehearsal, lost),
+    ] {
+        assert!(rt;
+            one_refused_each(&rt, rt.alloc(), way)?.as_slice() == &wanted[..],
+            "{way:?}"
+        );
     }
     Ok(())
 }
@@ -129,8 +160,8 @@ fn all_additions_can_be_refused(rt: HostRuntime) -> Result<(), Fail> {
     let watch = Watch::shared(alloc)?;
     for (refuses, wanted) in [(true, None), (false, RIGHT)] {
         watch.refuse_additions(refuses);
-        for rehearses in [false, true] {
-            assert!(rt; sums(&rt, alloc, &watch, rehearses) == wanted);
+        for way in [Way::OneWorker, Way::Caller, Way::Rehearsal] {
+            assert!(rt; sums(&rt, alloc, &watch, way) == wanted);
         }
     }
     Ok(())
@@ -177,6 +208,7 @@ fn sums_or_want_of_memory(rt: HostRuntime) -> Result<(), Fail> {
     let alloc = rt.alloc();
     let watch = Watch::shared(alloc)?;
     assert!(rt; Some(run(&rt, alloc, &watch, TWO)?) == RIGHT);
+    assert!(rt; Some(alone(alloc, &watch)?) == RIGHT);
     assert!(rt; Some(rehearse(alloc, &watch)?) == RIGHT);
     Ok(())
 }
@@ -184,7 +216,7 @@ fn sums_or_want_of_memory(rt: HostRuntime) -> Result<(), Fail> {
 /// The sum of 1, 2 and 4, by the first pipeline alone.
 fn sum_of_one<R: Threads + Wait + Sync>(rt: &R, alloc: Global) -> Result<u128, OutOfMemory> {
     let inputs = shared_inputs_of(alloc, &Watch::shared(alloc)?, &[1, 2, 4])?;
-    run_first(rt, alloc, &inputs, Some(TWO), &FreeGate)
+    run_first(rt, alloc, &inputs, TWO, &FreeGate)
 }
 
 /// Run also with each allocation and each thread of the process refused in turn.

@@ -39,18 +39,17 @@ pub fn answer<G: Gate, R: Threads + Wait + Sync>(
     let inputs = Arc::new(alloc, scans)?;
     let link = PlanLink::new(query, parts);
     let outcome = run_pair(rt, alloc, inputs, &link, crew, gate)?;
-    answer_of_outcome(rt, alloc, query, outcome, Some(crew))
+    answer_of_outcome(rt, alloc, query, outcome, crew.workers)
 }
 
-/// The answer that the outcome of both pipelines gives. Its text is made by a thread for each worker of the crew.
-/// Meanwhile another one frees what the scans found, or the caller does first if none can be made. Without a crew the
-/// caller's thread does all of it.
+/// The answer that the outcome of both pipelines gives. `workers` threads make its text; meanwhile another one frees
+/// what the scans found, or the caller does first if none can be made. With none the caller's thread does all of it.
 pub(crate) fn answer_of_outcome<R: Threads + Sync>(
     rt: &R,
     alloc: Global,
     query: &Query,
     outcome: Outcome<BucketTotal, DayPlan, WrongLength>,
-    crew: Option<Crew>,
+    threads: u32,
 ) -> Result<Answer, OutOfMemory>
     requires outcome { (runs : List (List ℕ)) × IsOutcomeOf query.now outcome runs }
     ensures { (runs : List (List ℕ)) → IsOutcomeOf query.now outcome runs →
@@ -60,18 +59,14 @@ pub(crate) fn answer_of_outcome<R: Threads + Sync>(
         Outcome::Finished { total, kept } => (total, kept),
         Outcome::Stopped { stop } => return Ok(told_of(stop)),
     };
-    let workers = match crew {
-        Some(crew) => crew.workers,
-        None => 0,
-    };
-    let freeing = if workers > 0 {
+    let freeing = if threads > 0 {
         // (without a thread, what it was to free is let go with the error)
         thread::spawn(rt, move || drop(plan)).ok()
     } else {
         drop(plan);
         None
     };
-    let answer = answer_in_ranges(rt, alloc, query, total, &names, workers);
+    let answer = answer_in_ranges(rt, alloc, query, total, &names, threads);
     if let Some(freeing) = freeing {
         freeing.join(rt);
     }

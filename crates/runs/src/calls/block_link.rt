@@ -1,10 +1,12 @@
 //! From what came of the blocks of a source to the buckets.
-ghost use Rattle.runs.specs.Steps.{LinksAttempts};
+ghost use Rattle.std.specs.Prelude.{◌≡◌};
+ghost use Rattle.runs.specs.Steps.{LinksAttempts, found_or_fault};
 
 use crate::OutOfMemory;
 use block_scan::{Attempts, BlockSource, BlockWork, SourceFault};
-use buckets::BucketWork;
+use buckets::{BucketTotal, BucketWork};
 use gathering::{Inputs, Link, Linked};
+use pipelines::Outcome;
 use planning::{DayPlan, PlanLink};
 use scanning::WrongLength;
 use std::alloc::{AllocError, Global};
@@ -37,5 +39,17 @@ impl<'a, S: BlockSource + Send + Sync> Link<BlockWork<S>, BucketWork> for BlockL
             Linked::Next { inputs, kept } => Ok(Linked::Next { inputs, kept }),
             Linked::Halt { stop: wrong } => Ok(Linked::Halt { stop: Ok(wrong) }),
         }
+    }
+}
+
+/// What both pipelines found over the blocks of a source, or why it gives no rows.
+pub(crate) fn found_or_fault(
+    outcome: Outcome<BucketTotal, DayPlan, Result<WrongLength, SourceFault>>,
+) -> Result<Outcome<BucketTotal, DayPlan, WrongLength>, SourceFault>
+    ensures { result ≡ found_or_fault outcome }
+{
+    match outcome {
+        Outcome::Finished { total, kept } => Ok(Outcome::Finished { total, kept }),
+        Outcome::Stopped { stop } => Ok(Outcome::Stopped { stop: stop? }),
     }
 }

@@ -1,4 +1,4 @@
-//! What every run begins and ends with: the query of its text, its crew, and the answer that goes to its sink.
+//! What every run begins and ends with: the query of its text, and the answer that goes to its sink.
 ghost use Rattle.std.specs.Prelude.{◌≡◌, ◌↔◌, false, true, Err, IfErr, IfOk, Ok};
 ghost use Rattle.answers.specs.Answers.{told_by};
 ghost use Rattle.query.specs.Grammar.{Means};
@@ -7,9 +7,7 @@ ghost use Rattle.runs.specs.Runs.{IsHandedOver, is_read_failed, is_write_failed}
 ghost use Rattle.runs.specs.Steps.{IsQueryRefusal, reported};
 
 use answers::{Answer, DayFault};
-use block_scan::Division;
 use outcomes::RunFault;
-use pipelines::Crew;
 use query::{Query, QueryFault, parse};
 use sinks::{Sink, WriteFailed, deliver_pieces};
 use std::alloc::Global;
@@ -24,16 +22,6 @@ pub(crate) fn query_of(alloc: Global, text: &str) -> Result<Query, RunFault>
         Ok(query) => Ok(query),
         Err(QueryFault::OutOfMemory) => Err(RunFault::OutOfMemory),
         Err(fault) => Err(RunFault::Query(fault)),
-    }
-}
-
-/// The crew for a day of more than one block, and so of two MiB or more. One thread takes less time over a shorter one
-/// than several take to be started, and there is no crew.
-pub(crate) fn crew_of(division: Division, crew: Crew) -> Option<Crew> {
-    if division.blocks == 1 {
-        None
-    } else {
-        Some(crew)
     }
 }
 

@@ -3,9 +3,10 @@ ghost use Rattle.std.specs.Prelude.{◌≡◌, false};
 ghost use Rattle.streaming.specs.Readings.{of_stream};
 ghost use Rattle.runs.specs.Runs.{IsAnsweredOrRefused, Ran, is_read_failed, is_write_failed};
 
+use crate::calls::alone::answer_alone;
 use crate::calls::answer::answer_of_outcome;
 use crate::calls::ends::{answer_of_fault, hand_over, query_of};
-use crate::calls::stream::scan_source;
+use crate::calls::stream::{WholeSource, scan_source};
 use answers::Answer;
 use order_table::greatest_prime;
 use outcomes::{RunFault, Settings};
@@ -42,7 +43,8 @@ pub fn run<R: Threads + Wait + Sync, S: Source, K: Sink>(
     hand_over(answer, sink)
 }
 
-/// The answer to a query over all that a source gives. The second pipeline runs alone.
+/// The answer to a query over all that a source gives: of a short one on this thread alone, else by a first pipeline
+/// for each batch and the second one behind them.
 fn answer_source<R: Threads + Wait + Sync, S: Source>(
     rt: &R,
     alloc: Global,
@@ -56,12 +58,16 @@ fn answer_source<R: Threads + Wait + Sync, S: Source>(
         query.now settings.limit result }
     ensures read_failed { S.has_failed source.new ≡ is_read_failed result }
 {
-    let (total, crew) = match scan_source(rt, alloc, source, query.as_of, settings) {
-        Ok(scanned) => scanned,
+    let parts = settings.parts;
+    let total = match scan_source(rt, alloc, source, query.as_of, settings) {
+        Ok(WholeSource::Short(cut)) => {
+            return Ok(answer_alone(rt, alloc, &cut, query, parts, &FreeGate)?);
+        }
+        Ok(WholeSource::Long(total)) => total,
         Err(fault) => return answer_of_fault(fault, settings.limit),
     };
-    let link = PlanLink::new(query, settings.parts);
-    let outcome = run_second(rt, alloc, total, &link, crew, &FreeGate)?;
-    let answer = answer_of_outcome(rt, alloc, query, outcome, crew)?;
+    let link = PlanLink::new(query, parts);
+    let outcome = run_second(rt, alloc, total, &link, settings.crew, &FreeGate)?;
+    let answer = answer_of_outcome(rt, alloc, query, outcome, settings.crew.workers)?;
     Ok(answer)
 }

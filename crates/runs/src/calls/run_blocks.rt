@@ -6,15 +6,16 @@ ghost use Rattle.block_scan.specs.Blocks.{GaveWhole, IsBlocksFault, of_blocks};
 ghost use Rattle.runs.specs.Runs.{IsAnsweredOrRefused, Ran, is_write_failed};
 ghost use Rattle.runs.specs.Steps.{IsOutcomeOf};
 
+use crate::calls::alone::run_blocks_alone;
 use crate::calls::answer::answer_of_outcome;
-use crate::calls::block_link::BlockLink;
-use crate::calls::ends::{answer_of_fault, crew_of, hand_over, query_of};
+use crate::calls::block_link::{BlockLink, found_or_fault};
+use crate::calls::ends::{answer_of_fault, hand_over, query_of};
 use answers::Answer;
 use block_scan::{BlockSource, Division, SourceFault, block_inputs};
 use buckets::BucketTotal;
 use order_table::greatest_prime;
 use outcomes::{RunFault, Settings};
-use pipelines::{FreeGate, Gate, Outcome, run_both};
+use pipelines::{FreeGate, Gate, Outcome, run_pair};
 use planning::{DayPlan, PlanLink};
 use query::Query;
 use scanning::WrongLength;
@@ -44,9 +45,12 @@ pub fn run_blocks<R: Threads + Wait + Sync, S: BlockSource + Send + Sync, K: Sin
         K.Sink query_text.now settings.limit sink.old sink.new result }
     ensures write_failed { K.has_failed sink.new ≡ is_write_failed result }
 {
+    let division = Division::of(length, settings.crew.workers);
+    if division.blocks == 1 {
+        return run_blocks_alone(rt, alloc, source, query_text, settings, sink);
+    }
     let query = query_of(alloc, query_text)?;
     settings.parts = greatest_prime(settings.parts);
-    let division = Division::of(length, settings.crew.workers);
     let Ok(source) = Arc::new(alloc, source) else {
         return Err(RunFault::OutOfMemory);
     };
@@ -74,7 +78,7 @@ pub fn answer_blocks<G: Gate, R: Threads + Wait + Sync, S: BlockSource + Send + 
         Ok(outcome) => outcome,
         Err(fault) => return answer_of_fault(fault, settings.limit),
     };
-    let answer = answer_of_outcome(rt, alloc, query, outcome, crew_of(division, settings.crew))?;
+    let answer = answer_of_outcome(rt, alloc, query, outcome, settings.crew.workers)?;
     Ok(answer)
 }
 
@@ -101,13 +105,9 @@ fn outcome_of_blocks<G: Gate, R: Threads + Wait + Sync, S: BlockSource + Send + 
     };
     let plan = PlanLink::new(query, parts);
     let link = BlockLink { plan };
-    let crew = crew_of(division, settings.crew);
-    let outcome = run_both(rt, alloc, inputs, &link, crew, gate);
+    let outcome = run_pair(rt, alloc, inputs, &link, settings.crew, gate);
     if source.has_failed() {
         return Err(SourceFault::ReadFailed);
     }
-    match outcome? {
-        Outcome::Finished { total, kept } => Ok(Outcome::Finished { total, kept }),
-        Outcome::Stopped { stop } => Ok(Outcome::Stopped { stop: stop? }),
-    }
+    found_or_fault(outcome?)
 }

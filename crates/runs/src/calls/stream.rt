@@ -3,11 +3,11 @@ ghost use Rattle.std.specs.Prelude.{◌≡◌, ◌<◌, ◌≤◌, ◌↔◌, fa
 ghost use Rattle.lists.specs.declared.limits.TheConstants.{MOST_PARTITIONS};
 ghost use Rattle.streaming.specs.Readings.{IsSourceFault, of_stream};
 ghost use Rattle.scanning.specs.Scans.{ScanTotalView, with_scans};
-ghost use Rattle.runs.specs.Steps.{IsBatchRead, IsScanOf, IsScanOfAll};
+ghost use Rattle.runs.specs.Steps.{IsBatchRead, IsReadWhole, IsScanOf};
 
 use crate::OutOfMemory;
-use crate::calls::ends::crew_of;
 use block_scan::Division;
+use day_file::Cut;
 use outcomes::Settings;
 use pipelines::{Crew, FreeGate, run_first};
 use scanning::{ScanTotal, batch_inputs};
@@ -20,29 +20,37 @@ use streaming::{Batch, BatchReader, Source, SourceFault};
 /// them, and little beside what a day's rows take.
 const BATCH_BYTES: u64 = 32 << 20;
 
+/// What was read of a whole source: all of a short one, or the scans of a longer one.
+#[derive(Drop)]
+pub(crate) enum WholeSource {
+    Short(Cut),
+    Long(ScanTotal),
+}
+
 /// What the scans of all that a source gives add up to. The source is read and cut batch by batch: the morsels of one
 /// are the tasks of a pipeline, while the caller reads the next one. So no more than two batches are in memory, and no
-/// bytes of those before. The crew comes back if the source is long enough for one: the caller's thread scans a short
-/// one alone. It waits for the threads.
+/// bytes of those before. It waits for the threads. A source that is as short as one block isn't scanned here.
 pub(crate) fn scan_source<R: Threads + Wait + Sync, S: Source>(
     rt: &R,
     alloc: Global,
     source: &mut S,
     as_of: Option<u32>,
     settings: Settings,
-) -> Result<(ScanTotal, Option<Crew>), SourceFault>
+) -> Result<WholeSource, SourceFault>
     requires source { S.has_failed source.old ≡ false }
-    ensures scanned { IfOk result (λ (total, crew). IsScanOfAll
-        (of_stream S.Source settings.limit settings.morsel source.old source.new) as_of settings.parts total) }
+    ensures scanned { IfOk result (IsReadWhole
+        (of_stream S.Source settings.limit settings.morsel source.old source.new) as_of settings.parts) }
     ensures fault { IfErr result
         (IsSourceFault (of_stream S.Source settings.limit settings.morsel source.old source.new)) }
     ensures failed { IsErrOf result SourceFault.ReadFailed ↔ (S.has_failed source.new ≡ true) }
 {
     let mut reader = BatchReader::new(alloc, settings.limit, settings.morsel, BATCH_BYTES)?;
     let mut batch = reader.next_batch(source)?;
+    let crew = settings.crew;
+    if batch.is_last && Division::of(batch.cut.length(), crew.workers).blocks == 1 {
+        return Ok(WholeSource::Short(batch.cut));
+    }
     let mut total = ScanTotal::empty(alloc);
-    let division = Division::of(batch.cut.length(), settings.crew.workers);
-    let crew = crew_of(division, settings.crew);
     let parts = settings.parts;
     while !batch.is_last {
         let (scans, next) = scan_ahead(rt, alloc, &batch, as_of, parts, crew, &mut reader, source);
@@ -50,7 +58,7 @@ pub(crate) fn scan_source<R: Threads + Wait + Sync, S: Source>(
         take_in(&mut total, scans)?;
     }
     take_in(&mut total, scan(rt, alloc, &batch, as_of, parts, crew))?;
-    Ok((total, crew))
+    Ok(WholeSource::Long(total))
 }
 
 /// Adds the scans of a batch to the total.
@@ -67,7 +75,7 @@ fn scan_ahead<R: Threads + Wait + Sync, S: Source>(
     batch: &Batch,
     as_of: Option<u32>,
     parts: u32,
-    crew: Option<Crew>,
+    crew: Crew,
     reader: &mut BatchReader,
     source: &mut S,
 ) -> (Result<ScanTotal, OutOfMemory>, Result<Batch, SourceFault>)
@@ -96,7 +104,7 @@ fn scan<R: Threads + Wait + Sync>(
     batch: &Batch,
     as_of: Option<u32>,
     parts: u32,
-    crew: Option<Crew>,
+    crew: Crew,
 ) -> Result<ScanTotal, OutOfMemory>
     requires { (0 < parts) × (parts ≤ MOST_PARTITIONS) }
     ensures { IfOk result (IsScanOf batch.now.first batch.now.start as_of parts batch.now.cut) }

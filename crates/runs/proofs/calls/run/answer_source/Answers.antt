@@ -10,24 +10,24 @@ use Rattle.runs.proofs.calls.run.answer_source.Goals as goal
 
 pub run_second-requires-clause-total : goal.run_second-requires-clause-total
 run_second-requires-clause-total g c lifetimes within =
-    let (runs, whole, may, of) = c.in-Ok.ensures.scanned in
+    let (runs, whole, may, of) = rw c.in-Ok-Long.field-0-is at c.in-Ok-Long.ensures.scanned in
     of_cut c.args.settings.parts_in_range.0 of
 
 pub answer_of_outcome-requires-clause-outcome : goal.answer_of_outcome-requires-clause-outcome
 answer_of_outcome-requires-clause-outcome g c lifetimes within =
-    let (runs, whole, may, of) = c.in-Ok.ensures.scanned in (
+    let (runs, whole, may, of) = rw c.in-Ok-Long.field-0-is at c.in-Ok-Long.ensures.scanned in (
       runs,
       given_of _ c.in_ok-outcome.ensures.outcome c.new-link.ensures c.args.settings.parts_in_range.0
-          (λ first is. rw is (subst (λ (m : Meaning). IsScanOf 0 0 m.as_of c.args.settings.parts runs c.in-Ok.scanned.0) c.query.view_is of)),
+          (λ first is. rw is (subst (λ (m : Meaning). IsScanOf 0 0 m.as_of c.args.settings.parts runs c.in-Ok-Long.total) c.query.view_is of)),
     )
 
 pub returns-clause-answered : goal.returns-clause-answered
 returns-clause-answered g c =
-    let (runs, whole, may, of) = c.in-Ok.ensures.scanned in (
+    let (runs, whole, may, of) = rw c.in-Ok-Long.field-0-is at c.in-Ok-Long.ensures.scanned in (
       concat runs,
       whole,
       may,
       IfOk-at_ok (λ answer. IsAnswer (concat runs) c.args.query.now (told_by answer)) c.in_ok-answer.was (c.answer_of_outcome.ensures runs
           (given_of _ c.in_ok-outcome.ensures.outcome c.new-link.ensures c.args.settings.parts_in_range.0
-          (λ first is. rw is (subst (λ (m : Meaning). IsScanOf 0 0 m.as_of c.args.settings.parts runs c.in-Ok.scanned.0) c.query.view_is of)))),
+          (λ first is. rw is (subst (λ (m : Meaning). IsScanOf 0 0 m.as_of c.args.settings.parts runs c.in-Ok-Long.total) c.query.view_is of)))),
     )

@@ -2,7 +2,7 @@ use Rattle.std.proofs.Common.{rules, ◌≡◌, false, true, []}
 use Rattle.std.proofs.lemmas.List.Elements.{All-nil}
 use Rattle.std.proofs.lemmas.Result.{err_from_is_err_and}
 use Rattle.streaming.proofs.JoinedBatches.{read_to_none}
-use Rattle.runs.proofs.ScannedBatches.{ended, gave_some, next_ahead, of_err, of_ok, read_ahead, went_on}
+use Rattle.runs.proofs.ScannedBatches.{ended, gave_some, next_ahead, of_err, of_ok, one_batch, read_ahead, went_on}
 use Rattle.runs.proofs.calls.stream.scan_source.Goals as goal
 
 pub returns-in_err-batch-clause-fault : goal.returns-in_err-batch-clause-fault
@@ -65,3 +65,10 @@ returns-clause-scanned g c =
     let taken = c.in_ok-take_in-2.ensures in
     let scan = of_ok _ c.scan.result taken.0 taken.1 c.scan.ensures in
     rw taken.2 (ended c.args.settings.limit_in_range c.loop-batch.invariant.to is_last scan)
+
+pub returns-then-of-eq1-clause-scanned : goal.returns-then-of-eq1-clause-scanned
+returns-then-of-eq1-clause-scanned g c =
+    let none = read_to_none g.S.Source c.args.source.now c.in_ok-reader.reader (g.met.S.Source.gave_nothing c.args.source.now)
+    c.in_ok-reader.ensures.none in
+    let is_last : c.in_ok-batch.batch.is_last ≡ true = search rules in
+    one_batch (read_ahead none c.in_ok-reader.ensures.same c.in_ok-batch.ensures.same c.in_ok-batch.ensures.next) is_last

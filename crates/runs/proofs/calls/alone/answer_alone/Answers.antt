@@ -1,0 +1,22 @@
+use Rattle.std.proofs.Common.{ap, ◌∙◌}
+use Rattle.meaning.specs.Meaning.{Meaning}
+use Rattle.scanning.specs.Scans.{inputs_of, total_of}
+use Rattle.runs.proofs.Answered.{given_of}
+use Rattle.runs.proofs.calls.alone.answer_alone.Goals as goal
+
+pub answer_of_outcome-requires-clause-outcome : goal.answer_of_outcome-requires-clause-outcome
+answer_of_outcome-requires-clause-outcome g c lifetimes within =
+    let scans = c.in_ok-inputs.ensures in
+    let are = scans.inputs ∙ ap (λ (m : Meaning). inputs_of m.as_of c.args.parts c.args.cut.now) c.query.view_is in (
+      c.args.cut.now,
+      given_of _ c.in_ok-outcome.ensures c.new-link.ensures c.requires.parts.0
+          (λ first is. record { are = scans.runs; is = is ∙ ap total_of are }),
+    )
+
+pub returns : goal.returns
+returns g c =
+    let scans = c.in_ok-inputs.ensures in
+    let are = scans.inputs ∙ ap (λ (m : Meaning). inputs_of m.as_of c.args.parts c.args.cut.now) c.query.view_is in
+    c.answer_of_outcome.ensures c.args.cut.now
+    (given_of _ c.in_ok-outcome.ensures c.new-link.ensures c.requires.parts.0
+    (λ first is. record { are = scans.runs; is = is ∙ ap total_of are }))

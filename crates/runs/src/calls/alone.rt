@@ -1,0 +1,114 @@
+//! Answers that the caller's thread finds alone. Nothing here waits for another thread.
+ghost use Rattle.std.specs.Prelude.{◌≡◌, ℕ, ◌<◌, ◌≤◌, List, false, IfErr, IfOk};
+ghost use Rattle.std.specs.Arc.{arc_value};
+ghost use Rattle.std.specs.List.{concat};
+ghost use Rattle.lists.specs.declared.limits.TheConstants.{MOST_PARTITIONS};
+ghost use Rattle.answers.specs.Answers.{IsAnswer, told_by};
+ghost use Rattle.block_scan.specs.Blocks.{GaveWhole, IsBlocksFault, of_blocks};
+ghost use Rattle.runs.specs.Runs.{IsAnsweredOrRefused, Ran, is_write_failed};
+ghost use Rattle.runs.specs.Steps.{IsOutcomeOf};
+
+use crate::OutOfMemory;
+use crate::calls::answer::answer_of_outcome;
+use crate::calls::block_link::{BlockLink, found_or_fault};
+use crate::calls::ends::{answer_of_fault, hand_over, query_of};
+use answers::Answer;
+use block_scan::{BlockSource, Division, SourceFault, block_inputs};
+use buckets::BucketTotal;
+use day_file::Cut;
+use order_table::greatest_prime;
+use outcomes::{RunFault, Settings};
+use pipelines::{FreeGate, Gate, Outcome, run_alone};
+use planning::{DayPlan, PlanLink};
+use query::Query;
+use scanning::{WrongLength, scan_inputs};
+use sinks::Sink;
+use std::alloc::Global;
+use std::sync::Arc;
+use std::thread::Threads;
+
+/// Answers a query over a whole day file that is read at places, as `run_blocks` does, on the caller's thread alone:
+/// it reads the file from its start to its end, once, as one block. The crew and the morsel of the settings have no
+/// part in it. It has no handle to wait by, so it is proved to return if the calls of its source and its sink do.
+pub fn run_blocks_alone<R: Threads + Sync, S: BlockSource + Send + Sync, K: Sink>(
+    rt: &R,
+    alloc: Global,
+    source: S,
+    query_text: &str,
+    mut settings: Settings,
+    sink: &mut K,
+) -> Result<(), RunFault>
+    requires { K.has_failed sink.old ≡ false }
+    ensures ran { Ran (of_blocks S.BlockSource.own settings.limit source)
+        K.Sink query_text.now settings.limit sink.old sink.new result }
+    ensures write_failed { K.has_failed sink.new ≡ is_write_failed result }
+{
+    let query = query_of(alloc, query_text)?;
+    settings.parts = greatest_prime(settings.parts);
+    let Ok(source) = Arc::new(alloc, source) else {
+        return Err(RunFault::OutOfMemory);
+    };
+    let answer = answer_blocks_alone(rt, alloc, &source, &query, settings, &FreeGate)?;
+    hand_over(answer, sink)
+}
+
+/// Answers a query over a cut day file, as `answer` does, on the caller's thread alone: each morsel and each partition
+/// is run once, in order. No thread is started, and nothing is waited for.
+pub fn answer_alone<G: Gate, R: Threads + Sync>(
+    rt: &R,
+    alloc: Global,
+    cut: &Cut,
+    query: &Query,
+    parts: u32,
+    gate: &G,
+) -> Result<Answer, OutOfMemory>
+    requires parts { (0 < parts) × (parts ≤ MOST_PARTITIONS) }
+    ensures { IfOk result (λ answer. IsAnswer (concat cut.now) query.now (told_by answer)) }
+{
+    let inputs = scan_inputs(alloc, cut, query.as_of, parts)?;
+    let link = PlanLink::new(query, parts);
+    let outcome = run_alone(alloc, &inputs, &link, gate)?;
+    answer_of_outcome(rt, alloc, query, outcome, 0)
+}
+
+/// Answers a query over all that a source gives at places, as `answer_blocks` does, on the caller's thread alone: as
+/// one block. No thread is started, and nothing is waited for.
+pub fn answer_blocks_alone<G: Gate, R: Threads + Sync, S: BlockSource + Send + Sync>(
+    rt: &R,
+    alloc: Global,
+    source: &Arc<S, Global>,
+    query: &Query,
+    settings: Settings,
+    gate: &G,
+) -> Result<Answer, RunFault>
+    ensures { IsAnsweredOrRefused (of_blocks S.BlockSource.own settings.limit (arc_value source.now))
+        query.now settings.limit result }
+{
+    let outcome = match outcome_of_block(alloc, source, query, settings, gate) {
+        Ok(outcome) => outcome,
+        Err(fault) => return answer_of_fault(fault, settings.limit),
+    };
+    let answer = answer_of_outcome(rt, alloc, query, outcome, 0)?;
+    Ok(answer)
+}
+
+/// What both pipelines give over a source that is one block, or why it gives no rows.
+fn outcome_of_block<G: Gate, S: BlockSource + Send + Sync>(
+    alloc: Global,
+    source: &Arc<S, Global>,
+    query: &Query,
+    settings: Settings,
+    gate: &G,
+) -> Result<Outcome<BucketTotal, DayPlan, WrongLength>, SourceFault>
+    ensures outcome { IfOk result (λ outcome. (runs : List (List ℕ))
+        × GaveWhole S.BlockSource.own settings.limit (arc_value source.now) (concat runs)
+        × IsOutcomeOf query.now outcome runs) }
+    ensures fault { IfErr result (IsBlocksFault S.BlockSource.own (arc_value source.now) settings.limit) }
+{
+    let limit = settings.limit;
+    let parts = settings.parts;
+    let inputs = block_inputs(alloc, source, query.as_of, parts, limit, Division::of(0, 1))?;
+    let plan = PlanLink::new(query, parts);
+    let link = BlockLink { plan };
+    found_or_fault(run_alone(alloc, &inputs, &link, gate)?)
+}
