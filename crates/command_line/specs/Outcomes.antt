@@ -50,10 +50,10 @@ module _ (job : Job) (out errors : Device) (status : ℕ) where
     abbrev pub DidFile : F → Type 0
     DidFile file =
         ((job.morsel_given ≡ false) × (told : ℕ) × of.Tells file (Some told)
-          × Did (of_blocks of.blocks job.settings.limit (of.view file)))
+        × Did (of_blocks of.blocks job.settings.limit (of.view file)))
         ⊎ (((job.morsel_given ≡ true) ⊎ of.Tells file None)
-          × (before : Counted F) × (after : Counted F) × (reader_of before ≡ file) × (is_failed before ≡ false)
-          × DidStream of.stream before after)
+        × (before : Counted F) × (after : Counted F) × (reader_of before ≡ file) × (is_failed before ≡ false)
+        × DidStream of.stream before after)
 
     -- a file was opened, and the job was done over it, or none was, and that was told; `Opens` says what the opening
     -- gave

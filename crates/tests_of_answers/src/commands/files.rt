@@ -51,6 +51,10 @@ impl<'a> ReadsAt for Opened<'a> {
         Ok(count)
     }
 
+    fn may_fail(&self) -> bool {
+        !self.is_regular
+    }
+
     fn is_same(&self, other: &Self) -> bool {
         self.is_regular == other.is_regular && (!self.is_regular || self.rest == other.rest)
     }
