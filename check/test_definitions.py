@@ -181,6 +181,10 @@ class Base(unittest.TestCase):
             self.skipTest("bin/build has kept no log of a build here")
         page = TOP / "docs/BASE.md"
         self.assertEqual([], [line for line in lines if f"\n    {line}\n" not in page.read_text()])
+        named = [words_in(row[0])[0] for row in rows_below(page, "| Function | What is assumed of it |")]
+        for crate, first, count in re.findall(r"(?m)^axioms (\w+): ([\w:, ]+), \.\.\. \((\d+) ", "\n".join(lines)):
+            of_crate = [name for name in named if name.startswith(f"{crate}::")]
+            self.assertEqual((sorted(of_crate)[:3], len(set(of_crate))), (first.split(", "), int(count)), "all of its functions")
         stand = [words_in(row[0])[0] for row in rows_below(page, "| Word | What it means | In a build |") if row[2] == "stands"]
         self.assertEqual(sorted(words), sorted(stand))
 
