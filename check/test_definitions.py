@@ -13,9 +13,9 @@ from rattle import is_derived, is_product, is_silent_on_refusals, kit, named_in,
 
 PRODUCT = [crate for crate in crates() if is_product(crate)]
 # The calls that the program makes, and its devices: what they promise is what the program does.
-PROGRAM = {"command_line": ["perform", "perform_blocks", "perform_opened"], "runs": ["run", "run_blocks"],
+PROGRAM = {"command_line": ["start", "perform", "perform_blocks"], "runs": ["run", "run_blocks"],
            "arguments": ["command", "reading_fault", "explain"]}
-DEVICES = ["sources/src/counted.rt", "block_scan/src/file_blocks.rt", "sinks/src/counted_sink.rt"]
+DEVICES = ["sources/src/counted.rt", "block_scan/src/file_blocks.rt", "sinks/src/counted_sink.rt", "command_line/src/day_files.rt"]
 # How the second line of a file of specs/ begins, or is, by the first of these kinds that one of its definitions is of.
 SECONDS = {"program": "-- To be believed.", "crate": "-- To be believed of a crate used by itself", "proofs": "-- Derived: "}
 # The headings under which the definitions of each crate stand, in this order.
@@ -171,6 +171,10 @@ class Base(unittest.TestCase):
         said = re.search(r"(?m)((?:^axioms .*\n)+)logic=proved .*? (axioms=\d+ .*)$", log.read_text() if log.exists() else "")
         said or self.skipTest("bin/build has kept no log of a build here")
         self.assertEqual([], [line for line in said[1].splitlines() if f"\n    {line}\n" not in page.read_text()])
+        named = [words_in(row[0])[0] for row in rows_below(page, "| Function | What is assumed of it |")]
+        for crate, first, count in re.findall(r"(?m)^axioms (\w+): ([\w:, ]+), \.\.\. \((\d+) ", said[1]):
+            of_crate = [name for name in named if name.startswith(f"{crate}::")]
+            self.assertEqual((sorted(of_crate)[:3], len(set(of_crate))), (first.split(", "), int(count)), "all of its functions")
         stand = [words_in(row[0])[0] for row in rows_below(page, "| Word | What it means | In a build |") if row[2] == "stands"]
         self.assertEqual(sorted(re.findall(r"axioms=\d+|\S+=trusted|native=\S+", said[2])), sorted(stand))
 

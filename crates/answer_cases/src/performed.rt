@@ -1,7 +1,5 @@
 //! What comes of a command line.
-use command_line::{
-    Counted, CountedSink, Job, command, explain, perform, perform_blocks, perform_opened,
-};
+use command_line::{Counted, CountedSink, Job, command, explain, perform, perform_blocks};
 use std::alloc::Global;
 use std::io;
 use std::sync::Wait;
@@ -12,12 +10,11 @@ use tests_support::in_memory;
 #[derive(Clone, Copy, PartialEq, Eq)]
 enum Reading {
     Stream,
-    Opened,
     Blocks,
 }
 
 /// Appends the status of a command line, and what it writes to the two streams, over a day that is a stream; and if
-/// anything else comes over one that was opened, or is read by blocks, this, too.
+/// anything else comes over one that is read by blocks, this, too.
 pub(crate) fn append_performed<R: Threads + Wait + Sync>(
     rt: &R,
     alloc: Global,
@@ -38,13 +35,10 @@ pub(crate) fn append_performed<R: Threads + Wait + Sync>(
     }
     let streamed = performed(rt, alloc, words.as_slice(), day, Reading::Stream)?;
     out.extend_from_slice(streamed.as_slice())?;
-    for (reading, name) in [(Reading::Opened, "opened"), (Reading::Blocks, "by blocks")] {
-        let other = performed(rt, alloc, words.as_slice(), day, reading)?;
-        if other.as_slice() != streamed.as_slice() {
-            let head = format!(in alloc; "but {name}\n")?;
-            out.extend_from_slice(head.as_bytes())?;
-            out.extend_from_slice(other.as_slice())?;
-        }
+    let blocks = performed(rt, alloc, words.as_slice(), day, Reading::Blocks)?;
+    if blocks.as_slice() != streamed.as_slice() {
+        out.extend_from_slice("but by blocks\n".as_bytes())?;
+        out.extend_from_slice(blocks.as_slice())?;
     }
     Ok(())
 }
@@ -103,7 +97,6 @@ fn status_of<R: Threads + Wait + Sync>(
             let mut source = Counted::of(day);
             perform(rt, alloc, job, &mut source, out, errors)
         }
-        Reading::Opened => perform_opened(rt, alloc, job, Some(Counted::of(day)), out, errors),
         Reading::Blocks => {
             let (source, length) = (in_memory(day), day.len() as u64);
             perform_blocks(rt, alloc, job, source, length, out, errors)

@@ -1,12 +1,12 @@
 //! Doing a job on devices: the answer to one, its fault to the other, and the status.
-ghost use Rattle.std.specs.Prelude.{◌≡◌, ◌==◌, false, MatchOption};
-ghost use Rattle.command_line.specs.Outcomes.{Did, DidNotOpen};
+ghost use Rattle.std.specs.Prelude.{◌≡◌, ◌==◌, false};
+ghost use Rattle.command_line.specs.Outcomes.{Did};
 ghost use Rattle.block_scan.specs.Blocks.{of_blocks};
 ghost use Rattle.streaming.specs.Readings.{of_stream};
 ghost use Rattle.arguments.specs.FaultLines.{status_of};
 ghost use Rattle.arguments.specs.Reports.{device};
 
-use arguments::{Job, report, tell};
+use arguments::{Job, report};
 use runs::{BlockSource, RunFault, Sink, Source, run, run_blocks};
 use std::alloc::Global;
 use std::sync::Wait;
@@ -55,29 +55,4 @@ pub fn perform_blocks<R: Threads + Wait + Sync, S: BlockSource + Send + Sync, K:
     let query = job.query.as_str();
     let outcome = run_blocks(rt, alloc, source, length, query, job.settings, out);
     report(outcome, errors)
-}
-
-/// Does a job on the day file that was opened. One that can't be opened is reported before the query is looked at.
-pub fn perform_opened<R: Threads + Wait + Sync, S: Source + Drop, K: Sink, L: Sink>(
-    rt: &R,
-    alloc: Global,
-    job: &Job,
-    opened: Option<S>,
-    out: &mut K,
-    errors: &mut L,
-) -> u8
-    requires source { MatchOption opened (Unit {0}) (λ source. S.has_failed source ≡ false) }
-    requires out { K.has_failed out.old ≡ false }
-    requires errors { L.has_failed errors.old ≡ false }
-    ensures did { let to_out = device K.Sink out.old out.new in let to_errors = device L.Sink errors.old errors.new in
-        MatchOption opened (DidNotOpen job.now to_out to_errors result)
-        (λ source. (after : S) × Did job.now to_out to_errors result
-        (of_stream S.Source job.now.settings.limit job.now.settings.morsel source after)
-        × (S.has_failed after ≡ (result == status_of RunFault.ReadFailed))) }
-    ensures quiet { result ≡ 0 → errors.new ≡ errors.old }
-{
-    match opened {
-        Some(mut source) => perform(rt, alloc, job, &mut source, out, errors),
-        None => tell(&RunFault::ReadFailed, errors),
-    }
 }

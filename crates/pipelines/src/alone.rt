@@ -3,9 +3,9 @@ ghost use Rattle.std.specs.Prelude.{IfOk, OnOk};
 ghost use Rattle.pipelines.specs.Outcomes.{IsOutcome};
 
 use crate::outcome::Outcome;
-use workers::Gate;
 use gathering::{Inputs, Link, Linked, OutOfMemory, Work};
 use std::alloc::Global;
+use workers::Gate;
 
 /// Runs the first pipeline, links its total, and runs the second pipeline: each task once, in order, on this thread.
 /// The gate hears of it as of any run of the caller's own. It has no handle to wait by, so it is proved to return if
