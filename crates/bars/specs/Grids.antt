@@ -17,7 +17,19 @@ pub record IsIn (grid : Grid) (bar : Bar) (slot : ℕ) : Type 0 where
 
 -- what stands where there is no bar
 abbrev pub no_bar : Bar
-no_bar = record { locate = 0; start = 0; first_place = 0; first = 0; high = 0; low = 0; last_place = 0; last = 0; volume = 0; notional = 0; trades = 0 }
+no_bar = record {
+  locate = 0;
+  start = 0;
+  first_place = 0;
+  first = 0;
+  high = 0;
+  low = 0;
+  last_place = 0;
+  last = 0;
+  volume = 0;
+  notional = 0;
+  trades = 0;
+}
 
 -- the bar of a slot, if it has one
 abbrev pub bar_in : List Bar → Option ℕ → List Bar

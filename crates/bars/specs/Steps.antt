@@ -7,8 +7,8 @@ use Rattle.lists.specs.declared.limits.TheConstants.{SECONDS_OF_DAY, TRADE_LIMIT
 use Rattle.row_types.specs.declared.trade.Sale.{Sale}
 use Rattle.time_and_sales.specs.Lent.{AreApart}
 use Rattle.bars.specs.Bars.{Bar, IsByKey, IsTraded, Key, bar_from, interval_start, key_cmp, joined_all, joined_bar, under}
-use Rattle.bars.specs.declared.form.Form.{Form}
-use Rattle.bars.specs.declared.form.Form.TheVariants.{Sales, Bars}
+use Rattle.bars.specs.declared.kept_form.Form.{Form}
+use Rattle.bars.specs.declared.kept_form.Form.TheVariants.{Sales, Bars}
 use Rattle.bars.specs.declared.keyed.Keyed.{Keyed}
 use Rattle.bars.specs.declared.keyed.Keyed.TheVariants.{OfSale, OfBar}
 

@@ -59,7 +59,7 @@ impl BarGrid {
         Ok(Some(bars))
     }
 
-    /// No bars, in a grid of so many slots, and room for as many bars as there are slots or keys.
+    /// No bars, in a grid of `slots` slots, and room for as many bars as there are slots or keys.
     fn empty(alloc: Global, grid: Grid, slots: usize, keys: usize) -> Result<BarGrid, OutOfMemory>
         ensures { IfOk result (λ bars. bars ≡ []) }
     {

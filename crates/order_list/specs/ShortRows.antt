@@ -46,7 +46,7 @@ AreInOrder = IsNonDecreasingBy (λ mark. mark.first)
 abbrev pub Rise : List OrderRow → Type 0
 Rise = AllPairs (λ x y. x.order_no < y.order_no)
 
--- the marks of so many steps
+-- the marks of `steps` steps
 pub record AreMarks (marks : List Mark) (steps : ℕ) : Type 0 where
   pub in_order : AreInOrder marks
   pub within : All (λ mark. mark.first ≤ steps) marks

@@ -14,8 +14,8 @@ pub struct OrderFilter {
 }
 
 impl OrderFilter {
-    /// No executions and no orders, with room for about `orders` and `executions`: 8 bits for an order that is seen, and
-    /// for those that are needed 2 for an order and 32 for an execution, so that a bucket's stay in a processor's cache.
+    /// No executions and no orders, with room for about `orders` and `executions`: 8 bits for an order that is seen,
+    /// and for those that are needed 2 for an order and 32 for an execution, so that a bucket's stay in the cache.
     /// More find room too, but then more are needed for nothing. It is refused if there is no memory for them.
     pub fn new(alloc: Global, orders: usize, executions: usize) -> Result<Self, OutOfMemory>
         ensures { IfOk result (λ filter. IsFilterOf [] [] filter) }

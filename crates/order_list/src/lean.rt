@@ -118,8 +118,8 @@ impl<A: Allocator> LeanRows<A> {
         self.shrink_to_fit();
     }
 
-    /// Adds a row at the end, if it is near the last mark, or may begin one. If there is no memory for it, the rows stay
-    /// as they were.
+    /// Adds a row at the end, if it is near the last mark, or may begin one. If there is no memory for it, the rows
+    /// stay as they were.
     #[inline(always)]
     pub(crate) fn push_near(&mut self, row: OrderRow) -> Result<bool, OutOfMemory>
         ensures near { IfOk result (λ near. self.new ≡ (if near then self.old ++ row ∷ [] else self.old)) }

@@ -5,7 +5,7 @@ ghost use Rattle.order_list.specs.ShortRows.{AreInOrder, Begun, row_of_step, row
 
 use row_types::OrderRow;
 
-/// How many references steps reach, from the one that they count from on; and how many of them are below the mark's row.
+/// How many references steps reach, from the one that they count from on; and how many are below the mark's row.
 const REFERENCES: u64 = 1 << 14;
 
 const BELOW: u64 = 1 << 13;
@@ -80,7 +80,7 @@ impl Mark {
     }
 }
 
-/// The last of so many marks, and one of all zeros if there is none.
+/// The last of the first `count` marks, and one of all zeros if there is none.
 #[inline(always)]
 pub(crate) fn last_of(marks: &[Mark], count: usize) -> Mark
     requires { count ≤ length marks.now }
@@ -123,7 +123,7 @@ fn begun_of_all(marks: &[Mark], index: usize) -> usize
     marks.partition_point(|mark| mark.first <= index)
 }
 
-/// The row of this index. It counts from the last of about so many marks.
+/// The row of this index. Its mark is looked for from the one of this number, `guess`, on.
 #[inline(always)]
 pub(crate) fn row_at(marks: &[Mark], steps: &[Step], guess: usize, index: usize) -> OrderRow
     requires in_order { AreInOrder marks.now }

@@ -69,7 +69,7 @@ IsScanOfAll reading as_of parts total =
     (runs : List (List ℕ)) × reading.all (concat runs) × reading.answerable (concat runs)
     × IsScanOf 0 0 as_of parts runs total
 
--- all that a source gave was read and may be answered over: it is this cut, or this is the total of the scans of its cut
+-- all that a source gave was read and may be answered over: it is this cut, or this is the total of its cut's scans
 abbrev pub IsReadWhole : Reading → Option ℕ → ℕ → WholeSource → Type 0
 IsReadWhole reading as_of parts (Short cut) = reading.all (concat cut) × reading.answerable (concat cut)
 IsReadWhole reading as_of parts (Long total) = IsScanOfAll reading as_of parts total

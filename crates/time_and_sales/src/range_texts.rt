@@ -11,8 +11,8 @@ use std::thread::Threads;
 
 /// The text of items in order of a number, in pieces that are one text when they are put together. A range of numbers
 /// begins at 0, and one at each of `numbers`, or at a greater one before it. `text` makes the lines of each range: it
-/// is given the bounds of that range and of those behind it. `threads` threads, or fewer if they can't be made, make the
-/// ranges, each an even share of them, one after the other. It is refused if a call is, or if there is no memory.
+/// is given the bounds of that range and of those behind it. `threads` threads, or fewer if they can't be made, make
+/// the ranges, each an even share of them, one after the other. It is refused if a call is, or if there is no memory.
 pub fn texts_in_ranges<T, R: Threads + Sync, F: Fn(&[u64]) -> Result<Vec<u8>, OutOfMemory> + Sync>(
     rt: &R,
     alloc: Global,
