@@ -9,7 +9,8 @@ use Rattle.pipelines.specs.declared.outcome.Outcome.{Outcome}
 use Rattle.pipelines.specs.declared.outcome.Outcome.TheVariants as outcome
 use Rattle.pipelines.proofs.OneOutcome.{one_outcome}
 use Rattle.schedules.specs.Rehearsals.{IsRehearsed, after_link}
-use Rattle.schedules.specs.Schedules.{Event, first_left}
+use Rattle.schedules.specs.Schedules.{first_left}
+use Rattle.schedules.specs.declared.event.Event.{Event}
 use Rattle.schedules.specs.declared.rehearsed.Rehearsed.{Rehearsed}
 use Rattle.schedules.specs.declared.rehearsed.Rehearsed.TheVariants.{Finished, Missing}
 use Rattle.schedules.proofs.OneRehearsed.{one_rehearsed}
