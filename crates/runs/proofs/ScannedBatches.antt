@@ -1,20 +1,22 @@
 -- The batches of a source are scanned one after the other, and the totals of their scans are joined.
 use Rattle.std.proofs.Common.{inr, ◌≡◌, ℕ, ◌≤◌, Bool, true, false, List, [], ◌++◌, Option, Result, Ok, Err, All, length, IfErr, IfOk}
-use Rattle.std.proofs.Common.{refl, sym, ap₂, ◌∙◌, subst, arith, length-append}
+use Rattle.std.proofs.Common.{refl, sym, ap, ap₂, ◌∙◌, subst, arith, length-append}
 use Rattle.std.specs.List.{concat}
 use Rattle.std.proofs.lemmas.List.Elements.{All-append}
-use Rattle.lists.specs.declared.limits.TheConstants.{LONGEST_FILE}
+use Rattle.std.proofs.lemmas.List.Folds.{concat-append}
+use Rattle.lists.specs.declared.limits.TheConstants.{LONGEST_FILE, MOST_MORSELS}
 use Rattle.lists.specs.Among.{AreBytes}
 use Rattle.day_file.specs.Cuts.{IsCutBy, IsRun}
 use Rattle.sources.specs.Given.{GaveAll, GaveSome}
 use Rattle.sources.specs.declared.source.Source.{Ghosts as SourceOf}
-use Rattle.scanning.specs.Scans.{ScanTotalView, inputs_from, inputs_of, total_of, with_scans}
+use Rattle.scanning.specs.Scans.{AreRuns, AreTogether, ScanInputView, ScanTotalView, inputs_from, inputs_of, total_of, with_scans}
+use Rattle.scanning.proofs.JoinedRuns.{joined_bytes, runs_joined}
 use Rattle.scanning.proofs.TotalOfScans.{total_joined}
 use Rattle.streaming.specs.Batches.{IsNextBatch, IsReadTo, ReaderView, read_length}
 use Rattle.streaming.specs.Readings.{of_stream}
 use Rattle.streaming.specs.declared.batch.Batch.{Batch}
 use Rattle.streaming.proofs.JoinedBatches.{read_length_is}
-use Rattle.runs.specs.Steps.{IsScanOf, IsScanOfAll}
+use Rattle.runs.specs.Steps.{IsScanOfAll, IsScanOfBatch}
 
 module _ {S : Type 0} (stream : SourceOf S) where
   -- the batch comes after these runs, and the source was read to its end
@@ -28,13 +30,16 @@ module _ {S : Type 0} (stream : SourceOf S) where
     pub same : (reader.limit ≡ limit) × (reader.target ≡ target)
     pub has_room : batch.is_last ≡ false → read_length reader ≤ limit
 
-  -- some runs were scanned, this is the total of their scans, and the batch comes after them
+  -- some runs were read, their bytes were scanned in some runs, this is the total of the scans, and the batch comes after
+  -- them
   pub record IsScannedTo (limit target : ℕ) (as_of : Option ℕ) (parts : ℕ) (before now : S) (reader : ReaderView)
       (total : ScanTotalView) (batch : Batch) : Type 0 where
     pub runs : List (List ℕ)
-    pub each : All IsRun runs
-    pub bytes : All AreBytes runs
-    pub is : total ≡ total_of (inputs_of as_of parts runs)
+    pub scanned : List (List ℕ)
+    pub same : concat scanned ≡ concat runs
+    pub each : All IsRun scanned
+    pub bytes : All AreBytes scanned
+    pub is : total ≡ total_of (inputs_of as_of parts scanned)
     pub ahead : IsAhead limit target before now reader runs batch
 
 -- what is said of a success, and of an error
@@ -44,13 +49,27 @@ of_ok P r x is h = subst (λ w. IfOk w P) is h
 pub of_err : {A E : Type 0} (P : E → Type 0) (r : Result A E) (x : E) → r ≡ Err x → IfErr r P → P x
 of_err P r x is h = subst (λ w. IfErr w P) is h
 
+-- a batch is scanned, neighbouring morsels together
+pub scanned_batch : {as_of : Option ℕ} {parts most : ℕ} (batch : Batch) {inputs : List ScanInputView} {total : ScanTotalView} → AreRuns batch.start batch.cut
+    → AreTogether most batch.first batch.start as_of parts batch.cut inputs → total ≡ total_of inputs → IsScanOfBatch batch as_of parts total
+scanned_batch batch are t is = record {
+  runs = t.joined;
+  same = joined_bytes t.is;
+  is = record { are = runs_joined are t.is; is = is ∙ ap total_of t.are };
+}
+
 -- the total of some runs with that of the batch after them
-with_batch : {as_of : Option ℕ} {parts : ℕ} (runs : List (List ℕ)) (batch : Batch) {total more : ScanTotalView} → batch.first ≡ length runs
-    → batch.start ≡ length (concat runs) → total ≡ total_of (inputs_of as_of parts runs) → IsScanOf batch.first batch.start as_of parts batch.cut more
-    → with_scans total more ≡ total_of (inputs_of as_of parts (runs ++ batch.cut))
-with_batch {as_of} {parts} runs batch number start is scan =
-    ap₂ with_scans is (scan.is ∙ ap₂ (λ n s. total_of (inputs_from n s as_of parts batch.cut)) number start)
-    ∙ sym (total_joined as_of parts runs batch.cut)
+with_batch : {as_of : Option ℕ} {parts start : ℕ} (scanned : List (List ℕ)) (batch : Batch) {total more : ScanTotalView} → batch.start ≡ start
+    → start ≡ length (concat scanned) → total ≡ total_of (inputs_of as_of parts scanned) → (scan : IsScanOfBatch batch as_of parts more)
+    → with_scans total more ≡ total_of (inputs_of as_of parts (scanned ++ scan.runs))
+with_batch {as_of} {parts} scanned batch at start is scan =
+    ap₂ with_scans is (scan.is.is ∙ ap (λ s. total_of (inputs_from batch.first s as_of parts scan.runs)) (at ∙ start))
+    ∙ sym (total_joined batch.first as_of parts scanned scan.runs)
+
+-- the bytes of both
+same_bytes : (scanned runs more cut : List (List ℕ)) → concat scanned ≡ concat runs → concat more ≡ concat cut
+    → concat (scanned ++ more) ≡ concat (runs ++ cut)
+same_bytes scanned runs more cut p q = concat-append scanned more ∙ ap₂ ◌++◌ p q ∙ sym (concat-append runs cut)
 
 module _ {S : Type 0} {stream : SourceOf S} {limit target : ℕ} {before : S} where
   -- the batch that is read once these runs are read comes after them
@@ -96,33 +115,37 @@ module _ {S : Type 0} {stream : SourceOf S} {limit target : ℕ} {before : S} wh
     -- a batch is scanned, and the next one was read
     pub went_on : {was now : S} {old new : ReaderView} {total more : ScanTotalView} {batch next : Batch}
         → IsScannedTo stream limit target as_of parts before was old total batch → batch.is_last ≡ false
-        → IsScanOf batch.first batch.start as_of parts batch.cut more → (new.limit ≡ old.limit) × (new.target ≡ old.target)
+        → IsScanOfBatch batch as_of parts more → (new.limit ≡ old.limit) × (new.target ≡ old.target)
         → IsNextBatch stream was now old new next
         → IsScannedTo stream limit target as_of parts before now new (with_scans total more) next
     went_on {batch = batch} to is_not_last scan same read = record {
       runs = to.runs ++ batch.cut;
-      each = All-append IsRun to.runs batch.cut to.each scan.are.each;
-      bytes = All-append AreBytes to.runs batch.cut to.bytes scan.are.bytes;
-      is = with_batch to.runs batch to.ahead.number to.ahead.start to.is scan;
+      scanned = to.scanned ++ scan.runs;
+      same = same_bytes to.scanned to.runs scan.runs batch.cut to.same scan.same;
+      each = All-append IsRun to.scanned scan.runs to.each scan.is.are.each;
+      bytes = All-append AreBytes to.scanned scan.runs to.bytes scan.is.are.bytes;
+      is = with_batch to.scanned batch to.ahead.start (ap length (sym to.same)) to.is scan;
       ahead = next_ahead to.ahead is_not_last same read;
     }
 
     -- the last batch is scanned
     pub ended : {now : S} {reader : ReaderView} {total more : ScanTotalView} {batch : Batch} → limit ≤ LONGEST_FILE
         → IsScannedTo stream limit target as_of parts before now reader total batch → batch.is_last ≡ true
-        → IsScanOf batch.first batch.start as_of parts batch.cut more
-        → IsScanOfAll (of_stream stream limit target before now) as_of parts (with_scans total more)
-    ended {batch = batch} most to is_last scan =
-        let all = to.ahead.last is_last in (
-          to.runs ++ batch.cut,
-          all.0,
-          inr (_, all.1, omega (arith, length-append to.runs batch.cut, to.ahead.number, batch.few)),
+        → IsScanOfBatch batch as_of parts more → IsScanOfAll (of_stream stream limit target before now) as_of parts (with_scans total more)
+    ended {now = now} {batch = batch} most to is_last scan =
+        let all = to.ahead.last is_last in
+        let same = sym (same_bytes to.scanned to.runs scan.runs batch.cut to.same scan.same) in
+        let few : length (to.runs ++ batch.cut) ≤ MOST_MORSELS = omega (arith, length-append to.runs batch.cut, to.ahead.number, batch.few) in
+        let reading = of_stream stream limit target before now in (
+          to.scanned ++ scan.runs,
+          subst reading.all same all.0,
+          subst reading.answerable same (inr (to.runs ++ batch.cut, all.1, few)),
           record {
             are = record {
-              each = All-append IsRun to.runs batch.cut to.each scan.are.each;
-              bytes = All-append AreBytes to.runs batch.cut to.bytes scan.are.bytes;
-              within = omega (arith, all.0.within, most);
+              each = All-append IsRun to.scanned scan.runs to.each scan.is.are.each;
+              bytes = All-append AreBytes to.scanned scan.runs to.bytes scan.is.are.bytes;
+              within = omega (arith, all.0.within, most, ap length same);
             };
-            is = with_batch to.runs batch to.ahead.number to.ahead.start to.is scan;
+            is = with_batch to.scanned batch to.ahead.start (ap length (sym to.same)) to.is scan;
           },
         )

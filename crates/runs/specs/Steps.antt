@@ -54,6 +54,12 @@ pub record IsScanOf (first start : ℕ) (as_of : Option ℕ) (parts : ℕ) (runs
   pub are : AreRuns start runs
   pub is : total ≡ total_of (inputs_from first start as_of parts runs)
 
+-- the total of the scans of a batch: of some cut of its bytes into runs of whole frames
+pub record IsScanOfBatch (batch : Batch) (as_of : Option ℕ) (parts : ℕ) (total : ScanTotalView) : Type 0 where
+  pub runs : List (List ℕ)
+  pub same : concat runs ≡ concat batch.cut
+  pub is : IsScanOf batch.first batch.start as_of parts runs total
+
 -- both pipelines gave this over a file that is cut into these runs, in some number of partitions
 pub record IsOutcomeOf (query : Meaning) (outcome : Outcome TotalView (List DirectoryRow) WrongLength)
     (runs : List (List ℕ)) : Type 0 where

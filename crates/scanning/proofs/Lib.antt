@@ -1,4 +1,6 @@
 pub mod ScanOfFrames
 pub mod PickedFrames
+pub mod InputFrames
 pub mod MorselInputs
 pub mod TotalOfScans
+pub mod JoinedRuns

@@ -1,59 +1,59 @@
--- The inputs of the scans of morsels that follow each other, morsel after morsel.
-use Rattle.std.proofs.Common.{◌≡◌, ℕ, zero, suc, ◌+◌, ◌<◌, ◌≤◌, List, [], ◌∷◌, Option, Some, get_or, length, map}
-use Rattle.std.proofs.Common.{slice_get, refl, sym, ap, ◌∙◌, arith}
+-- The inputs of the scans of a cut that stands behind so many morsels and bytes.
+use Rattle.std.proofs.Common.{◌≡◌, ℕ, zero, suc, ◌+◌, ◌<◌, ◌≤◌, List, [], ◌∷◌, get_or, length, map, take, drop, refl, sym, ap, ◌∙◌, arith}
 use Rattle.std.specs.List.{concat}
-use Rattle.std.proofs.lemmas.List.{length-append, length-map}
-use Rattle.std.proofs.lemmas.Simd.{map-map}
+use Rattle.std.proofs.lemmas.List.{drop-map, length-append, length-map, take-append-drop, take-map}
+use Rattle.std.proofs.lemmas.List.Folds.{concat-append}
 use Rattle.lists.specs.declared.limits.TheConstants.{LONGEST_FILE, MOST_MORSELS}
 use Rattle.day_file.specs.Cuts.{MorselView, start_of}
-use Rattle.day_file.specs.Kept.{AreMorsels, numbered}
+use Rattle.day_file.specs.Kept.{AreMorsels, numbered, runs_of}
 use Rattle.day_file.proofs.Kept.{length-numbered, morsel_at}
-use Rattle.scanning.specs.Scans.{ScanInputView, inputs_from}
-
--- a run ends within all of them
-pub run_within : (runs : List (List ℕ)) (i : ℕ) (run : List ℕ) → slice_get runs i ≡ Some run → start_of runs i + length run ≤ length (concat runs)
-run_within [] i run e = absurd (cc)
-run_within (one ∷ runs) zero run e = grind (arith, length-append)
-run_within (one ∷ runs) (suc i) run e = grind (arith, length-append, run_within runs i run e)
-
--- a morsel that fits behind so many morsels and bytes
-abbrev pub Fits : ℕ → ℕ → MorselView → Type 0
-Fits first start m = (first + m.number < MOST_MORSELS) × ((start + m.start) + length m.bytes ≤ LONGEST_FILE)
+use Rattle.scanning.specs.Scans.{AreRuns, bytes_of}
 
 -- what is asked only of what stands behind others
-pub behind : (before n most : ℕ) → n ≤ most → (0 < before → before + n ≤ most) → before + n ≤ most
+behind : (before n most : ℕ) → n ≤ most → (0 < before → before + n ≤ most) → before + n ≤ most
 behind zero n most h further = omega (arith, h)
 behind (suc before) n most h further = further (omega arith)
 
--- there are as many morsels as runs
-pub as_many : {X : Type 0} (value : X → MorselView) (items : List X) {runs : List (List ℕ)} → AreMorsels runs (map value items) → length items ≡ length runs
-as_many value items {runs} m = omega (arith, ap length m.are, length-map items value, length-numbered 0 0 runs)
+runs_numbered : (number start : ℕ) (runs : List (List ℕ)) → runs_of (numbered number start runs) ≡ runs
+runs_numbered number start [] = refl
+runs_numbered number start (run ∷ runs) = ap (λ l. run ∷ l) (runs_numbered (number + 1) (start + length run) runs)
 
--- each morsel of a cut fits behind what comes before it
-pub each_fits : {X : Type 0} (value : X → MorselView) (items : List X) {runs : List (List ℕ)} {i : ℕ} {x : X} (first start : ℕ)
-    → AreMorsels runs (map value items) → (0 < first → first + length runs ≤ MOST_MORSELS) → (0 < start → start + length (concat runs) ≤ LONGEST_FILE)
-    → i < length items → x ≡ get_or items i x → Fits first start (value x)
-each_fits value items {runs} {i} {x} first start m few within less is =
-    let below : i < length runs = omega (arith, as_many value items m, less) in
-    let at = morsel_at value items x i m below is in (
-      omega (arith, behind first (length runs) MOST_MORSELS m.few few, at.0, below),
-      omega (arith, behind start (length (concat runs)) LONGEST_FILE m.within within, at.1, run_within runs i (value x).bytes at.2),
+-- neighbouring runs, with what comes before them, are within all of them
+pub part_within : (runs : List (List ℕ)) (from n : ℕ) → start_of runs from + length (concat (take n (drop from runs))) ≤ length (concat runs)
+part_within runs from n =
+    let tail = drop from runs in
+    let all = ap concat (sym (take-append-drop from runs)) ∙ concat-append (take from runs) tail in
+    let rest = ap concat (sym (take-append-drop n tail)) ∙ concat-append (take n tail) (drop n tail) in
+    omega (
+      arith,
+      ap length all,
+      length-append (concat (take from runs)) (concat tail),
+      ap length rest,
+      length-append (concat (take n tail)) (concat (drop n tail)),
     )
 
--- the input of a morsel of a cut that stands behind so many morsels and bytes
-abbrev pub input_behind : ℕ → ℕ → Option ℕ → ℕ → MorselView → ScanInputView
-input_behind first start as_of parts m =
-    record { morsel = record { number = first + m.number; start = start + m.start; bytes = m.bytes }; as_of = as_of; parts = parts }
+module _ {X : Type 0} (value : X → MorselView) (items : List X) {runs : List (List ℕ)} (m : AreMorsels runs (map value items)) where
+  -- there are as many morsels as runs
+  pub as_many : length items ≡ length runs
+  as_many = omega (arith, ap length m.are, length-map items value, length-numbered 0 0 runs)
 
-behind_each : (first start n s a b : ℕ) (as_of : Option ℕ) (parts : ℕ) (runs : List (List ℕ)) → a ≡ first + n → b ≡ start + s
-    → map (input_behind first start as_of parts) (numbered n s runs) ≡ inputs_from a b as_of parts runs
-behind_each first start n s a b as_of parts [] p q = refl
-behind_each first start n s a b as_of parts (run ∷ runs) p q =
-    grind (arith, behind_each first start (n + 1) (s + length run) (a + 1) (b + length run) as_of parts runs)
+  -- where the morsel of a number begins
+  pub begins_at : {from : ℕ} {x : X} → from < length items → x ≡ get_or items from x → (value x).start ≡ start_of runs from
+  begins_at {from} {x} below is = omega (arith, (morsel_at value items x from m (omega (arith, as_many, below)) is).1)
 
--- all of them
-pub all_inputs : {X : Type 0} (value : X → MorselView) (items : List X) {runs : List (List ℕ)} (first start : ℕ) (as_of : Option ℕ) (parts : ℕ)
-    → AreMorsels runs (map value items) → map (λ x. input_behind first start as_of parts (value x)) items ≡ inputs_from first start as_of parts runs
-all_inputs value items {runs} first start as_of parts m =
-    sym (map-map (input_behind first start as_of parts) value items) ∙ ap (map (input_behind first start as_of parts)) m.are
-    ∙ behind_each first start 0 0 first start as_of parts runs (omega arith) (omega arith)
+  -- neighbouring morsels have the bytes of their runs
+  pub part_bytes : (from n : ℕ) → bytes_of (map value (take n (drop from items))) ≡ concat (take n (drop from runs))
+  part_bytes from n =
+      ap bytes_of (sym (take-map value n (drop from items)) ∙ ap (take n) (sym (drop-map value from items)))
+      ∙ ap concat (sym (take-map (λ (morsel : MorselView). morsel.bytes) n (drop from (map value items)))
+      ∙ ap (take n) (sym (drop-map (λ (morsel : MorselView). morsel.bytes) from (map value items))))
+      ∙ ap (λ l. concat (take n (drop from l))) (ap runs_of m.are ∙ runs_numbered 0 0 runs)
+
+  -- all of them fit behind so many morsels and bytes, if that is asked of what stands behind others
+  module _ {first start : ℕ} (few : 0 < first → first + length runs ≤ MOST_MORSELS)
+      (within : 0 < start → start + length (concat runs) ≤ LONGEST_FILE) where
+    pub are_few : first + length runs ≤ MOST_MORSELS
+    are_few = behind first (length runs) MOST_MORSELS m.few few
+
+    pub are_runs : AreRuns start runs
+    are_runs = record { each = m.each; bytes = m.bytes; within = behind start (length (concat runs)) LONGEST_FILE m.within within }

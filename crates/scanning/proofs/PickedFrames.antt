@@ -15,7 +15,7 @@ use Rattle.day_file.proofs.Readings.{length-spelling}
 use Rattle.day_rows.specs.DayRows.{rows_of}
 use Rattle.day_rows.specs.Messages.{counted, placed_at}
 use Rattle.lists.specs.Least.{least_by}
-use Rattle.lists.specs.declared.limits.TheConstants.{LONGEST_FILE, MOST_PARTITIONS}
+use Rattle.lists.specs.declared.limits.TheConstants.{LONGEST_FILE}
 use Rattle.morsel_rows.specs.Partitions.{in_partitions}
 use Rattle.scanning.specs.Scans.{AreTakenIn, ScanView, TakesIn, scan_of, wrong_at}
 use Rattle.scanning.specs.declared.open_scan.TheConstants.{FRAMES_AT_ONCE}
@@ -182,14 +182,14 @@ module _ {as_of : Option ℕ} {all left : List PlacedBody} {walked count : ℕ} 
         long = length-set picked room frame ∙ so_far.long;
       }
 
--- where all are taken in after none, the scan is of all
-pub scan_of_all : (n : ℕ) (as_of : Option ℕ) (all : List PlacedBody) (walked : ℕ) (old new : ScanView) → 0 < n → n ≤ MOST_PARTITIONS
-    → old ≡ scan_of n as_of [] → AreTakenIn as_of all (2 ^ 64 - 1) walked old new → length (spelling all) ≤ LONGEST_FILE → new ≡ scan_of n as_of all
-scan_of_all n as_of all walked old new some most begun taken within =
+-- where there is no bound that they reach, all are taken in
+pub takes_all : (as_of : Option ℕ) (all : List PlacedBody) (walked : ℕ) (old new : ScanView) → AreTakenIn as_of all (2 ^ 64 - 1) walked old new
+    → length (spelling all) ≤ LONGEST_FILE → TakesIn as_of all old new
+takes_all as_of all walked old new taken within =
     let long = ap (λ l. length (spelling l)) taken.split ∙ ap length (spelling-append taken.front taken.rest)
     ∙ length-append (spelling taken.front) (spelling taken.rest) in
     let whole = taken.split ∙ ap (λ l. taken.front ++ l) (taken.ends (omega (arith, within, long, taken.walked_is))) ∙ append-nil taken.front in
-    taken.takes n [] some most begun ∙ ap (scan_of n as_of) (sym whole)
+    subst (λ l. TakesIn as_of l old new) (sym whole) taken.takes
 
 -- ---- the loop that takes in what was picked
 

@@ -2,7 +2,7 @@
 -- To be believed of a crate used by itself: the answer isn't defined by morsels.
 use Rattle.std.specs.Prelude.{◌≡◌, ℕ, ◌+◌, ◌<◌, ◌≤◌, ◌==◌, ◌&&◌, Bool, List, [], ◌∷◌, ◌++◌, All, length, map, nat_eq, Option, Some, None, filter_map, option_to_list, if◌then◌else◌}
 use Rattle.std.specs.Cmp.{IsEquivalence}
-use Rattle.std.specs.List.{concat}
+use Rattle.std.specs.List.{concat, flat_map}
 use Rattle.std.specs.Option.{option_eq}
 use Rattle.std.proofs.Common.{arith}
 use Rattle.std.proofs.lemmas.Bool.Decides.{nat_tests}
@@ -13,12 +13,16 @@ use Rattle.lists.specs.declared.limits.TheConstants.{LONGEST_FILE, MOST_PARTITIO
 use Rattle.itch_messages.specs.Body.{has_wrong_length, length_fault_of}
 use Rattle.day_file.specs.Cuts.{IsRun, MorselView, is_same_morsel}
 use Rattle.day_file.specs.Frames.{PlacedBody, spelling}
-use Rattle.day_file.specs.Kept.{numbered}
+use Rattle.day_file.specs.Kept.{numbered, runs_of}
 use Rattle.day_file.specs.Walk.{frames_of}
 use Rattle.day_rows.specs.DayRows.{rows_of}
 use Rattle.day_rows.specs.Messages.{counted, messages_of}
 use Rattle.morsel_rows.specs.Partitions.{MorselRowsView, in_partitions}
 use Rattle.scanning.specs.declared.wrong.WrongLength.{WrongLength}
+
+-- the bytes of morsels, one after the other
+abbrev pub bytes_of : List MorselView → List ℕ
+bytes_of morsels = concat (runs_of morsels)
 
 -- a morsel, the moment up to which its messages count, and the number of partitions
 pub record ScanInputView : Type 0 where
@@ -116,6 +120,22 @@ pub record AreRuns (start : ℕ) (runs : List (List ℕ)) : Type 0 where
   pub each : All IsRun runs
   pub bytes : All AreBytes runs
   pub within : start + length (concat runs) ≤ LONGEST_FILE
+
+-- each of these is up to `most` neighbouring ones of the runs, joined
+pub record AreJoined (most : ℕ) (runs joined : List (List ℕ)) : Type 0 where
+  pub groups : List (List (List ℕ))
+  pub all : runs ≡ flat_map (λ group. group) groups
+  pub some : All (λ group. 0 < length group) groups
+  pub few : All (λ group. length group ≤ most) groups
+  pub are : joined ≡ map concat groups
+
+-- the inputs of the scans of a cut by itself, whose runs are scanned up to `most` neighbouring ones together: the first
+-- input has this number and begins at this place
+pub record AreTogether (most first start : ℕ) (as_of : Option ℕ) (parts : ℕ) (runs : List (List ℕ))
+    (inputs : List ScanInputView) : Type 0 where
+  pub joined : List (List ℕ)
+  pub is : AreJoined most runs joined
+  pub are : inputs ≡ inputs_from first start as_of parts joined
 
 -- these are the inputs of the scans of morsels of one cut that follow each other
 pub record AreOfOneCut (inputs : List ScanInputView) : Type 0 where

@@ -1,24 +1,27 @@
 //! What one scan reads.
-ghost use Rattle.std.specs.Prelude.{◌≡◌, ◌+◌, ◌<◌, ◌≤◌, length};
+ghost use Rattle.std.specs.Prelude.{◌≡◌, ◌+◌, ◌<◌, ◌≤◌, IfOk, length, map};
 ghost use Rattle.std.specs.Arc.{arc_value};
 ghost use Rattle.std.specs.Cmp.{partial_equiv_from_equiv};
+ghost use Rattle.std.specs.Cmp.Lexicographic.{pointwise};
+ghost use Rattle.std.specs.Prelude.{nat_eq};
 ghost use Rattle.lists.specs.declared.limits.TheConstants.{LONGEST_FILE, MOST_PARTITIONS};
-ghost use Rattle.day_file.specs.Frames.{spelling};
-ghost use Rattle.day_file.specs.Walk.{frames_of};
-ghost use Rattle.scanning.specs.Scans.{input_equiv, is_same_input};
+ghost use Rattle.scanning.specs.Scans.{bytes_of, input_equiv, is_same_input};
 
-use day_file::{Frames, Morsel};
+use crate::OutOfMemory;
+use day_file::Morsel;
 use lists::limits::{LONGEST_FILE, MOST_PARTITIONS};
 use std::alloc::Global;
 use std::marker::Model;
 use std::sync::Arc;
 
-/// A morsel with its number and its place in the whole file, the moment up to which its messages count,
-/// and the number of partitions that its rows are kept in. The place is the number of bytes before it, and
-/// the moment is in seconds since midnight; without one each message counts.
+/// Neighbouring morsels, which are scanned as one, with its number and its place in the whole file, the moment up to
+/// which messages count, and the number of partitions that the rows are kept in. The place is the number of bytes
+/// before it, and the moment is in seconds since midnight; without one each message counts. Contracts see one morsel,
+/// which has the bytes of all.
 #[derive(Drop)]
 pub struct ScanInput {
-    morsel: Arc<Morsel, Global>,
+    morsels: Vec<Arc<Morsel, Global>>,
+    size: u64,
     number: u32,
     start: u64,
     as_of: Option<u32>,
@@ -26,64 +29,81 @@ pub struct ScanInput {
 }
 
 impl Model for ScanInput {
-    ghost use Rattle.std.specs.Prelude.{◌+◌, ◌<◌, ◌≤◌, length};
+    ghost use Rattle.std.specs.Prelude.{◌≡◌, ◌+◌, ◌<◌, ◌≤◌, length, map};
     ghost use Rattle.std.specs.Arc.{arc_value};
     ghost use Rattle.lists.specs.declared.limits.TheConstants.{LONGEST_FILE, MOST_PARTITIONS};
-    ghost use Rattle.scanning.specs.Scans.{ScanInputView};
+    ghost use Rattle.scanning.specs.Scans.{ScanInputView, bytes_of};
 
     ghost Value = { ScanInputView };
 
     ghost view = { λ a. record {
-      morsel = record { number = a.number; start = a.start; bytes = (arc_value a.morsel).bytes };
+      morsel = record { number = a.number; start = a.start; bytes = bytes_of (map arc_value a.morsels.items) };
       as_of = a.as_of;
       parts = a.parts;
     } };
 
     ghost invariant = { λ a. (0 < a.parts) × (a.parts ≤ MOST_PARTITIONS)
-        × (a.start + length (arc_value a.morsel).bytes ≤ LONGEST_FILE) };
+        × (a.size ≡ length (bytes_of (map arc_value a.morsels.items)))
+        × (a.start + length (bytes_of (map arc_value a.morsels.items)) ≤ LONGEST_FILE) };
 }
 
 impl ScanInput {
-    /// The input of this morsel, which has this number in the whole file and begins at this place. What
-    /// number and place it has in its own cut, which may be of a part of the file, doesn't count.
+    /// The input of these morsels, which follow each other. It has this number in the whole file, and begins at this
+    /// place: what numbers and places they have in their own cut, which may be of a part of the file, doesn't count.
+    /// It shares them, and is refused if memory for the list of them is refused.
     pub fn of(
-        morsel: Arc<Morsel, Global>,
+        alloc: Global,
+        morsels: &[Arc<Morsel, Global>],
         number: u32,
         start: u64,
         as_of: Option<u32>,
         parts: u32,
-    ) -> Self
+    ) -> Result<Self, OutOfMemory>
         requires some { 0 < parts }
         requires most { parts ≤ MOST_PARTITIONS }
-        requires within { start + length (arc_value morsel).bytes ≤ LONGEST_FILE }
-        ensures { result ≡ record {
-          morsel = record { number = number; start = start; bytes = (arc_value morsel).bytes };
+        requires within { start + length (bytes_of (map arc_value morsels.now)) ≤ LONGEST_FILE }
+        ensures { IfOk result (λ input. input ≡ record {
+          morsel = record { number = number; start = start; bytes = bytes_of (map arc_value morsels.now) };
           as_of = as_of;
           parts = parts;
-        } }
+        }) }
     {
-        ScanInput {
-            morsel,
+        let mut shared = Vec::with_capacity(alloc, morsels.len())?;
+        let mut size = 0;
+        for morsel in morsels {
+            shared.push(Arc::try_clone(morsel)?)?;
+            size += morsel.bytes().len() as u64;
+        }
+        Ok(ScanInput {
+            morsels: shared,
+            size,
             number,
             start,
             as_of,
             parts,
-        }
+        })
     }
 
-    /// The bytes of the morsel that is scanned.
-    pub fn bytes(&self) -> &[u8]
-        ensures { result.now ≡ self.now.morsel.bytes }
+    /// The morsels that are scanned as one, in their order.
+    pub fn morsels(&self) -> &[Arc<Morsel, Global>]
+        ensures bytes { bytes_of (map arc_value result.now) ≡ self.now.morsel.bytes }
+        ensures within { self.now.morsel.start + length self.now.morsel.bytes ≤ LONGEST_FILE }
     {
-        self.morsel.bytes()
+        self.morsels.as_slice()
     }
 
-    /// The frames of the morsel in order, with their places in the whole file.
-    pub fn frames(&self) -> Frames<'_>
-        ensures frames { result.frames ≡ frames_of self.now.morsel }
-        ensures within { length (spelling result.frames) ≤ LONGEST_FILE }
+    /// How many bytes come before them in the whole file.
+    pub fn start(&self) -> u64
+        ensures { result ≡ self.now.morsel.start }
     {
-        Frames::of(self.start, self.morsel.bytes())
+        self.start
+    }
+
+    /// How many bytes they have.
+    pub fn length(&self) -> u64
+        ensures { result ≡ length self.now.morsel.bytes }
+    {
+        self.size
     }
 
     /// The moment up to which messages count, in seconds since midnight.
@@ -101,6 +121,15 @@ impl ScanInput {
     {
         self.parts
     }
+
+    /// Whether the others have the same bytes, wherever one morsel ends and the next begins.
+    fn has_bytes_of(&self, other: &ScanInput) -> bool
+        ensures { result ≡ pointwise nat_eq self.now.morsel.bytes other.now.morsel.bytes }
+    {
+        let bytes = self.morsels.iter().flat_map(|morsel| morsel.bytes());
+        let others = other.morsels.iter().flat_map(|morsel| morsel.bytes());
+        bytes.cmp(others).is_eq()
+    }
 }
 
 /// Inputs are equal if the numbers, places and bytes of their morsels are, their moments and their numbers
@@ -113,7 +142,7 @@ impl PartialEq for ScanInput {
     fn eq(&self, other: &ScanInput) -> bool {
         self.number == other.number
             && self.start == other.start
-            && self.morsel.bytes() == other.morsel.bytes()
+            && self.has_bytes_of(other)
             && self.as_of == other.as_of
             && self.parts == other.parts
     }

@@ -1,18 +1,21 @@
 //! The work whose tasks are the scans of morsels.
-ghost use Rattle.std.specs.Prelude.{◌≡◌};
+ghost use Rattle.std.specs.Prelude.{◌≡◌, OnOk};
 ghost use Rattle.std.proofs.Common.{◌∙◌, ap, sym};
 ghost use Rattle.lists.proofs.Exact.{exact_list};
-ghost use Rattle.scanning.specs.Scans.{AreOfOneCut, exact_input, scanned, total_of};
+ghost use Rattle.day_file.specs.Walk.{frames_of};
+ghost use Rattle.scanning.specs.Scans.{AreOfOneCut, TakesIn, exact_input, scanned, total_of};
 
 use crate::OutOfMemory;
 use crate::input::ScanInput;
 use crate::open_scan::OpenScan;
 use crate::scanned::Scanned;
 use crate::total::ScanTotal;
+use day_file::Frames;
 use gathering::Work;
 use std::alloc::Global;
 
-/// Scans morsels. The morsels of one cut may be scanned, with one moment and one number of partitions.
+/// Scans morsels, neighbouring ones together. The morsels of one cut may be scanned, with one moment and one number of
+/// partitions.
 #[derive(Drop)]
 pub struct ScanWork;
 
@@ -34,10 +37,8 @@ impl Work for ScanWork {
     ghost equal_totals = { λ xs ys same total is. is ∙ sym (ap total_of ((exact_list exact_input).one xs ys same)) };
 
     fn run(alloc: Global, input: &ScanInput) -> Result<Scanned, OutOfMemory> {
-        let as_of = input.as_of();
-        let bytes = input.bytes().len() as u64;
-        let mut scan = OpenScan::new(alloc, input.parts(), bytes)?;
-        scan.take_in(as_of, input.frames(), u64::MAX)?;
+        let mut scan = OpenScan::new(alloc, input.parts(), input.length())?;
+        take_in_all(&mut scan, input)?;
         scan.finish(alloc)
     }
 
@@ -49,4 +50,17 @@ impl Work for ScanWork {
     fn add(total: &mut ScanTotal, output: &Scanned) -> Result<(), OutOfMemory> {
         total.add(output)
     }
+}
+
+/// Takes in the frames of all morsels of an input.
+fn take_in_all(scan: &mut OpenScan, input: &ScanInput) -> Result<(), OutOfMemory>
+    ensures { OnOk result (TakesIn input.now.as_of (frames_of input.now.morsel) scan.old scan.new) }
+{
+    let mut place = input.start();
+    for morsel in input.morsels() {
+        let bytes = morsel.bytes();
+        scan.take_in(input.as_of(), Frames::of(place, bytes), u64::MAX)?;
+        place += bytes.len() as u64;
+    }
+    Ok(())
 }

@@ -162,11 +162,13 @@ fn a_total_has_the_rows_of_each_morsel_whatever_their_order(rt: HostRuntime) -> 
 /// begin in it.
 type Part = (u64, u64, &'static [u64]);
 
-/// The inputs of the scans of a part of a day, of which the first morsel has this number.
+/// The inputs of the scans of a part of a day, of which the first morsel has this number, up to so many neighbouring
+/// morsels together.
 fn inputs_of_part(
     alloc: Global,
     forms: &[Form],
     (start, end, ends): Part,
+    together: usize,
     first: u32,
 ) -> Result<Inputs<ScanWork>, Fail> {
     let day = Day::of(alloc, forms)?.bytes;
@@ -178,7 +180,7 @@ fn inputs_of_part(
     if first > 9 || start > 999 || cut.count() > 9 || cut.length() > 999 {
         return Err(Fail::from("a part of a test's day is too long"));
     }
-    Ok(batch_inputs(alloc, &cut, first, start, None, 64)?)
+    Ok(batch_inputs(alloc, &cut, together.max(1), first, start, None, 64)?)
 }
 
 /// The total of some scans.
@@ -190,12 +192,17 @@ fn total_of_inputs(alloc: Global, scans: &Inputs<ScanWork>) -> Result<ScanTotal,
     Ok(total)
 }
 
-/// The total of a day in parts.
-fn total_of_parts(alloc: Global, forms: &[Form], parts: &[Part]) -> Result<ScanTotal, Fail> {
+/// The total of a day in parts, up to so many neighbouring morsels together.
+fn total_of_parts(
+    alloc: Global,
+    forms: &[Form],
+    parts: &[Part],
+    together: usize,
+) -> Result<ScanTotal, Fail> {
     let mut total = ScanTotal::empty(alloc);
     let mut first: u32 = 0;
     for part in parts {
-        let scans = inputs_of_part(alloc, forms, *part, first)?;
+        let scans = inputs_of_part(alloc, forms, *part, together, first)?;
         total.append(total_of_inputs(alloc, &scans)?)?;
         first = first.saturating_add(scans.count());
     }
@@ -214,9 +221,11 @@ const BROKEN_PARTS: [Part; 4] = [
 #[test]
 fn parts_of_a_day_or_want_of_memory(rt: HostRuntime) -> Result<(), Fail> {
     let alloc = rt.alloc();
-    let total = total_of_parts(alloc, &BROKEN_EARLIER, &BROKEN_PARTS)?;
-    assert!(rt; total.wrong().is_none());
-    assert!(rt; rows_of(alloc, total)?.as_slice() == BROKEN_ROWS.as_slice());
+    for together in 1..4 {
+        let total = total_of_parts(alloc, &BROKEN_EARLIER, &BROKEN_PARTS, together)?;
+        assert!(rt; total.wrong().is_none());
+        assert!(rt; rows_of(alloc, total)?.as_slice() == BROKEN_ROWS.as_slice());
+    }
     Ok(())
 }
 
@@ -225,13 +234,46 @@ fn parts_of_a_day_have_the_inputs_of_the_whole(rt: HostRuntime) -> Result<(), Fa
     let alloc = rt.alloc();
     let whole = scans_of(alloc, &BROKEN_EARLIER, &BROKEN_ENDS)?;
     for (part, first, other) in [(BROKEN_PARTS[1], 1, 2), (BROKEN_PARTS[3], 3, 2)] {
-        let scans = inputs_of_part(alloc, &BROKEN_EARLIER, part, first)?;
+        let scans = inputs_of_part(alloc, &BROKEN_EARLIER, part, 1, first)?;
         assert!(rt; scans.count() > 0 && whole.count() == 4);
         assert!(rt; scans.input(0) == whole.input(first));
         assert!(rt; scans.input(0) != whole.input(other));
-        let elsewhere = inputs_of_part(alloc, &BROKEN_EARLIER, part, other)?;
+        let elsewhere = inputs_of_part(alloc, &BROKEN_EARLIER, part, 1, other)?;
         assert!(rt; elsewhere.count() > 0);
         assert!(rt; elsewhere.input(0) != whole.input(first));
+    }
+    Ok(())
+}
+
+/// `BROKEN_EARLIER`, each of whose frames is a morsel, and what is one morsel of it.
+const BROKEN_EACH: Part = (0, 133, &BROKEN_ENDS);
+
+const BROKEN_WHOLE: Part = (0, 133, &[]);
+
+#[test]
+fn neighbouring_morsels_are_one_input(rt: HostRuntime) -> Result<(), Fail> {
+    let alloc = rt.alloc();
+    // How many are together at most, and how many inputs and lists of rows there are.
+    for (together, count) in [(1, 4), (2, 2), (3, 2), (4, 1), (usize::MAX, 1)] {
+        let scans = inputs_of_part(alloc, &BROKEN_EARLIER, BROKEN_EACH, together, 0)?;
+        assert!(rt; scans.count() == count, "{together}");
+        let total = total_of_parts(alloc, &BROKEN_EARLIER, &[BROKEN_EACH], together)?;
+        assert!(rt; total.into_rows().len() == count as usize, "{together}");
+    }
+    Ok(())
+}
+
+#[test]
+fn inputs_are_equal_wherever_their_morsels_end(rt: HostRuntime) -> Result<(), Fail> {
+    let alloc = rt.alloc();
+    let whole = inputs_of_part(alloc, &BROKEN_EARLIER, BROKEN_WHOLE, 1, 0)?;
+    let shorter = inputs_of_part(alloc, &BROKEN_EARLIER, (0, 100, &[41]), 2, 0)?;
+    let other = inputs_of_part(alloc, &NAMED, (0, 112, &[41, 79]), 3, 0)?;
+    assert!(rt; whole.count() == 1 && shorter.count() == 1 && other.count() == 1);
+    for ends in [&BROKEN_ENDS[..], &[41], &[100], &[79, 100]] {
+        let scans = inputs_of_part(alloc, &BROKEN_EARLIER, (0, 133, ends), 4, 0)?;
+        assert!(rt; scans.count() == 1 && scans.input(0) == whole.input(0));
+        assert!(rt; scans.input(0) != shorter.input(0) && scans.input(0) != other.input(0));
     }
     Ok(())
 }
@@ -261,8 +303,10 @@ fn of_wrong_lengths_in_parts_the_first_is_kept(rt: HostRuntime) -> Result<(), Fa
         ),
     ];
     for (forms, parts, want) in some {
-        let total = total_of_parts(alloc, forms, parts)?;
-        assert!(rt; total.wrong().map(|wrong| wrong.place) == want);
+        for together in [1, 2] {
+            let total = total_of_parts(alloc, forms, parts, together)?;
+            assert!(rt; total.wrong().map(|wrong| wrong.place) == want, "{together}");
+        }
     }
     Ok(())
 }

@@ -3,7 +3,7 @@ ghost use Rattle.std.specs.Prelude.{◌≡◌, ◌<◌, ◌≤◌, ◌↔◌, fa
 ghost use Rattle.lists.specs.declared.limits.TheConstants.{MOST_PARTITIONS};
 ghost use Rattle.streaming.specs.Readings.{IsSourceFault, of_stream};
 ghost use Rattle.scanning.specs.Scans.{ScanTotalView, with_scans};
-ghost use Rattle.runs.specs.Steps.{IsBatchRead, IsReadWhole, IsScanOf};
+ghost use Rattle.runs.specs.Steps.{IsBatchRead, IsReadWhole, IsScanOfBatch};
 
 use crate::OutOfMemory;
 use block_scan::Division;
@@ -27,9 +27,15 @@ pub(crate) enum WholeSource {
     Long(ScanTotal),
 }
 
-/// What the scans of all that a source gives add up to. The source is read and cut batch by batch: the morsels of one
-/// are the tasks of a pipeline, while the caller reads the next one. So no more than two batches are in memory, and no
-/// bytes of those before. It waits for the threads. A source that is as short as one block isn't scanned here.
+/// How many tasks a batch has at least, and for each worker, if it has that many morsels.
+const LEAST_TASKS: u32 = 8;
+
+const TASKS_EACH: u32 = 2;
+
+/// What the scans of all that a source gives add up to. The source is read and cut batch by batch: the morsels of one,
+/// some neighbouring ones together, are the tasks of a pipeline, while the caller reads the next one. So no more than
+/// two batches are in memory, and no bytes of those before. It waits for the threads. A source that is as short as one
+/// block isn't scanned here.
 pub(crate) fn scan_source<R: Threads + Wait + Sync, S: Source>(
     rt: &R,
     alloc: Global,
@@ -81,13 +87,12 @@ fn scan_ahead<R: Threads + Wait + Sync, S: Source>(
 ) -> (Result<ScanTotal, OutOfMemory>, Result<Batch, SourceFault>)
     requires source { S.has_failed source.old ≡ false }
     requires parts { (0 < parts) × (parts ≤ MOST_PARTITIONS) }
-    ensures scans { IfOk result.0 (IsScanOf batch.now.first batch.now.start as_of parts batch.now.cut) }
+    ensures scans { IfOk result.0 (IsScanOfBatch batch.now as_of parts) }
     ensures next { IsBatchRead S.Source source.old source.new reader.old reader.new result.1 }
 {
     let mut scan = || -> Result<ScanTotal, OutOfMemory>
         requires { (0 < parts) × (parts ≤ MOST_PARTITIONS) }
-        ensures { IfOk result (IsScanOf batch.entry.now.first batch.entry.now.start as_of
-            parts batch.entry.now.cut) }
+        ensures { IfOk result (IsScanOfBatch batch.entry.now as_of parts) }
     { scan(rt, alloc, batch, as_of, parts, crew) };
     let mut read = || -> Result<Batch, SourceFault>
         requires { S.has_failed source.now ≡ false }
@@ -97,7 +102,7 @@ fn scan_ahead<R: Threads + Wait + Sync, S: Source>(
     join_mut(rt, &mut scan, &mut read)
 }
 
-/// What the scans of a batch add up to: its morsels are the tasks of a pipeline.
+/// What the scans of a batch add up to: its morsels, some neighbouring ones together, are the tasks of a pipeline.
 fn scan<R: Threads + Wait + Sync>(
     rt: &R,
     alloc: Global,
@@ -107,9 +112,27 @@ fn scan<R: Threads + Wait + Sync>(
     crew: Crew,
 ) -> Result<ScanTotal, OutOfMemory>
     requires { (0 < parts) × (parts ≤ MOST_PARTITIONS) }
-    ensures { IfOk result (IsScanOf batch.now.first batch.now.start as_of parts batch.now.cut) }
+    ensures { IfOk result (IsScanOfBatch batch.now as_of parts) }
 {
-    let inputs = batch_inputs(alloc, &batch.cut, batch.first, batch.start, as_of, parts)?;
+    let together = together_of(batch.cut.count(), crew);
+    let inputs = batch_inputs(
+        alloc,
+        &batch.cut,
+        together,
+        batch.first,
+        batch.start,
+        as_of,
+        parts,
+    )?;
     let inputs = Arc::new(alloc, inputs)?;
     run_first(rt, alloc, &inputs, crew, &FreeGate)
+}
+
+/// How many neighbouring morsels of a batch are scanned as one task. The more they are, the longer their lists of rows,
+/// of which each task has three for each partition; the fewer, the sooner all workers are done with a batch.
+fn together_of(morsels: u32, crew: Crew) -> usize
+    ensures { 0 < result }
+{
+    let tasks = crew.workers.saturating_mul(TASKS_EACH).max(LEAST_TASKS);
+    (morsels / tasks).max(1) as usize
 }

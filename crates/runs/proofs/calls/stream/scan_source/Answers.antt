@@ -1,4 +1,4 @@
-use Rattle.std.proofs.Common.{rules, ◌≡◌, false, true, []}
+use Rattle.std.proofs.Common.{rules, ◌≡◌, false, true, [], refl}
 use Rattle.std.proofs.lemmas.List.Elements.{All-nil}
 use Rattle.std.proofs.lemmas.Result.{err_from_is_err_and}
 use Rattle.streaming.proofs.JoinedBatches.{read_to_none}
@@ -19,6 +19,8 @@ loop-batch-init g c =
     c.in_ok-reader.ensures.none in record {
       to = record {
         runs = [];
+        scanned = [];
+        same = refl;
         each = All-nil _;
         bytes = All-nil _;
         is = c.empty-total.ensures;
