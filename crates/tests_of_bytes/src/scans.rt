@@ -221,10 +221,13 @@ const BROKEN_PARTS: [Part; 4] = [
 #[test]
 fn parts_of_a_day_or_want_of_memory(rt: HostRuntime) -> Result<(), Fail> {
     let alloc = rt.alloc();
-    for together in 1..4 {
+    // How many are together, and which rows come second and third: of one list of rows, breaks come first.
+    for (together, second, third) in [(1, 1, 2), (2, 2, 1)] {
         let total = total_of_parts(alloc, &BROKEN_EARLIER, &BROKEN_PARTS, together)?;
         assert!(rt; total.wrong().is_none());
-        assert!(rt; rows_of(alloc, total)?.as_slice() == BROKEN_ROWS.as_slice());
+        let [first, _, _, last] = BROKEN_ROWS;
+        let rows = [first, BROKEN_ROWS[second], BROKEN_ROWS[third], last];
+        assert!(rt; rows_of(alloc, total)?.as_slice() == rows.as_slice());
     }
     Ok(())
 }
@@ -305,7 +308,10 @@ fn of_wrong_lengths_in_parts_the_first_is_kept(rt: HostRuntime) -> Result<(), Fa
     for (forms, parts, want) in some {
         for together in [1, 2] {
             let total = total_of_parts(alloc, forms, parts, together)?;
-            assert!(rt; total.wrong().map(|wrong| wrong.place) == want, "{together}");
+            assert!(rt;
+                total.wrong().map(|wrong| wrong.place) == want,
+                "{together}"
+            );
         }
     }
     Ok(())
