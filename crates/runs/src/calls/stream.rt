@@ -26,9 +26,9 @@ const LEAST_TASKS: u32 = 8;
 const TASKS_EACH: u32 = 2;
 
 /// What the scans of all that a source gives add up to. The source is read and cut batch by batch: the morsels of one,
-/// some neighbouring ones together, are the tasks of a pipeline, while the caller reads the next one. So no more than two
-/// batches are in memory, and no bytes of those before. The crew comes back if the source is long enough for one: the
-/// caller's thread scans a short one alone. It waits for the threads.
+/// some neighbouring ones together, are the tasks of a pipeline, while the caller reads the next one. So no more than
+/// two batches are in memory, and no bytes of those before. The crew comes back if the source is long enough for one:
+/// the caller's thread scans a short one alone. It waits for the threads.
 pub(crate) fn scan_source<R: Threads + Wait + Sync, S: Source>(
     rt: &R,
     alloc: Global,
