@@ -36,8 +36,7 @@ const MORSEL_HELP: &str =
 
 /// What help says of `--partitions`.
 const PARTITIONS_HELP: &str =
-    "Parts of the orders, 1 to 256, that threads look up one\nby one: the greatest prime \
-    up to N. More of them take\nmore time and memory with small morsels";
+    "Parts of the orders, 1 to 256, that threads look up one\nby one: the greatest prime up to N";
 
 /// What help says of `--gatherers`.
 const GATHERERS_HELP: &str =

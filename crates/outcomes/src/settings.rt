@@ -12,8 +12,8 @@ use crate::crew::Crew;
 pub struct Settings {
     /// How many threads work, and how many gather what they find.
     pub crew: Crew,
-    /// The least size of a morsel, in bytes: 1 to 1,073,741,824. What a thread takes at once is one. A file
-    /// that is read at places is not cut into morsels, and the size has no part in it.
+    /// The least size of a morsel, in bytes: 1 to 1,073,741,824. A thread takes one at once, or some neighbouring ones.
+    /// A file that is read at places is not cut into morsels, and the size has no part in it.
     pub morsel: u64,
     /// How many partitions the order references are divided into at most: 1 to 256. `run` and `run_blocks` take the
     /// greatest prime that isn't above it.
