@@ -15,6 +15,7 @@ use std::thread::Threads;
 use tests_support::{BROKEN_EARLIER, Day, NAMED, NAMED_TEXT, UNNAMED, UNNAMED_TEXT};
 
 /// A file system with two files: `day` is a regular file, and `pipe` can't be read at places.
+#[derive(Drop)]
 struct TwoFiles<'a> {
     day: &'a [u8],
     pipe: &'a [u8],
