@@ -1,6 +1,6 @@
 //! A job over a file system in memory: which file is opened, and how it is read.
 ghost use Rattle.std.specs.Prelude.{◌≡◌, ◌==◌, if◌then◌else◌, false, codes, length, List, ℕ, None, Option, Some, string_bytes};
-ghost use Rattle.core.specs.Option.{option_map};
+ghost use Rattle.std.specs.Option.{option_map};
 
 use crate::commands::devices::sales_job;
 use command_line::{
