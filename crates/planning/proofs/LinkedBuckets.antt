@@ -26,7 +26,7 @@ use Rattle.day_rows.proofs.RowsByPlace.{messages_by_place}
 use Rattle.morsel_rows.specs.Partitions.{AreRowsByPlace, MorselRowsView, joined_partitions, no_rows_in, partition_at}
 use Rattle.morsel_rows.proofs.JoinedPartitions.{partition_past}
 use Rattle.morsel_rows.proofs.MessagesOfPartition.{no_rows_by_place, partition_by_place}
-use Rattle.scanning.specs.Scans.{AreOfOneCut, ScanTotalView, total_of}
+use Rattle.scanning.specs.Scans.{AreConsecutive, ScanTotalView, total_of}
 use Rattle.scanning.specs.declared.wrong.WrongLength.{WrongLength}
 use Rattle.gathering.specs.Totals.{IsTotal}
 use Rattle.gathering.specs.declared.linked.Linked.TheVariants.{Next, Halt}
@@ -73,7 +73,7 @@ no_rows as_of n number past morsels =
     partitions_are as_of n number (λ rows. no_rows_in) (λ rows. partition_past n rows number past) morsels ∙ simp (flat_map-map, flat_map_none)
 
 -- each partition of the total of morsels of a cut that follow each other has its rows by place
-pub rows_by_place : (total : ScanTotalView) → IsTotal (λ inputs total. total ≡ total_of inputs) AreOfOneCut total
+pub rows_by_place : (total : ScanTotalView) → IsTotal (λ inputs total. total ≡ total_of inputs) AreConsecutive total
     → (number : ℕ) → AreRowsByPlace (joined_partitions (map (partition_at number) total.morsels))
 rows_by_place total (inputs, cut, is) number =
     let morsels = numbered cut.first cut.start cut.runs in

@@ -7,7 +7,7 @@ use Rattle.pipelines.specs.Outcomes.{IsOutcome}
 use Rattle.pipelines.specs.declared.outcome.Outcome.{Outcome}
 use Rattle.pipelines.specs.declared.outcome.Outcome.TheVariants.{Finished, Stopped}
 use Rattle.gathering.specs.Totals.{IsTotal}
-use Rattle.scanning.specs.Scans.{AreOfOneCut, ScanTotalView, inputs_of, total_of}
+use Rattle.scanning.specs.Scans.{AreConsecutive, ScanTotalView, inputs_of, total_of}
 use Rattle.scanning.specs.declared.wrong.WrongLength.{WrongLength}
 use Rattle.buckets.specs.Buckets.{total_found}
 use Rattle.buckets.specs.FoundRows.{TotalView}
@@ -23,7 +23,7 @@ use Rattle.runs.proofs.Answered.{IsGiven, Pair, given_of, link_of}
 
 -- the total of the scans of a file is that of one cut
 pub of_cut : {as_of : Option ℕ} {parts : ℕ} {runs : List (List ℕ)} {total : ScanTotalView} → 0 < parts → IsScanOf 0 0 as_of parts runs total
-    → IsTotal (λ inputs t. t ≡ total_of inputs) AreOfOneCut total
+    → IsTotal (λ inputs t. t ≡ total_of inputs) AreConsecutive total
 of_cut {as_of} {parts} {runs} some of = (
   inputs_of as_of parts runs,
   record { first = 0; start = 0; runs = runs; each = of.are.each; within = of.are.within; as_of = as_of; parts = parts; some = some; are = refl },
@@ -41,7 +41,7 @@ module _ {S : Type 0} (device : BlockSourceOf S) (asked : Asked S) (asks : IsAsk
 
   -- a total of all that a source gave is that of the scans of some cut
   pub of_one_cut : {total : ScanTotalView} → IsScannedWhole device asked.source asked.request total
-      → IsTotal (λ inputs t. t ≡ total_of inputs) AreOfOneCut total
+      → IsTotal (λ inputs t. t ≡ total_of inputs) AreConsecutive total
   of_one_cut (at, chained, ended) = of_cut asks.some (scanned chained)
 
   module _ (query : Meaning) (same : asked.request.as_of ≡ query.as_of) where

@@ -12,7 +12,7 @@ use Rattle.day_file.specs.Cuts.{IsRun, MorselView, start_of}
 use Rattle.day_file.specs.Kept.{numbered}
 use Rattle.day_file.proofs.CutFrames.{frames_of_cut}
 use Rattle.day_file.proofs.Kept.{length-numbered}
-use Rattle.scanning.specs.Scans.{AreJoined, AreOfOneCut, AreRuns, AreTogether, ScanInputView, inputs_from}
+use Rattle.scanning.specs.Scans.{AreJoined, AreConsecutive, AreRuns, AreTogether, ScanInputView, inputs_from}
 use Rattle.scanning.proofs.TotalOfScans.{inputs_joined}
 
 -- ---- runs joined
@@ -144,7 +144,7 @@ few_inputs {first = first} {start = start} {as_of = as_of} {parts = parts} t =
 
 -- they may be worked on
 pub of_one_cut : {most first start : ℕ} {as_of : Option ℕ} {parts : ℕ} {runs : List (List ℕ)} {inputs : List ScanInputView}
-    → AreTogether most first start as_of parts runs inputs → 0 < parts → AreRuns start runs → AreOfOneCut inputs
+    → AreTogether most first start as_of parts runs inputs → 0 < parts → AreRuns start runs → AreConsecutive inputs
 of_one_cut {first = first} {start = start} {as_of = as_of} {parts = parts} t some are =
     let joined = runs_joined are t.is in record {
       first = first;

@@ -138,7 +138,7 @@ pub record AreTogether (most first start : ℕ) (as_of : Option ℕ) (parts : �
   pub are : inputs ≡ inputs_from first start as_of parts joined
 
 -- these are the inputs of the scans of morsels of one cut that follow each other
-pub record AreOfOneCut (inputs : List ScanInputView) : Type 0 where
+pub record AreConsecutive (inputs : List ScanInputView) : Type 0 where
   pub first : ℕ
   pub start : ℕ
   pub runs : List (List ℕ)

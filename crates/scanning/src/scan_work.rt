@@ -3,7 +3,7 @@ ghost use Rattle.std.specs.Prelude.{◌≡◌, OnOk};
 ghost use Rattle.std.proofs.Common.{◌∙◌, ap, sym};
 ghost use Rattle.lists.proofs.Exact.{exact_list};
 ghost use Rattle.day_file.specs.Walk.{frames_of};
-ghost use Rattle.scanning.specs.Scans.{AreOfOneCut, TakesIn, exact_input, scanned, total_of};
+ghost use Rattle.scanning.specs.Scans.{AreConsecutive, TakesIn, exact_input, scanned, total_of};
 
 use crate::OutOfMemory;
 use crate::input::ScanInput;
@@ -30,7 +30,7 @@ impl Work for ScanWork {
 
     ghost IsTotalOf = { λ inputs total. total ≡ total_of inputs };
 
-    ghost IsAdmissible = { AreOfOneCut };
+    ghost IsAdmissible = { AreConsecutive };
 
     ghost equal_values = { λ a b output same is. is ∙ ap scanned (exact_input.one a b same) };
 
