@@ -2,4 +2,5 @@
 //! faults that no small day has, want of memory, and devices of other kinds.
 mod devices;
 mod faults;
+mod files;
 mod words;

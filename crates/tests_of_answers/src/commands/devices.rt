@@ -64,7 +64,7 @@ impl ReadsAt for Unreadable {
 }
 
 /// The job of all sales over the standard input, with the default settings.
-fn sales_job(alloc: Global) -> Result<Job, Fail> {
+pub(super) fn sales_job(alloc: Global) -> Result<Job, Fail> {
     let crew = Crew {
         workers: 4,
         gatherers: 1,
