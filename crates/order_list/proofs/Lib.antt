@@ -1,3 +1,3 @@
 pub mod FilteredOrders
-mod SteppedRows
+mod SearchedRows
 mod SetBits

@@ -1,7 +1,7 @@
 //! Order rows in little memory, and which of them are needed.
 //!
-//! As long as places and references lie close together, as in a morsel of a day, a row takes 8 bytes: it is a step from
-//! a mark, which stands for some fifty rows. Rows whose references rise are searched where they lie.
+//! As long as places and references lie close together, as in a morsel of a day, a row takes 12 bytes. Rows whose
+//! references rise are searched where they lie.
 //!
 //! A table of orders that lie in no order needs those alone whose references executions have, and those that may repeat
 //! one: most orders of a day are never executed, and hardly any repeats a reference. A bitmap filter finds these
@@ -12,10 +12,10 @@
 mod bits;
 mod filter;
 mod lean;
+mod offsets;
 mod order_rows;
 mod orders;
 mod rising_rows;
-mod step;
 mod wide;
 
 pub use filter::OrderFilter;

@@ -1,7 +1,8 @@
 //! Order rows, one after the other.
 ghost use Rattle.std.specs.Iterator.{YieldsFirst, item_count};
 
-use crate::step::{Mark, Step, begun, last_of};
+use crate::lean::Lean;
+use crate::offsets::Origin;
 use crate::wide::Wide;
 use row_types::OrderRow;
 use std::marker::Model;
@@ -9,25 +10,21 @@ use std::marker::Model;
 /// The rows of an `OrderList` that are left, in the order in which they were pushed. They are not copied.
 #[derive(Drop)]
 pub struct OrderRows<'a> {
-    pub(crate) marks: &'a [Mark],
-    /// About how many of the marks have begun.
-    pub(crate) begun: usize,
-    /// The index of the first step.
-    pub(crate) index: usize,
-    pub(crate) steps: &'a [Step],
+    pub(crate) origin: Origin,
+    pub(crate) lean: &'a [Lean],
     pub(crate) wide: &'a [Wide],
 }
 
 impl<'a> Model for OrderRows<'a> {
-    ghost use Rattle.std.specs.Prelude.{List, ◌++◌, ◌+◌, ◌^◌, ◌<◌, length, map};
+    ghost use Rattle.std.specs.Prelude.{List, ◌++◌, map};
     ghost use Rattle.row_types.specs.declared.order.OrderRow.{OrderRow};
-    ghost use Rattle.order_list.specs.ShortRows.{AreInOrder, row_of_wide, rows_from};
+    ghost use Rattle.order_list.specs.ShortRows.{IsOrigin, row_of_lean, row_of_wide};
 
     ghost Value = { List OrderRow };
 
-    ghost view = { λ rows. rows_from rows.marks.now rows.index rows.steps.now ++ map row_of_wide rows.wide.now };
+    ghost view = { λ rows. map (row_of_lean rows.origin) rows.lean.now ++ map row_of_wide rows.wide.now };
 
-    ghost invariant = { λ rows. AreInOrder rows.marks.now × (rows.index + length rows.steps.now < 2 ^ 64) };
+    ghost invariant = { λ rows. IsOrigin rows.origin };
 }
 
 impl<'a> Iterator for OrderRows<'a> {
@@ -39,11 +36,9 @@ impl<'a> Iterator for OrderRows<'a> {
 
     #[inline(always)]
     fn next(&mut self) -> Option<OrderRow> {
-        if let Some((step, rest)) = self.steps.split_first() {
-            self.begun = begun(self.marks, self.begun, self.index);
-            self.index += 1;
-            self.steps = rest;
-            return Some(last_of(self.marks, self.begun).row(*step));
+        if let Some((first, rest)) = self.lean.split_first() {
+            self.lean = rest;
+            return Some(first.row(self.origin));
         }
         let (first, rest) = self.wide.split_first()?;
         self.wide = rest;

@@ -17,10 +17,9 @@ use std::marker::Model;
 
 /// Order rows, in the order in which they were pushed.
 ///
-/// A row takes 8 bytes if it is near a row before it that has a mark: its place less than 256 KiB past that one's, and
-/// its reference less than 2^13 from it. A row that isn't near the last mark gets one, which takes 24, as long as there
-/// are two rows to each: on a day whose references rise, or fall, a mark stands for some fifty. The first row that gets
-/// none, and all that follow, take 20.
+/// A row takes 12 bytes as long as each is near the first one: its place less than 4 GiB past the first one's,
+/// which is so in a morsel, and its reference less than 2^31 from the first one's, which is so on a day whose
+/// references rise. The first row that isn't near, and all that follow, take 20.
 #[derive(Drop)]
 pub struct OrderList<A: Allocator = Global> {
     lean: LeanRows<A>,
@@ -117,10 +116,8 @@ impl<A: Allocator> OrderList<A> {
         ensures { result ≡ self.now }
     {
         OrderRows {
-            marks: self.lean.marks.as_slice(),
-            begun: 0,
-            index: 0,
-            steps: self.lean.steps.as_slice(),
+            origin: self.lean.origin,
+            lean: self.lean.rows.as_slice(),
             wide: self.wide.as_slice(),
         }
     }
@@ -144,8 +141,8 @@ impl<A: Allocator> OrderList<A> {
         ensures unchanged { OnErr result (out.new.items ≡ out.old.items) }
     {
         out.try_reserve(self.len())?;
-        for row in self.iter() {
-            out.push_reserved(row);
+        for index in 0..self.len() {
+            out.push_reserved(self.at(index));
         }
         Ok(())
     }

@@ -1,4 +1,4 @@
 pub mod Repeats
 pub mod RowsInOrder
 pub mod PartRows
-pub mod SearchedRows
+mod SearchedRows

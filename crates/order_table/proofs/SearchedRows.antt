@@ -16,7 +16,7 @@ module _ {X : Type 0} (f : X → ℕ) (rows : List X) (q : ℕ) where
   abbrev pub Point : ℕ → Type 0
   Point i = IsPartitionPoint (λ row. ltb (f row) q ≡ true) (λ row. ltb (f row) q ≡ false) rows i
 
-  pub none_gives : (xs : List X) → ((k : ℕ) (d : X) → k < length xs → f (get_or xs k d) ≢ q) → find (λ row. eqb (f row) q) xs ≡ None
+  none_gives : (xs : List X) → ((k : ℕ) (d : X) → k < length xs → f (get_or xs k d) ≢ q) → find (λ row. eqb (f row) q) xs ≡ None
   none_gives [] differ = refl
   none_gives (row ∷ xs) differ = rw (ne_eqb (f row) q (differ 0 row (omega arith))) (none_gives xs (λ k d l. differ (suc k) d (omega (arith, l))))
 

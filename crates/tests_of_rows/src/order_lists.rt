@@ -6,11 +6,11 @@ use order_table::OrderRow;
 use std::alloc::{Allocator, Global};
 use std::test::Fail;
 
-/// Farther than a place or a reference may be from that of a mark.
+/// Farther than a place or a reference may be from that of the first row.
 const FAR: u64 = 1 << 33;
 
-/// References and places of lists: of no rows, of lean ones at one mark, at several and before all, and of wide ones.
-const LISTS: [&[(u64, u64)]; 11] = [
+/// References and places of lists: of no rows, of lean ones, and of some that aren't near the first row.
+const LISTS: [&[(u64, u64)]; 9] = [
     &[],
     &[(3, 100), (4, 140), (2, 180)],
     &[(3, 100), (FAR, 140), (4, 180)],
@@ -32,18 +32,9 @@ const LISTS: [&[(u64, u64)]; 11] = [
     ],
     &[
         (FAR, 7),
-        (FAR - (1 << 13), 8),
-        (FAR - (1 << 13) - 1, 9),
+        (FAR - (1 << 31), 8),
+        (FAR - (1 << 31) - 1, 9),
         (FAR, 10),
-    ],
-    &[(3, 100), (4, 140), (FAR, 180), (FAR + 1, 220), (5, 260)],
-    &[
-        (3, 100),
-        (4, 140),
-        (5, 99 + (1 << 18)),
-        (6, 100 + (1 << 18)),
-        (FAR, 1 << 20),
-        (7, FAR),
     ],
 ];
 
@@ -117,69 +108,42 @@ fn lists_are_equal_if_their_rows_are(rt: HostRuntime) -> Result<(), Fail> {
     Ok(())
 }
 
-/// How many bytes of the heap nine rows take for which there was room: one of the first reference and place, and eight
-/// of the others.
-fn used_by_nine(
-    heap: &LocalHeap,
-    first: (u64, u64),
-    other: (u64, u64),
-) -> Result<usize, OutOfMemory> {
+/// How many bytes of the heap nine rows take for which there was room: one of the first reference, and eight of the
+/// other.
+fn used_by_nine(heap: &LocalHeap, first: u64, other: u64) -> Result<usize, OutOfMemory> {
     let mut list = OrderList::with_room(heap, 9)?;
-    push_each(&mut list, 1, first, (0, 0))?;
-    push_each(&mut list, 8, other, (0, 0))?;
+    list.push(order(first, 100))?;
+    push_each(&mut list, 8, (other, 140), (0, 1))?;
     Ok(heap.used())
 }
 
-/// Whether nine such rows take 8 bytes each, and their mark 24; None if they take 20 each.
-fn are_lean(
-    alloc: Global,
-    first: (u64, u64),
-    other: (u64, u64),
-) -> Result<Option<bool>, OutOfMemory> {
+/// How many bytes nine such rows take.
+fn bytes_of_nine(alloc: Global, first: u64, other: u64) -> Result<usize, OutOfMemory> {
     let heap = LocalHeap::new(alloc, 4_096)?;
-    let used = used_by_nine(&heap, first, other)?;
-    if (9 * 20..10 * 20).contains(&used) {
-        return Ok(None);
-    }
-    Ok(Some((9 * 8 + 24..11 * 8 + 32).contains(&used)))
+    used_by_nine(&heap, first, other)
 }
 
-/// First references and places of lists.
-const FIRST: [u64; 6] = [0, 5, 1 << 13, (1 << 31) + 1, FAR, u64::MAX];
+/// The first references of lists, and the lowest that is near each.
+const NEAR: [(u64, u64); 6] = [
+    (0, 0),
+    (5, 0),
+    (1 << 31, 0),
+    ((1 << 31) + 1, 1),
+    (FAR, FAR - (1 << 31)),
+    (u64::MAX, u64::MAX - u32::MAX as u64),
+];
 
-/// A row is near a mark by a reference from 2^13 below the mark's row to 2^13 - 1 above it, which goes on past the last
-/// number with the first ones.
+/// A row takes 12 bytes if it is near the first one, and otherwise 20.
 #[test]
-fn rows_are_near_by_reference(rt: HostRuntime) -> Result<(), Fail> {
-    for first in FIRST {
-        let lowest = first.wrapping_sub(1 << 13);
-        for near in [first, lowest, lowest.wrapping_add((1 << 14) - 1)] {
-            let lean = are_lean(rt.alloc(), (first, FAR), (near, FAR + 40))?;
-            assert!(rt; lean == Some(true), "{first} {near}");
+fn rows_near_the_first_take_twelve_bytes(rt: HostRuntime) -> Result<(), Fail> {
+    for (first, lowest) in NEAR {
+        for near in [first, lowest, lowest.wrapping_add(u32::MAX as u64)] {
+            let used = bytes_of_nine(rt.alloc(), first, near)?;
+            assert!(rt; used >= 9 * 12 && used < 10 * 12, "{first} {near}: {used}");
         }
-        for far in [lowest.wrapping_sub(1), lowest.wrapping_add(1 << 14)] {
-            let lean = are_lean(rt.alloc(), (first, FAR), (far, FAR + 40))?;
-            assert!(rt; lean.is_none(), "{first} {far}");
-        }
-    }
-    Ok(())
-}
-
-/// A row is near a mark by a place less than 2^18 past that of the mark's row.
-#[test]
-fn rows_are_near_by_place(rt: HostRuntime) -> Result<(), Fail> {
-    for first in FIRST {
-        for near in [0, 1, (1 << 18) - 1] {
-            let lean = are_lean(
-                rt.alloc(),
-                (FAR, first),
-                (FAR + 1, first.wrapping_add(near)),
-            )?;
-            assert!(rt; lean == Some(true), "{first} {near}");
-        }
-        for far in [u64::MAX, 1 << 18] {
-            let lean = are_lean(rt.alloc(), (FAR, first), (FAR + 1, first.wrapping_add(far)))?;
-            assert!(rt; lean.is_none(), "{first} {far}");
+        for far in [lowest.wrapping_sub(1), lowest.wrapping_add(1 << 32)] {
+            let used = bytes_of_nine(rt.alloc(), first, far)?;
+            assert!(rt; used >= 9 * 20 && used < 10 * 20, "{first} {far}: {used}");
         }
     }
     Ok(())
@@ -240,40 +204,41 @@ fn a_row_that_is_refused_leaves_the_list(rt: HostRuntime) -> Result<(), Fail> {
     Ok(())
 }
 
-/// How many bytes of the heap a list of a hundred rows takes with no row, with `near` at one mark, and with all, of
-/// which the others are far from each other.
-fn used_by_rows(heap: &LocalHeap, near: u64) -> Result<[usize; 3], OutOfMemory> {
+/// How many bytes of the heap a list of a hundred rows takes with no row, with `lean` lean ones, with a wide one more,
+/// and with all rows.
+fn used_by_rows(heap: &LocalHeap, lean: u64) -> Result<[usize; 4], OutOfMemory> {
     let mut list = OrderList::with_room(heap, 100)?;
     let room = heap.used();
-    push_each(&mut list, near, (FAR / 2, 100), (1, 0))?;
-    let with_near = heap.used();
-    push_each(&mut list, 100u64.saturating_sub(near), (FAR, 100), (FAR, 0))?;
+    push_each(&mut list, lean, (0, 100), (1, 0))?;
+    let with_lean = heap.used();
+    push_each(&mut list, 1, (FAR, 100), (0, 0))?;
+    let with_wide = heap.used();
+    let (next, rest) = (lean.saturating_add(1), 99u64.saturating_sub(lean));
+    push_each(&mut list, rest, (next.wrapping_mul(FAR), 100), (FAR, 0))?;
     let all = if list.len() == 100 { heap.used() } else { 0 };
-    Ok([room, with_near, all])
+    Ok([room, with_lean, with_wide, all])
 }
 
 /// How many bytes such a list takes.
-fn bytes_by_rows(alloc: Global, near: u64) -> Result<[usize; 3], OutOfMemory> {
-    let heap = LocalHeap::new(alloc, 8_192)?;
-    used_by_rows(&heap, near)
+fn bytes_by_rows(alloc: Global, lean: u64) -> Result<[usize; 4], OutOfMemory> {
+    let heap = LocalHeap::new(alloc, 4_096)?;
+    used_by_rows(&heap, lean)
 }
 
-/// A list that turns out wide has no room for lean rows beside that for wide ones, and takes no more than they do.
+/// A list that turns out wide has no room for lean rows beside that for wide ones.
 #[test]
 fn room_is_given_back_where_rows_turn_out_wide(rt: HostRuntime) -> Result<(), Fail> {
-    for near in [1, 2, 3, 10, 49] {
-        let [room, with_near, all] = bytes_by_rows(rt.alloc(), near)?;
-        assert!(rt;
-            room >= 100 * 8 + 4 * 24 && room < 104 * 8 + 4 * 24,
-            "{room}"
-        );
-        assert!(rt; with_near == room, "{near}");
-        assert!(rt; all > 0 && all < 104 * 20, "{near}: {all}");
+    for lean in [1, 2, 50] {
+        let [room, with_lean, with_wide, all] = bytes_by_rows(rt.alloc(), lean)?;
+        assert!(rt; room >= 100 * 12 && room < 102 * 12, "{room}");
+        assert!(rt; with_lean == room, "{lean}");
+        assert!(rt; with_wide < 102 * 20, "{lean}: {with_wide}");
+        assert!(rt; all == with_wide, "{lean}");
     }
     Ok(())
 }
 
-/// A reference far from `FAR`.
+/// The greatest reference that is near `FAR`.
 const TOP: u64 = FAR + (1 << 31) - 1;
 
 /// References, and the place at which a list of `FAR`, the next one and `TOP` has them.
@@ -292,7 +257,7 @@ const SEARCHED: [(u64, Option<u64>); 11] = [
 ];
 
 #[test]
-fn a_search_knows_references_at_each_mark(rt: HostRuntime) -> Result<(), Fail> {
+fn a_search_knows_references_near_and_far(rt: HostRuntime) -> Result<(), Fail> {
     let list = list_of(rt.alloc(), &[(FAR, 7), (FAR + 1, 8), (TOP, 9)])?;
     assert!(rt; bounds_of(&list) == Some((FAR, TOP)));
     for (order_no, place) in SEARCHED {

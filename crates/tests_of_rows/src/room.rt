@@ -13,7 +13,7 @@ fn takes_nine(heap: &LocalHeap) -> Option<bool> {
     };
     let (used, length) = (heap.used(), list.len());
     let are_pushed = push_each(&mut list, 9, (0, 0), (1, 1)).is_ok();
-    let is_taken_at_once = length == 0 && used >= 9 * 8 + 24 && heap.used() == used;
+    let is_taken_at_once = length == 0 && used >= 9 * 12 && heap.used() == used;
     Some(are_pushed && is_taken_at_once && list.len() == 9)
 }
 
@@ -33,7 +33,7 @@ fn a_list_takes_its_room_at_once_or_is_refused(rt: HostRuntime) -> Result<(), Fa
             break;
         }
     }
-    assert!(rt; enough.is_some_and(|step| step >= 6));
+    assert!(rt; enough.is_some_and(|step| step >= 7));
     Ok(())
 }
 
@@ -77,14 +77,14 @@ fn each_partition_takes_its_room_or_all_are_refused(rt: HostRuntime) -> Result<(
     for step in 1..400 {
         match taken_by_three(rt.alloc(), 16 * step)? {
             Ok(taken) => {
-                assert!(rt; taken >= 3 * (24 * 8 + 24));
+                assert!(rt; taken >= 3 * 24 * 12);
                 enough = Some(step);
                 break;
             }
             Err(left) => assert!(rt; left == 0),
         }
     }
-    assert!(rt; enough.is_some_and(|step| step >= 41));
+    assert!(rt; enough.is_some_and(|step| step >= 54));
     Ok(())
 }
 
@@ -96,7 +96,7 @@ fn room_is_taken_for_so_many_rows_and_given_back(rt: HostRuntime) -> Result<(), 
     let room = with_more.saturating_sub(with_few);
     // (an execution more too, of 40 bytes)
     assert!(rt;
-        room >= 3 * (8 * 8 + 32) && room <= 3 * (9 * 8 + 48),
+        room >= 3 * (8 * 12 + 32) && room <= 3 * (9 * 12 + 48),
         "{room}"
     );
     assert!(rt; left == without);
