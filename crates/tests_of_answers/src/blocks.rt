@@ -311,8 +311,8 @@ fn each_reading_that_fails_is_reported(rt: HostRuntime) -> Result<(), Fail> {
     Ok(())
 }
 
-/// A file of which each reading fails once the first pipeline is done, and the gate by which the first run of its
-/// first block waits for that.
+/// A file of which a reading at its start fails once the first pipeline is done, and the gate by which the first run of
+/// its first block waits for that. Nobody else reads there by then.
 #[derive(Drop)]
 struct FailsLate<'a> {
     bytes: &'a [u8],
@@ -322,7 +322,7 @@ struct FailsLate<'a> {
 
 impl<'a> ReadsAt for &FailsLate<'a> {
     fn get(&self, place: u64, into: &mut [u8]) -> Result<usize, DeviceFailed> {
-        if self.is_done.load(Ordering::SeqCst) {
+        if place == 0 && self.is_done.load(Ordering::SeqCst) {
             return Err(DeviceFailed);
         }
         Ok(copied(self.bytes, place, into))
