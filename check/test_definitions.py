@@ -20,7 +20,7 @@ DEVICES = ["sources/src/counted.rt", "block_scan/src/file_blocks.rt", "sinks/src
 SECONDS = {"program": "-- To be believed.", "crate": "-- To be believed of a crate used by itself", "proofs": "-- Derived: "}
 # The headings under which the definitions of each crate stand, in this order.
 SUBJECTS = {
-    "Lists": ["lists"],
+    "Lists": ["base"],
     "Bodies (sections 1.2 to 1.5)": ["itch_messages"],
     "Frames and sources of bytes": ["sources", "day_file", "streaming", "block_scan"],
     "Orders (sections 1.3, 1.4.5)": ["order_table"],
@@ -162,12 +162,12 @@ class NoClause(unittest.TestCase):
                 self.assertIn(edit.stem.partition("__")[0], names, edit)
 
 
-# docs/BASE.md
+# docs/TRUSTED.md
 
 
-class Base(unittest.TestCase):
+class Trusted(unittest.TestCase):
     def test_the_page_says_what_the_log_says(self):
-        page, log = TOP / "docs/BASE.md", TOP / "crates/itch_bars/out/build.log"
+        page, log = TOP / "docs/TRUSTED.md", TOP / "crates/itch_bars/out/build.log"
         said = re.search(r"(?m)((?:^axioms .*\n)+)logic=proved .*? (axioms=\d+ .*)$", log.read_text() if log.exists() else "")
         said or self.skipTest("bin/build has kept no log of a build here")
         self.assertEqual([], [line for line in said[1].splitlines() if f"\n    {line}\n" not in page.read_text()])

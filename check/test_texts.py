@@ -5,7 +5,7 @@ import re, shutil, sys, unittest
 from days import DATA, DAYS
 from run import TOP, run
 
-TEXTS = ("crates/arguments/src/arguments.rt", "crates/lists/src/limits.rt", "man/itch_bars.1", "README.md")
+TEXTS = ("crates/arguments/src/arguments.rt", "crates/base/src/limits.rt", "man/itch_bars.1", "README.md")
 CODE, LIMITS, PAGE, README = ((TOP / it).read_text() for it in TEXTS)
 
 

@@ -4,8 +4,8 @@ use Rattle.std.proofs.Common.{arith, length-append}
 use Rattle.std.specs.List.Sorted.{IsStrictlySortedBy}
 use Rattle.std.proofs.lemmas.List.Elements.{All-head, All-tail, All-weaker}
 use Rattle.std.proofs.lemmas.List.Sorted.{All-permutation, length_permutation}
-use Rattle.lists.specs.Among.{is_among}
-use Rattle.lists.specs.declared.limits.TheConstants.{TIME_LIMIT}
+use Rattle.base.specs.Among.{is_among}
+use Rattle.base.specs.declared.limits.TheConstants.{TIME_LIMIT}
 use Rattle.row_types.specs.declared.order.OrderRow.{OrderRow}
 use Rattle.probe.specs.Pricing.{Execution, Sale, priced}
 use Rattle.probe.specs.Selection.{admits}

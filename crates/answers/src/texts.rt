@@ -1,7 +1,7 @@
 //! The texts of sales and of bars, from one list and from those of all partitions.
 ghost use Rattle.std.specs.Prelude.{◌≡◌, ◌<◌, ◌++◌, All, IfOk, List};
 ghost use Rattle.std.specs.List.Sorted.{IsPermutation};
-ghost use Rattle.lists.specs.declared.limits.TheConstants.{TIME_LIMIT};
+ghost use Rattle.base.specs.declared.limits.TheConstants.{TIME_LIMIT};
 ghost use Rattle.time_and_sales.specs.Ranges.{all_items};
 ghost use Rattle.bars.specs.Bars.{FitIfTraded, IsUnionOf, all_bars};
 ghost use Rattle.bars.specs.Texts.{IsWritable, bars_text};

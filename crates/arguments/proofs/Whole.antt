@@ -7,7 +7,7 @@ use Rattle.std.proofs.lemmas.Bool.{both_ways}
 use Rattle.std.proofs.lemmas.List.{get_or-map, length-map}
 use Rattle.std.proofs.lemmas.Map.Keys.{apart_from_distinct}
 use Rattle.std.proofs.lemmas.Slice.Eq.{bytes_eq-Decides}
-use Rattle.lists.specs.declared.limits.TheConstants.{LARGEST_MORSEL, MOST_GATHERERS, MOST_PARTITIONS, MOST_WORKERS}
+use Rattle.base.specs.declared.limits.TheConstants.{LARGEST_MORSEL, MOST_GATHERERS, MOST_PARTITIONS, MOST_WORKERS}
 use Rattle.clap.specs.Built.{IsParsedFrom, IsPlain, IsPlainArg}
 use Rattle.clap.specs.Facts.{args_of, groups_of, least_values, unwrap_or_range}
 use Rattle.clap.specs.Matches.{found_of}

@@ -2,7 +2,7 @@
 -- To be believed.
 use Rattle.std.specs.Prelude.{◌≡◌, ◌≢◌, ℕ, Bool, true, false, List, [], ◌∷◌, Option, Some, codes, find, option_map, pos, option_and_then, string_bytes, bytes_eq}
 use Rattle.std.specs.Str.Parse.{digits_value, without_leading_plus}
-use Rattle.lists.specs.declared.limits.TheConstants.{LARGEST_MORSEL, LONGEST_FILE, MOST_GATHERERS, MOST_PARTITIONS, MOST_WORKERS}
+use Rattle.base.specs.declared.limits.TheConstants.{LARGEST_MORSEL, LONGEST_FILE, MOST_GATHERERS, MOST_PARTITIONS, MOST_WORKERS}
 use Rattle.clap.specs.Simple.{on_top}
 use Rattle.clap.specs.Words.{App, IsAmong, Kinds, Row, Rule, Text, first_of, new_app, new_rule, one_of, with_rule}
 use Rattle.clap.specs.declared.builder.action.ArgAction.TheVariants.{Set}

@@ -6,7 +6,7 @@ use Rattle.outcomes.specs.declared.day_fault.DayFault.{DayFault}
 use Rattle.outcomes.specs.declared.day_fault.DayFault.TheVariants as day
 use Rattle.outcomes.specs.declared.run_fault.RunFault.{RunFault}
 use Rattle.outcomes.specs.declared.run_fault.RunFault.TheVariants as run
-use Rattle.lists.specs.declared.limits.TheConstants.{MOST_MORSELS}
+use Rattle.base.specs.declared.limits.TheConstants.{MOST_MORSELS}
 use Rattle.outcomes.specs.declared.query_fault.QueryFault.{QueryFault}
 use Rattle.outcomes.specs.declared.query_fault.QueryFault.TheVariants as query
 

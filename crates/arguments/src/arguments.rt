@@ -9,11 +9,11 @@ ghost use Rattle.clap.specs.Words.{matches_of, rows_of, rule_of};
 ghost use Rattle.arguments.specs.Arguments.{HasSettingsOf, IsFaultOf, IsJobOf, is_given, morsel_rule, number_rule};
 ghost use Rattle.arguments.specs.Arguments.{required_rule, the_app};
 
+use base::limits::{LARGEST_MORSEL, LONGEST_FILE, MOST_GATHERERS, MOST_PARTITIONS, MOST_WORKERS};
 use clap::builder::ValueParser;
 use clap::error::ErrorKind;
 use clap::parser::ValueSource;
 use clap::{Arg, ArgAction, ArgMatches, Command, Error, value_parser};
-use lists::limits::{LARGEST_MORSEL, LONGEST_FILE, MOST_GATHERERS, MOST_PARTITIONS, MOST_WORKERS};
 use outcomes::{Crew, Settings};
 use std::alloc::{AllocError, Global};
 use std::io;

@@ -5,8 +5,8 @@ ghost use Rattle.arrayvec.specs.ArrayVec.{array_vec_len};
 ghost use Rattle.arguments.specs.FaultLines.{day_fault_text, line_of, query_fault_text, report_of, status_of};
 
 use arrayvec::ArrayVec;
+use base::limits::MOST_MORSELS;
 use itoa::Buffer;
-use lists::limits::MOST_MORSELS;
 use outcomes::{DayFault, QueryFault, RunFault};
 
 /// Room for the longest line, which has 103 bytes: that of a wrong length whose three numbers have 20 digits each.

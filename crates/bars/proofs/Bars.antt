@@ -8,9 +8,9 @@ use Rattle.std.proofs.lemmas.Cmp.{nat_cmp_total, on_total, then_total}
 use Rattle.std.proofs.lemmas.List.Elements.{All-from_recursion, All-contains}
 use Rattle.std.proofs.lemmas.List.Sorted.{length_permutation, sum_by-IsPermutation}
 use Rattle.std.proofs.lemmas.Map.Keys.{sorted_head, sorted_tail}
-use Rattle.lists.proofs.Lists.{IsPermutation-filter}
-use Rattle.lists.proofs.Least.{least_of-permutation, greatest_of-permutation, least_of_apart, greatest_of_apart}
-use Rattle.lists.proofs.Order.{Contains_cons, Contains_head, Contains_later, TellsApart, TellsApart-filter, same_from_items}
+use Rattle.base.proofs.Lists.{IsPermutation-filter}
+use Rattle.base.proofs.Least.{least_of-permutation, greatest_of-permutation, least_of_apart, greatest_of_apart}
+use Rattle.base.proofs.Order.{Contains_cons, Contains_head, Contains_later, TellsApart, TellsApart-filter, same_from_items}
 use Rattle.row_types.specs.declared.trade.Sale.{Sale}
 use Rattle.bars.specs.Bars.{Key, Bar, has_key, bar_of, key_cmp, found, AreBarsOf, IsByKey}
 

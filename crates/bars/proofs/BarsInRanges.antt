@@ -11,8 +11,8 @@ use Rattle.std.proofs.lemmas.List.Folds.{flat_map-map}
 use Rattle.std.proofs.lemmas.List.Kept.{IsStrictlySortedBy-filter}
 use Rattle.std.proofs.lemmas.List.Elements.{filter-append, filter_agree, filter_passes, All-contains_itself, All-nil, All-weaker}
 use Rattle.std.proofs.lemmas.List.Sorted.{IsNonDecreasingBy-from_all_adjacent}
-use Rattle.lists.proofs.Lists.{filter_of_filter, flat_map_next}
-use Rattle.lists.proofs.Order.{Contains-filter}
+use Rattle.base.proofs.Lists.{filter_of_filter, flat_map_next}
+use Rattle.base.proofs.Order.{Contains-filter}
 use Rattle.time_and_sales.specs.Ranges.{is_in_first}
 use Rattle.time_and_sales.proofs.RangesJoined.{in_first_alike, none_pass}
 use Rattle.row_types.specs.declared.trade.Sale.{Sale}

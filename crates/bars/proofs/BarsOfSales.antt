@@ -9,9 +9,9 @@ use Rattle.std.proofs.lemmas.List.Elements.{All-head, All-map, filter_passes}
 use Rattle.std.proofs.lemmas.List.Sorted.{answers_always, IsNonDecreasingBy-from_all_adjacent, IsPermutation-sym}
 use Rattle.std.proofs.lemmas.Nat.{le-div}
 use Rattle.std.proofs.Math.Nat.{div-mul-le_self, mul-le-mul_right}
-use Rattle.lists.specs.Least.{greatest_of, least_of}
-use Rattle.lists.proofs.Least.{TellsApart-permutation}
-use Rattle.lists.proofs.Order.{TellsApart-from_distinct}
+use Rattle.base.specs.Least.{greatest_of, least_of}
+use Rattle.base.proofs.Least.{TellsApart-permutation}
+use Rattle.base.proofs.Order.{TellsApart-from_distinct}
 use Rattle.row_types.specs.declared.trade.Sale.{Sale}
 use Rattle.time_and_sales.specs.Lent.{AreApart, all_sales}
 use Rattle.time_and_sales.proofs.SortedByPlace.{no_sale, place_of}

@@ -10,7 +10,7 @@ use Rattle.std.proofs.lemmas.List.Elements.{Contains-append_right}
 use Rattle.std.proofs.lemmas.List.{get_or-replicate, get_or-set_other, get_or-set_same, length-replicate, set-get_or, set_split}
 use Rattle.std.proofs.lemmas.Nat.{le-div, mul-add-lt}
 use Rattle.std.proofs.Math.Nat.{div-mul-le_self, mul-le-mul_right}
-use Rattle.lists.proofs.Order.{Contains_head}
+use Rattle.base.proofs.Order.{Contains_head}
 use Rattle.bars.specs.Bars.{Bar, IsByKey, IsUnionOf, joined_bar, key_cmp}
 use Rattle.bars.specs.Grids.{AreInSlots, IsIn, bar_in, bars_in, column, no_bar}
 use Rattle.bars.specs.Steps.{AreJoinedAlike}

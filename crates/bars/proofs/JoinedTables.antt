@@ -12,7 +12,7 @@ use Rattle.std.proofs.lemmas.List.Sums.{sum_by-cons}
 use Rattle.std.proofs.lemmas.List.Elements.{All-append, All-contains_itself, All-filter, All-head, All-tail, All-weaker, filter_agree}
 use Rattle.std.proofs.lemmas.List.Sorted.{answers_always, IsPermutation-map}
 use Rattle.std.proofs.lemmas.Map.Keys.{sorted_head, sorted_tail}
-use Rattle.lists.proofs.Lists.{flat_map_push}
+use Rattle.base.proofs.Lists.{flat_map_push}
 use Rattle.time_and_sales.specs.Lent.{lent}
 use Rattle.bars.specs.Bars.{Key, Bar, key_cmp, found, joined_bar, joined, joined_all, under, all_bars, IsByKey, IsUnionOf, IsTraded}
 use Rattle.bars.specs.Steps.{AreJoinedAlike, put}

@@ -5,7 +5,7 @@ use Rattle.std.proofs.lemmas.List.{take-append-drop}
 use Rattle.std.proofs.lemmas.List.Sums.{count_by-le-length, length-filter, sum_by-append, sum_by-cons}
 use Rattle.std.proofs.lemmas.List.Elements.{All-filter, All-head, All-map, All-tail, All-weaker, filter-append, filter_more}
 use Rattle.std.proofs.Math.Nat.{div-mul-le_self, div-le_of_le-mul}
-use Rattle.lists.specs.declared.limits.TheConstants.{NANOSECONDS, TIME_LIMIT, TRADE_LIMIT}
+use Rattle.base.specs.declared.limits.TheConstants.{NANOSECONDS, TIME_LIMIT, TRADE_LIMIT}
 use Rattle.row_types.specs.declared.trade.Sale.{Sale}
 use Rattle.time_and_sales.specs.Lent.{all_sales}
 use Rattle.bars.specs.Bars.{Key, Bar, interval_start, has_key, bar_of, key_cmp, AreBarsOf, AreBarsOfEach, CanJoin, IsUnionOf, AllSumsFit}

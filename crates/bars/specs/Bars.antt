@@ -5,8 +5,8 @@ use Rattle.std.specs.List.{AllZip, flat_map}
 use Rattle.std.specs.Ordering.{nat_cmp, ordering_then}
 use Rattle.std.specs.declared.cmp.Ordering.{Ordering}
 use Rattle.std.specs.List.Sorted.{IsStrictlySortedBy}
-use Rattle.lists.specs.Least.{least_of, greatest_of}
-use Rattle.lists.specs.declared.limits.TheConstants.{NANOSECONDS}
+use Rattle.base.specs.Least.{least_of, greatest_of}
+use Rattle.base.specs.declared.limits.TheConstants.{NANOSECONDS}
 use Rattle.row_types.specs.declared.trade.Sale.{Sale}
 pub use Rattle.bars.specs.declared.bar.Bar.{Bar}
 

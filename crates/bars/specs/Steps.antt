@@ -3,7 +3,7 @@
 use Rattle.std.specs.Prelude.{◌≡◌, ℕ, ◌<◌, ◌≤◌, All, List, [], ◌∷◌, None, length, if◌then◌else◌}
 use Rattle.std.specs.List.Sorted.{IsNonDecreasingBy}
 use Rattle.std.specs.Ordering.{is_eq, is_lt}
-use Rattle.lists.specs.declared.limits.TheConstants.{SECONDS_OF_DAY, TRADE_LIMIT}
+use Rattle.base.specs.declared.limits.TheConstants.{SECONDS_OF_DAY, TRADE_LIMIT}
 use Rattle.row_types.specs.declared.trade.Sale.{Sale}
 use Rattle.time_and_sales.specs.Lent.{AreApart}
 use Rattle.bars.specs.Bars.{Bar, IsByKey, IsTraded, Key, bar_from, interval_start, key_cmp, joined_all, joined_bar, under}

@@ -13,7 +13,7 @@ ghost use Rattle.bars.specs.declared.bar.Bar.{Bar as TheBar};
 
 use crate::OutOfMemory;
 use crate::bar::Bar;
-use lists::limits::{SECONDS_OF_DAY, TRADE_LIMIT};
+use base::limits::{SECONDS_OF_DAY, TRADE_LIMIT};
 use row_types::Sale;
 use std::alloc::{Allocator, Global};
 use std::marker::Model;

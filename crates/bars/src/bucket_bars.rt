@@ -7,7 +7,7 @@ ghost use Rattle.bars.specs.Steps.{AreOfForm, bars_of_form};
 use crate::OutOfMemory;
 use crate::bar_table::{BarTable, put_in_order};
 use crate::kept_form::Form;
-use lists::limits::{SECONDS_OF_DAY, TRADE_LIMIT};
+use base::limits::{SECONDS_OF_DAY, TRADE_LIMIT};
 use row_types::Sale;
 use std::alloc::Global;
 use std::marker::Model;

@@ -4,7 +4,7 @@ ghost use Rattle.bars.specs.Grids.{IsIn};
 
 use crate::bar::Bar;
 use crate::keyed::Keyed;
-use lists::limits::NANOSECONDS;
+use base::limits::NANOSECONDS;
 
 /// How many slots a grid has at most. A list of them then takes a mebibyte at most.
 const MOST_SLOTS: u64 = 262_144;

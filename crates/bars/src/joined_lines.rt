@@ -1,7 +1,7 @@
 //! The lines of the bars of sorted sales, which are made while the lines are written.
 ghost use Rattle.std.specs.Prelude.{◌≡◌, ◌<◌, All, IfOk, List, map};
 ghost use Rattle.std.specs.List.Sorted.{IsSorted};
-ghost use Rattle.lists.specs.declared.limits.TheConstants.{TIME_LIMIT};
+ghost use Rattle.base.specs.declared.limits.TheConstants.{TIME_LIMIT};
 ghost use Rattle.time_and_sales.specs.Names.{names_by};
 ghost use Rattle.bars.specs.Bars.{AllSumsFit, IsTraded, IsUnionOf, key_cmp};
 ghost use Rattle.bars.specs.Steps.{bar_at};

@@ -9,7 +9,7 @@ use Rattle.std.specs.Result.{result_err}
 use Rattle.std.proofs.lemmas.List.{get_or-map, length-map, map_push}
 use Rattle.std.proofs.lemmas.List.FromFn.{length-map-range_with_len}
 use Rattle.std.proofs.lemmas.List.Elements.{All-map}
-use Rattle.lists.specs.Least.{numbers_below}
+use Rattle.base.specs.Least.{numbers_below}
 use Rattle.block_scan.specs.Attempts.{AreAttemptsOf, AreBlocks, AreOf, AttemptView, BlockView, block_at, blocks_of, first_fault_of}
 use Rattle.block_scan.specs.Pieces.{Asked, IsAskable}
 use Rattle.streaming.specs.declared.fault.SourceFault.{SourceFault}

@@ -3,8 +3,8 @@ use Rattle.std.proofs.Common.{◌≡◌, ℕ, ◌+◌, ◌<◌, List, [], ◌∷
 use Rattle.std.specs.List.{concat}
 use Rattle.std.proofs.lemmas.List.{length-append, map_push}
 use Rattle.std.proofs.lemmas.List.Elements.{All-push}
-use Rattle.lists.proofs.Lists.{concat_push, length-concat_push}
-use Rattle.lists.specs.Among.{AreBytes}
+use Rattle.base.proofs.Lists.{concat_push, length-concat_push}
+use Rattle.base.specs.Among.{AreBytes}
 use Rattle.day_file.specs.Cuts.{IsRun, MorselView}
 use Rattle.day_file.specs.Frames.{IsStuck, IsTruncatedAt, IsWhole, PlacedBody, StandsFrom}
 use Rattle.day_file.specs.Kept.{numbered}

@@ -5,7 +5,7 @@ use Rattle.std.proofs.lemmas.List.Elements.{All-append, All-drop, All-take}
 use Rattle.std.proofs.Math.Seq.{take-append-add}
 use borrow.Rule.Slice.PartMut.{put_mid}
 use lib.Seq.{paste}
-use Rattle.lists.specs.Among.{AreBytes}
+use Rattle.base.specs.Among.{AreBytes}
 use Rattle.day_file.specs.Frames.{PlacedBody, IsStuck, StandsFrom}
 use Rattle.day_file.proofs.Joined.{StandsFrom-append}
 use Rattle.scanning.specs.Scans.{ScanView, scan_of}

@@ -4,8 +4,8 @@ use Rattle.std.proofs.Common.{length, take, drop, take_at, drop_at, refl, sym, a
 use Rattle.std.proofs.lemmas.Bool.{leb-true}
 use Rattle.std.proofs.lemmas.Bool.Decides.{nat_tests}
 use Rattle.std.proofs.lemmas.List.{length-append}
-use Rattle.lists.proofs.Lists.{All-parts}
-use Rattle.lists.specs.Among.{AreBytes}
+use Rattle.base.proofs.Lists.{All-parts}
+use Rattle.base.specs.Among.{AreBytes}
 use Rattle.day_file.specs.Frames.{PlacedBody, IsShort, IsStuck, StandAt, StandsFrom, spelling}
 use Rattle.day_file.proofs.Joined.{spelling-append}
 use Rattle.day_file.proofs.Laws.{StandAt-split}

@@ -6,8 +6,8 @@ use Rattle.std.specs.Option.{option_eq, option_or}
 use Rattle.std.specs.Result.{result_err}
 use Rattle.std.proofs.Common.{arith, sym, subst}
 use Rattle.std.proofs.lemmas.Bool.Decides.{nat_tests}
-use Rattle.lists.proofs.Exact.{IsExact, exact_equiv, exact_list, exact_nat, exact_option}
-use Rattle.lists.specs.Least.{numbers_below}
+use Rattle.base.proofs.Exact.{IsExact, exact_equiv, exact_list, exact_nat, exact_option}
+use Rattle.base.specs.Least.{numbers_below}
 use Rattle.gathering.specs.Adding.{same_inputs}
 use Rattle.streaming.specs.declared.fault.SourceFault.{SourceFault}
 use Rattle.block_scan.specs.declared.scanned_block.ScannedBlock.{ScannedBlock}

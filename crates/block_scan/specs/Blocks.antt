@@ -11,7 +11,7 @@ use Rattle.std.proofs.lemmas.Bool.{and_parts}
 use Rattle.std.proofs.lemmas.Cmp.{int_eq_equiv}
 use Rattle.std.proofs.lemmas.Bool.Decides.{Decides-int_eq}
 use Rattle.std.proofs.lemmas.List.{drop-drop, drop-take, length-append, take-take}
-use Rattle.lists.proofs.Exact.{IsExact, exact_list, exact_nat, exact_option}
+use Rattle.base.proofs.Exact.{IsExact, exact_list, exact_nat, exact_option}
 use Rattle.block_scan.specs.declared.block_source.BlockSource.{Ghosts as BlockSourceOf}
 use Rattle.streaming.specs.Readings.{IsSourceFault, Reading}
 use Rattle.streaming.specs.declared.fault.SourceFault.{SourceFault}

@@ -2,8 +2,8 @@
 -- To be believed of a crate used by itself: a promise of the program speaks of the whole source alone.
 use Rattle.std.specs.Prelude.{◌≡◌, ℕ, ◌+◌, ◌<◌, ◌≤◌, List, ◌++◌, length, All, Bool, false, Result, Ok, Err, IfOk, IfErr}
 use Rattle.std.specs.List.{concat}
-use Rattle.lists.specs.declared.limits.TheConstants.{LONGEST_FILE, MOST_PARTITIONS}
-use Rattle.lists.specs.Among.{AreBytes}
+use Rattle.base.specs.declared.limits.TheConstants.{LONGEST_FILE, MOST_PARTITIONS}
+use Rattle.base.specs.Among.{AreBytes}
 use Rattle.day_file.specs.Cuts.{IsRun}
 use Rattle.day_file.specs.Frames.{IsStuck, PlacedBody, StandsFrom}
 use Rattle.scanning.specs.Scans.{ScanTotalView, inputs_of, scan_of, total_of}

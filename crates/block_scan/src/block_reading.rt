@@ -1,7 +1,7 @@
 //! Pieces that are read and scanned through one buffer.
 ghost use Rattle.std.specs.Prelude.{◌≡◌, ◌≤◌, ◌<◌, ◌+◌, [], length, take, vec_len, IfErr, IfOk};
-ghost use Rattle.lists.specs.declared.limits.TheConstants.{LONGEST_FILE};
-ghost use Rattle.lists.specs.Among.{AreBytes};
+ghost use Rattle.base.specs.declared.limits.TheConstants.{LONGEST_FILE};
+ghost use Rattle.base.specs.Among.{AreBytes};
 ghost use Rattle.day_file.specs.declared.frame.TheConstants.{LONGEST_FRAME};
 ghost use Rattle.block_scan.specs.Blocks.{IsBlocksFault};
 ghost use Rattle.block_scan.specs.Pieces.{IsAskable, IsPiece, IsTried};
@@ -13,8 +13,8 @@ use crate::block_source::BlockSource;
 use crate::guessing::guess;
 use crate::request::Request;
 use crate::scanned_block::{ScannedBlock, Tail};
+use base::limits::LONGEST_FILE;
 use day_file::{Frames, LONGEST_FRAME};
-use lists::limits::LONGEST_FILE;
 use scanning::OpenScan;
 use std::alloc::Global;
 use streaming::SourceFault;

@@ -1,7 +1,7 @@
 //! The blocks of a source.
 ghost use Rattle.std.specs.Prelude.{◌≡◌, ◌<◌, ◌≤◌, map, IfErr, IfOk, OnOk};
 ghost use Rattle.std.specs.Arc.{arc_value};
-ghost use Rattle.lists.specs.declared.limits.TheConstants.{LONGEST_FILE, MOST_PARTITIONS};
+ghost use Rattle.base.specs.declared.limits.TheConstants.{LONGEST_FILE, MOST_PARTITIONS};
 ghost use Rattle.block_scan.specs.Attempts.{block_at, blocks_of};
 ghost use Rattle.block_scan.specs.Blocks.{IsBlocksFault};
 ghost use Rattle.block_scan.specs.Pieces.{IsAskable};
@@ -12,8 +12,8 @@ use crate::block_source::BlockSource;
 use crate::block_work::BlockWork;
 use crate::division::Division;
 use crate::request::Request;
+use base::limits::{LONGEST_FILE, MOST_PARTITIONS};
 use gathering::Inputs;
-use lists::limits::{LONGEST_FILE, MOST_PARTITIONS};
 use std::alloc::Global;
 use std::sync::Arc;
 use streaming::SourceFault;

@@ -1,8 +1,8 @@
 //! How a source is divided into blocks.
 ghost use Rattle.std.specs.Prelude.{◌≡◌, ◌<◌, ◌≤◌};
-ghost use Rattle.lists.specs.declared.limits.TheConstants.{LONGEST_FILE, MOST_TASKS};
+ghost use Rattle.base.specs.declared.limits.TheConstants.{LONGEST_FILE, MOST_TASKS};
 
-use lists::limits::{LONGEST_FILE, MOST_TASKS};
+use base::limits::{LONGEST_FILE, MOST_TASKS};
 
 /// The bytes of the smallest block and of the largest, if the source isn't longer than is expected: large enough that
 /// what a block costs beside its bytes is nothing, small enough that threads end together.

@@ -2,7 +2,7 @@
 ghost use Rattle.std.specs.Prelude.{◌≡◌, ◌<◌, ◌≤◌, ℕ, ℤ, List, Option, None, Some, IfErr, IfOk, length, take, true};
 ghost use Rattle.std.specs.Cmp.{partial_equiv_from_equiv};
 ghost use Rattle.std.specs.Fd.{file_raw_fd};
-ghost use Rattle.lists.proofs.Exact.{exact_equiv};
+ghost use Rattle.base.proofs.Exact.{exact_equiv};
 ghost use Rattle.block_scan.specs.Blocks.{FileView, GaveWhole, KnownAt, KnownEnd, exact_file, is_same_file};
 ghost use Rattle.block_scan.specs.Blocks.{known_back, known_front, known_more, known_nothing};
 

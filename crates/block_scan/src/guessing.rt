@@ -1,6 +1,6 @@
 //! Guesses of where a frame begins.
 ghost use Rattle.std.specs.Prelude.{◌≤◌, length, IfErr, IfOk};
-ghost use Rattle.lists.specs.declared.limits.TheConstants.{LONGEST_FILE};
+ghost use Rattle.base.specs.declared.limits.TheConstants.{LONGEST_FILE};
 
 use crate::block_source::BlockSource;
 use day_file::{DeviceFailed, Frames};

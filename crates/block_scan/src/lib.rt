@@ -16,6 +16,7 @@ mod request;
 mod scanned_block;
 
 pub use attempt::{Attempt, Attempts};
+pub use base::OutOfMemory;
 pub use block::Block;
 pub use block_source::BlockSource;
 pub use block_work::BlockWork;
@@ -23,5 +24,4 @@ pub use blocks::block_inputs;
 pub use day_file::DeviceFailed;
 pub use division::Division;
 pub use file_blocks::{FileBlocks, ReadsAt, known_bytes_are_read};
-pub use lists::OutOfMemory;
 pub use streaming::SourceFault;

@@ -3,7 +3,7 @@ ghost use Rattle.std.specs.Prelude.{◌≡◌, ℕ, [], IsOk, List, OnErr, OnOk,
 ghost use Rattle.std.specs.Cmp.{partial_equiv_from_equiv};
 ghost use Rattle.std.specs.Cmp.Lexicographic.{nat_list_eq_equiv, pointwise};
 ghost use Rattle.std.specs.List.Sorted.{IsStrictlyIncreasing};
-ghost use Rattle.lists.specs.Among.{HasNumbersOf, IsUnion, is_among};
+ghost use Rattle.base.specs.Among.{HasNumbersOf, IsUnion, is_among};
 
 use crate::OutOfMemory;
 use std::alloc::{Allocator, Global};

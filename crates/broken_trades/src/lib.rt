@@ -6,5 +6,5 @@
 
 mod breaks;
 
+pub use base::OutOfMemory;
 pub use breaks::Breaks;
-pub use lists::OutOfMemory;

@@ -2,8 +2,8 @@
 use Rattle.std.proofs.Common.{◌≡◌, ℕ, Bool, List, filter, is_none, map, nat_eq, option_map, refl, sym, ap, ◌∙◌}
 use Rattle.std.specs.List.{IsDistinct}
 use Rattle.std.specs.declared.alloc.Global.{Global}
-use Rattle.lists.specs.Least.{least_by}
-use Rattle.lists.proofs.Lists.{filters_commute, filter_map_on_filter}
+use Rattle.base.specs.Least.{least_by}
+use Rattle.base.proofs.Lists.{filters_commute, filter_map_on_filter}
 use Rattle.row_types.specs.declared.order.OrderRow.{OrderRow}
 use Rattle.order_table.specs.Orders.{first_repeated}
 use Rattle.order_table.proofs.PartRows.{price_where}

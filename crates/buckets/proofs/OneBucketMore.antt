@@ -2,8 +2,8 @@
 use Rattle.std.proofs.Common.{◌≡◌, List, [], ◌∷◌, ◌++◌, option_to_list, map, ap, ◌∙◌}
 use Rattle.std.specs.Arc.{arc_value}
 use Rattle.std.specs.declared.sync.Arc.{Arc}
-use Rattle.lists.specs.Least.{least_by}
-use Rattle.lists.proofs.Least.{least_more}
+use Rattle.base.specs.Least.{least_by}
+use Rattle.base.proofs.Least.{least_more}
 use Rattle.order_table.specs.declared.table.Repeated.{Repeated}
 use Rattle.row_types.specs.declared.trade.Unknown.{Unknown}
 use Rattle.buckets.specs.Buckets.{found, total_found}

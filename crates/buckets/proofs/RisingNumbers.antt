@@ -4,10 +4,10 @@ use Rattle.std.specs.List.Sorted.{IsStrictlyIncreasing}
 use Rattle.std.proofs.lemmas.List.FromFn.{get_or-range_with_len, length-range_with_len}
 use Rattle.std.proofs.lemmas.List.Kept.{IsStrictlyIncreasing-filter}
 use Rattle.std.proofs.lemmas.List.Sums.{get_or-le-sum_by}
-use Rattle.lists.specs.Among.{HasNumbersOf, is_among}
-use Rattle.lists.specs.Least.{numbers_below}
-use Rattle.lists.proofs.Among.{among_from, from_among, same_from_numbers, same_members}
-use Rattle.lists.proofs.Order.{Contains-filter, passes_filter}
+use Rattle.base.specs.Among.{HasNumbersOf, is_among}
+use Rattle.base.specs.Least.{numbers_below}
+use Rattle.base.proofs.Among.{among_from, from_among, same_from_numbers, same_members}
+use Rattle.base.proofs.Order.{Contains-filter, passes_filter}
 use Rattle.meaning.proofs.ListedLocates.{numbers_rise}
 use Rattle.buckets.specs.Plans.{rising}
 

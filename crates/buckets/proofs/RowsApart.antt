@@ -2,7 +2,7 @@
 use Rattle.std.proofs.Common.{ℕ, ◌<◌, Bool, List, length, map, nat_eq, arith}
 use Rattle.std.specs.List.{IsDistinct}
 use Rattle.std.proofs.lemmas.List.{length-append}
-use Rattle.lists.specs.declared.limits.TheConstants.{TRADE_LIMIT}
+use Rattle.base.specs.declared.limits.TheConstants.{TRADE_LIMIT}
 use Rattle.row_types.specs.declared.order.OrderRow.{OrderRow}
 use Rattle.probe.specs.Pricing.{priced}
 use Rattle.row_types.specs.declared.trade.Sale.{Sale}

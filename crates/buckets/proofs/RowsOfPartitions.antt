@@ -6,7 +6,7 @@ use Rattle.std.specs.declared.alloc.Global.{Global}
 use Rattle.std.specs.declared.sync.Arc.{Arc}
 use Rattle.std.proofs.lemmas.List.{append-nil, get_or_past, take_more, map_push}
 use Rattle.std.proofs.lemmas.Option.{get_or_from_slice_get}
-use Rattle.lists.proofs.Lists.{flat_map_push}
+use Rattle.base.proofs.Lists.{flat_map_push}
 use Rattle.morsel_rows.specs.SameRows.{is_same_partition, partition_equiv}
 use Rattle.morsel_rows.specs.Partitions.{MorselRowsView, PartitionView, joined_partitions, no_rows_in, partition_at}
 use Rattle.buckets.specs.BucketRows.{rows_at, rows_of_partitions}

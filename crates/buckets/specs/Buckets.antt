@@ -5,8 +5,8 @@ use Rattle.std.specs.Cmp.{IsEquivalence}
 use Rattle.std.specs.Cmp.Lexicographic.{pointwise}
 use Rattle.std.proofs.Common.{arith}
 use Rattle.std.proofs.lemmas.Bool.Decides.{nat_tests}
-use Rattle.lists.proofs.Exact.{IsExact, exact_equiv, exact_list, exact_nat}
-use Rattle.lists.specs.Least.{numbers_below}
+use Rattle.base.proofs.Exact.{IsExact, exact_equiv, exact_list, exact_nat}
+use Rattle.base.specs.Least.{numbers_below}
 use Rattle.probe.specs.Selection.{admits}
 use Rattle.meaning.specs.declared.query.What.{What}
 use Rattle.morsel_rows.specs.Partitions.{joined_partitions}

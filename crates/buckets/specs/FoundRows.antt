@@ -1,7 +1,7 @@
 -- What is found in the rows of one partition, and in those of several.
 -- To be believed of a crate used by itself: the answer isn't defined by partitions.
 use Rattle.std.specs.Prelude.{ℕ, Bool, List, ◌++◌, map, Option, option_map, filter_map}
-use Rattle.lists.specs.Least.{least_by}
+use Rattle.base.specs.Least.{least_by}
 use Rattle.order_table.specs.Orders.{first_repeated, repeated_of}
 use Rattle.order_table.specs.declared.table.Repeated.{Repeated}
 use Rattle.probe.specs.Pricing.{first_unknown, priced, unknown_of}

@@ -2,8 +2,8 @@
 -- To be believed of a crate used by itself: the answer isn't defined by buckets.
 use Rattle.std.specs.Prelude.{ℕ, suc, List, filter, sum}
 use Rattle.std.specs.declared.alloc.Global.{Global}
-use Rattle.lists.specs.Among.{is_among}
-use Rattle.lists.specs.Least.{numbers_below}
+use Rattle.base.specs.Among.{is_among}
+use Rattle.base.specs.Least.{numbers_below}
 use Rattle.probe.specs.declared.selection.Selection.{Selection}
 use Rattle.time_and_sales.specs.Names.{name_of}
 use Rattle.row_types.specs.declared.directory.DirectoryRow.{DirectoryRow}

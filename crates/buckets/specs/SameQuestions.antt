@@ -6,7 +6,7 @@ use Rattle.std.specs.contracts.impls.GlobalAllocator.TheImpl as allocator
 use Rattle.std.specs.declared.alloc.Global.{Global}
 use Rattle.std.proofs.Common.{arith}
 use Rattle.std.proofs.lemmas.Bool.Decides.{nat_tests}
-use Rattle.lists.proofs.Exact.{IsExact}
+use Rattle.base.proofs.Exact.{IsExact}
 use Rattle.probe.proofs.ExactSelections.{exact_selections}
 use Rattle.probe.specs.contracts.selection.SelectionPartialEq.TheImpl as selection_eq
 use Rattle.probe.specs.declared.selection.Selection.{Selection}

@@ -1,7 +1,7 @@
 //! The work of buckets.
 ghost use Rattle.std.specs.Prelude.{◌≡◌};
 ghost use Rattle.std.proofs.Common.{◌∙◌, ap, sym};
-ghost use Rattle.lists.proofs.Exact.{exact_list};
+ghost use Rattle.base.proofs.Exact.{exact_list};
 ghost use Rattle.buckets.specs.Buckets.{AreNumbered, exact_bucket, found, total_found};
 
 use crate::OutOfMemory;
@@ -9,8 +9,8 @@ use crate::bucket::Bucket;
 use crate::bucket_total::{BucketTotal, Found};
 use crate::product_making::product;
 use crate::trading::{Traded, trade};
+use base::earlier;
 use gathering::Work;
-use lists::earlier;
 use probe::keep;
 use std::alloc::Global;
 use std::sync::Arc;

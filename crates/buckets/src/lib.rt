@@ -17,10 +17,10 @@ mod product_making;
 mod rising_orders;
 mod trading;
 
+pub use base::OutOfMemory;
 pub use bucket::Bucket;
 pub use bucket_total::{BucketTotal, Found};
 pub use bucket_work::BucketWork;
-pub use lists::OutOfMemory;
 pub use names::DayNames;
 pub use plan::Plan;
 pub use product::Product;

@@ -1,6 +1,6 @@
 //! What a query lists of some sales.
 ghost use Rattle.std.specs.Prelude.{◌≡◌, ◌<◌, All, length};
-ghost use Rattle.lists.specs.declared.limits.TheConstants.{TRADE_LIMIT};
+ghost use Rattle.base.specs.declared.limits.TheConstants.{TRADE_LIMIT};
 ghost use Rattle.time_and_sales.specs.Lent.{AreApart};
 ghost use Rattle.meaning.specs.Meaning.{HasWidth};
 ghost use Rattle.buckets.specs.Products.{product_of};

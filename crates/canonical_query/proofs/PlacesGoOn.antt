@@ -2,7 +2,7 @@
 use Rattle.std.proofs.Common.{◌≡◌, ℕ, ◌*◌, true, false, nat_lt, List, [], ◌∷◌, ◌++◌, Some, refl, sym, ap, ◌∙◌, subst, arith, codes, map, ◌⊎◌, inl, inr}
 use Rattle.std.specs.Prelude.{is_some, Ok}
 use Rattle.std.proofs.lemmas.Bool.{cases_Bool}
-use Rattle.lists.specs.declared.limits.TheConstants.{SECONDS_OF_DAY}
+use Rattle.base.specs.declared.limits.TheConstants.{SECONDS_OF_DAY}
 use Rattle.meaning.specs.Meaning.{Kinds, Meaning, Span, is_width, is_symbol}
 use Rattle.meaning.specs.declared.query.What.TheVariants.{Bars}
 use Rattle.query.specs.Words.{Word, word}

@@ -7,7 +7,7 @@ use Rattle.std.proofs.lemmas.List.{take_more}
 use Rattle.canonical_query.specs.Canonical.{clock_text, what_words, linked, symbol_condition, time_condition, spaced, next_link}
 use Rattle.std.proofs.lemmas.Bool.{lt-ltb}
 use Rattle.std.proofs.lemmas.Bool.Decides.{nat_tests}
-use Rattle.lists.specs.declared.limits.TheConstants.{SECONDS_OF_DAY}
+use Rattle.base.specs.declared.limits.TheConstants.{SECONDS_OF_DAY}
 use Rattle.meaning.specs.Meaning.{CanBeSpelled, Meaning, Span}
 use Rattle.meaning.specs.declared.query.What.TheVariants.{Bars, Sales}
 use Rattle.meaning.specs.declared.query.What.{What}

@@ -5,6 +5,6 @@
 mod grammar_laws;
 mod writer;
 
+pub use base::OutOfMemory;
 pub use grammar_laws::{canonical_text, fault_of_first_wrong_word, meaning_or_fault, one_meaning};
-pub use lists::OutOfMemory;
 pub use writer::write;

@@ -5,9 +5,9 @@ ghost use Rattle.canonical_query.specs.Canonical.{canonical, clock_text, kind_co
 ghost use Rattle.canonical_query.specs.Canonical.{moment_words, next_link, pair_text, spaced, symbol_condition};
 ghost use Rattle.canonical_query.specs.Canonical.{time_condition, what_words};
 
+use base::OutOfMemory;
+use base::limits::SECONDS_OF_DAY;
 use itoa::Buffer;
-use lists::OutOfMemory;
-use lists::limits::SECONDS_OF_DAY;
 use meaning::{COMMA, Query, Symbol, Symbols, What};
 use probe::{Kinds, Span};
 use query::{COLON, SPACE};

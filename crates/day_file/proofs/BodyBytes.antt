@@ -2,8 +2,8 @@
 use Rattle.std.proofs.Common.{ℕ, ◌<◌, List, [], ◌∷◌, length, subst}
 use Rattle.std.specs.List.{AllByRecursion}
 use Rattle.byteorder.specs.Endian.{big_bytes}
-use Rattle.lists.proofs.Lists.{All-parts}
-use Rattle.lists.specs.Among.{AreBytes}
+use Rattle.base.proofs.Lists.{All-parts}
+use Rattle.base.specs.Among.{AreBytes}
 use Rattle.day_file.specs.Frames.{PlacedBody, StandsFor, frame_of, spelling}
 
 bodies : (frames : List PlacedBody) → AreBytes (spelling frames) → AllByRecursion (λ (f : PlacedBody). AreBytes f.body) frames

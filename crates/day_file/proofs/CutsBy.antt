@@ -7,7 +7,7 @@ use Rattle.std.proofs.lemmas.List.{append-nil, drop_all, drop_at, drop-drop, len
 use Rattle.std.proofs.lemmas.List.{take-take, take_more}
 use Rattle.std.proofs.lemmas.List.Elements.{All-cons, All-nil, All-tail, All-take}
 use Rattle.std.proofs.lemmas.Result.{err_from_is_err_and}
-use Rattle.lists.proofs.Lists.{length-concat_push}
+use Rattle.base.proofs.Lists.{length-concat_push}
 use Rattle.day_file.specs.declared.frame.TheConstants.{LONGEST_FRAME}
 use Rattle.day_file.specs.Frames.{PlacedBody, spelling, IsShort, IsWhole}
 use Rattle.day_file.specs.Cuts.{HasNoShorter, IsCutBy, IsFirstRun, IsRun, but_last}

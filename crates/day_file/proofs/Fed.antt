@@ -6,8 +6,8 @@ use Rattle.std.specs.List.{concat}
 use Rattle.std.proofs.lemmas.List.{length-append, length-drop, length-take-le, nil_from_length, take-append-drop, take-append-le}
 use Rattle.std.proofs.lemmas.List.Folds.{concat-append}
 use Rattle.std.proofs.lemmas.List.Elements.{All-nil, All-push, All-tail, All-weaker}
-use Rattle.lists.specs.declared.limits.TheConstants.{LONGEST_FILE, MOST_MORSELS}
-use Rattle.lists.proofs.Lists.{All-parts, concat_push, length-concat_push}
+use Rattle.base.specs.declared.limits.TheConstants.{LONGEST_FILE, MOST_MORSELS}
+use Rattle.base.proofs.Lists.{All-parts, concat_push, length-concat_push}
 use Rattle.day_file.specs.Frames.{IsTruncatedAt, IsWhole}
 use Rattle.day_file.specs.Cuts.{IsCutBy, IsFirstRun, IsRun, rest_run}
 use Rattle.day_file.specs.Feeding.{CutterView, HasFed, IsCutting, IsFullRun, IsTaken, fed_length}

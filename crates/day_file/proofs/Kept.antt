@@ -2,12 +2,12 @@
 use Rattle.std.proofs.Common.{Fits, List, Some, [], ℕ, ◌++◌, ◌+◌, ◌<◌, ◌∙◌, ◌∷◌, ◌≡◌, ◌≤◌, ap, arith, get_or, length, map, refl, slice_get, suc, sym, w8, zero}
 use Rattle.std.proofs.lemmas.List.{get_or_default, length-append, length-map, map-append}
 use Rattle.std.specs.List.{concat}
-use Rattle.lists.proofs.Lists.{length-concat_push}
+use Rattle.base.proofs.Lists.{length-concat_push}
 use Rattle.std.proofs.lemmas.Option.{slice_get_read}
 use Rattle.std.proofs.Math.ListN.{get_or-map}
 use Rattle.std.proofs.lemmas.List.Elements.{All-push}
-use Rattle.lists.specs.declared.limits.TheConstants.{LONGEST_FILE, MOST_MORSELS}
-use Rattle.lists.specs.Among.{AreBytes}
+use Rattle.base.specs.declared.limits.TheConstants.{LONGEST_FILE, MOST_MORSELS}
+use Rattle.base.specs.Among.{AreBytes}
 use Rattle.day_file.specs.Cuts.{IsRun, MorselView, start_of}
 use Rattle.day_file.specs.Kept.{runs_of, numbered, AreMorsels, IsKept}
 

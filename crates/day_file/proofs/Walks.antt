@@ -8,7 +8,7 @@ use Rattle.std.proofs.Math.Seq.{drop-append_seam, take-append_seam}
 use Rattle.std.proofs.lemmas.List.Elements.{All-drop, All-nil}
 use Rattle.byteorder.specs.Endian.{big_number}
 use Rattle.day_file.specs.Frames.{FramesLeft, PlacedBody, frame_of, spelling, StandAt, IsShort, IsStuck, StandsFrom, IsTruncatedAt, IsWhole}
-use Rattle.lists.specs.Among.{AreBytes}
+use Rattle.base.specs.Among.{AreBytes}
 use Rattle.day_file.specs.Walk.{first_length, left_of, place_if_any, walk}
 use Rattle.day_file.proofs.Joined.{IsWhole-spelling, stands_from}
 use Rattle.day_file.proofs.Readings.{AreShort, IsReading, IsReading-truncated, IsStuck-nil, head_short, length_told, reading_more, same_reading}

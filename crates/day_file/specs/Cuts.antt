@@ -3,7 +3,7 @@
 use Rattle.std.specs.Prelude.{◌≡◌, ℕ, ◌+◌, ◌-◌, ◌<◌, ◌≤◌, ◌⊎◌, ◌==◌, ◌&&◌, Bool, List, [], ◌∷◌, length, take, All, nat_eq}
 use Rattle.std.specs.Cmp.Lexicographic.{pointwise}
 use Rattle.std.specs.List.{concat}
-use Rattle.lists.specs.declared.limits.TheConstants.{MOST_MORSELS}
+use Rattle.base.specs.declared.limits.TheConstants.{MOST_MORSELS}
 use Rattle.day_file.specs.declared.cutting.CutFault.{CutFault}
 use Rattle.day_file.specs.declared.cutting.CutFault.TheVariants.{Truncated, NotABoundary, TooManyMorsels, OutOfMemory}
 use Rattle.day_file.specs.Frames.{IsTruncatedAt, IsWhole}

@@ -2,8 +2,8 @@
 -- To be believed of a crate used by itself: the inputs of scans are defined by `numbered`.
 use Rattle.std.specs.Prelude.{◌≡◌, ℕ, ◌+◌, ◌≤◌, List, [], ◌∷◌, length, map, All}
 use Rattle.std.specs.List.{concat}
-use Rattle.lists.specs.declared.limits.TheConstants.{LONGEST_FILE, MOST_MORSELS}
-use Rattle.lists.specs.Among.{AreBytes}
+use Rattle.base.specs.declared.limits.TheConstants.{LONGEST_FILE, MOST_MORSELS}
+use Rattle.base.specs.Among.{AreBytes}
 use Rattle.day_file.specs.Cuts.{IsRun, MorselView}
 
 -- the bytes of each morsel

@@ -1,7 +1,7 @@
 //! How a day file is cut while it comes.
 ghost use Rattle.std.specs.Prelude.{◌≡◌, ◌≤◌, ◌<◌, ◌+◌, ◌++◌, ◌⊎◌, [], ℕ, List, length, IfErr, IfOk, IfSome, IsNone, OnErr, OnOk, All};
 ghost use Rattle.std.specs.List.{concat};
-ghost use Rattle.lists.specs.declared.limits.TheConstants.{MOST_MORSELS};
+ghost use Rattle.base.specs.declared.limits.TheConstants.{MOST_MORSELS};
 ghost use Rattle.day_file.specs.Cuts.{IsCutBy, IsCutFault, IsFirstRun};
 ghost use Rattle.day_file.specs.Feeding.{HasFed, IsFullRun, IsTaken, fed_length};
 ghost use Rattle.day_file.specs.Frames.{IsTruncatedAt, IsWhole};
@@ -9,7 +9,7 @@ ghost use Rattle.day_file.specs.Frames.{IsTruncatedAt, IsWhole};
 use crate::rest::Rest;
 use crate::runs::{count_runs, head_of};
 use crate::{Cut, CutFault, OutOfMemory};
-use lists::limits::{LONGEST_FILE, MOST_MORSELS};
+use base::limits::{LONGEST_FILE, MOST_MORSELS};
 use std::alloc::Global;
 use std::marker::Model;
 use std::mem;

@@ -5,7 +5,7 @@ ghost use Rattle.day_file.specs.Cuts.{AreEnds, IsCutAt, IsCutAtFault, IsCutBy, I
 
 use crate::runs::{count_runs, run_at};
 use crate::{Cut, DayFile, OutOfMemory, Truncated, check};
-use lists::limits::{LONGEST_FILE, MOST_MORSELS};
+use base::limits::{LONGEST_FILE, MOST_MORSELS};
 use std::alloc::{Allocator, Global};
 
 /// Why a day file has no cut.

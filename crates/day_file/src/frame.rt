@@ -3,7 +3,7 @@ ghost use Rattle.std.specs.Prelude.{◌≡◌, ◌+◌, ◌≤◌, ◌<◌, ◌^
 ghost use Rattle.std.specs.Iterator.{item_count};
 ghost use Rattle.day_file.specs.Frames.{FramesLeft, IsTruncatedAt, IsWhole, PlacedBody, StandsFrom, frame_of, spelling};
 ghost use Rattle.day_file.specs.Placed.{GivesFrame, frames_left};
-ghost use Rattle.lists.specs.declared.limits.TheConstants.{LONGEST_FILE};
+ghost use Rattle.base.specs.declared.limits.TheConstants.{LONGEST_FILE};
 
 use crate::{OutOfMemory, Truncated};
 use byteorder::{BigEndian, ByteOrder};
@@ -32,8 +32,8 @@ pub struct Frames<'a> {
 
 impl<'a> Model for Frames<'a> {
     ghost use Rattle.std.specs.Prelude.{◌+◌, ◌≤◌, length};
-    ghost use Rattle.lists.specs.declared.limits.TheConstants.{LONGEST_FILE};
-    ghost use Rattle.lists.specs.Among.{AreBytes};
+    ghost use Rattle.base.specs.declared.limits.TheConstants.{LONGEST_FILE};
+    ghost use Rattle.base.specs.Among.{AreBytes};
     ghost use Rattle.day_file.specs.Frames.{FramesLeft};
     ghost use Rattle.day_file.specs.Walk.{left_of};
 

@@ -15,13 +15,13 @@ mod rest;
 mod runs;
 mod truncated;
 
+pub use base::OutOfMemory;
+pub use base::limits::{LONGEST_FILE, MOST_MORSELS};
 pub use cutter::Cutter;
 pub use cutting::{CutFault, cut, cut_at};
 pub use day::frames;
 pub use frame::{Frame, Frames, LENGTH_BYTES, LONGEST_FRAME, append_frame};
 pub use frame_laws::{one_cut, one_cut_at, one_reading};
-pub use lists::OutOfMemory;
-pub use lists::limits::{LONGEST_FILE, MOST_MORSELS};
 pub use morsel::Morsel;
 pub use morsels::Cut;
 pub use sources::{Counted, DayFile, DeviceFailed, ReadFault, Source, read_day};

@@ -2,13 +2,13 @@
 ghost use Rattle.std.specs.Prelude.{◌≡◌, ◌≤◌, ◌+◌, None, length, vec_len};
 ghost use Rattle.std.specs.Cmp.Rules.{comparing};
 ghost use Rattle.std.proofs.Common.{rules};
-ghost use Rattle.lists.specs.Among.{AreBytes};
+ghost use Rattle.base.specs.Among.{AreBytes};
 ghost use Rattle.day_file.specs.Frames.{StandsFrom};
 ghost use Rattle.day_file.specs.Cuts.{IsRun, MorselView, is_same_morsel};
 ghost use Rattle.day_file.specs.Walk.{frames_of};
 
 use crate::Frames;
-use lists::limits::LONGEST_FILE;
+use base::limits::LONGEST_FILE;
 use std::marker::Model;
 
 /// One of the parts that a day file is cut into: one or more whole frames. Contracts see its number
@@ -22,7 +22,7 @@ pub struct Morsel {
 
 impl Model for Morsel {
     ghost use Rattle.std.specs.Prelude.{◌≤◌, ◌+◌, vec_len};
-    ghost use Rattle.lists.specs.declared.limits.TheConstants.{LONGEST_FILE};
+    ghost use Rattle.base.specs.declared.limits.TheConstants.{LONGEST_FILE};
     ghost use Rattle.day_file.specs.Cuts.{IsRun, MorselView};
 
     ghost Value = { MorselView };

@@ -7,7 +7,7 @@ ghost use Rattle.day_file.specs.Frames.{IsWhole};
 ghost use Rattle.day_file.specs.Kept.{AreMorsels};
 
 use crate::{Morsel, OutOfMemory};
-use lists::limits::{LONGEST_FILE, MOST_MORSELS};
+use base::limits::{LONGEST_FILE, MOST_MORSELS};
 use std::alloc::{AllocFailed, Global};
 use std::marker::Model;
 use std::sync::Arc;

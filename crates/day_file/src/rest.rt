@@ -1,11 +1,11 @@
 //! Bytes that are appended at the end and taken off the front.
 ghost use Rattle.std.specs.Prelude.{◌≡◌, ◌≤◌, ◌<◌, ◌+◌, ◌++◌, ◌∷◌, [], length, take, drop, OnErr, OnOk, vec_len};
 ghost use Rattle.std.specs.List.{concat};
-ghost use Rattle.lists.specs.declared.limits.TheConstants.{LONGEST_FILE, MOST_MORSELS};
+ghost use Rattle.base.specs.declared.limits.TheConstants.{LONGEST_FILE, MOST_MORSELS};
 ghost use Rattle.day_file.specs.Cuts.{IsRun};
 
 use crate::{Cut, OutOfMemory};
-use lists::limits::{LONGEST_FILE, MOST_MORSELS};
+use base::limits::{LONGEST_FILE, MOST_MORSELS};
 use std::alloc::{AllocError, Global};
 use std::marker::Model;
 use std::mem;

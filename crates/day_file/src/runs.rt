@@ -5,7 +5,7 @@ ghost use Rattle.day_file.specs.Cuts.{IsCutBy, IsFirstRun};
 
 use crate::frame::LENGTH_BYTES;
 use crate::{Frames, Truncated};
-use lists::limits::LONGEST_FILE;
+use base::limits::LONGEST_FILE;
 
 /// Where the shortest run of frames at the head of these bytes that has at least `target` bytes ends,
 /// or where all of them end. The first `whole` bytes, fewer than that, are known to be whole frames.

@@ -3,7 +3,7 @@ use Rattle.std.proofs.Common.{◌≡◌, ◌≤◌, ℕ, Bool, true, cond, List,
 use Rattle.std.specs.Ordering.{nat_cmp}
 use Rattle.std.proofs.lemmas.List.Elements.{All-tail, filter-append}
 use Rattle.std.proofs.lemmas.List.Kept.{IsStrictlySortedBy-filter}
-use Rattle.lists.proofs.Lists.{filter-flat_map}
+use Rattle.base.proofs.Lists.{filter-flat_map}
 use Rattle.day_rows.specs.DayRows.{AreByPlace}
 use Rattle.day_rows.specs.Messages.{Placed, counted, is_counted}
 

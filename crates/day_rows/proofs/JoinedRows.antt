@@ -3,7 +3,7 @@ use Rattle.std.proofs.Common.{◌≡◌, List, ◌++◌, Option, filter_map, fla
 use Rattle.std.proofs.lemmas.List.{append-nil}
 use Rattle.std.proofs.lemmas.List.Elements.{filter_map-append}
 use Rattle.std.proofs.lemmas.List.Folds.{flat_map-map}
-use Rattle.lists.proofs.Lists.{filter_map-flat_map}
+use Rattle.base.proofs.Lists.{filter_map-flat_map}
 use Rattle.day_rows.specs.Messages.{Placed, order_row_at, execution_at, own_priced_at, break_of, directory_row_at}
 use Rattle.day_rows.specs.DayRows.{DayRows, all_rows, joined, no_rows, rows_of}
 

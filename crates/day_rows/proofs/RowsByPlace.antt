@@ -9,8 +9,8 @@ use Rattle.std.proofs.lemmas.List.Kept.{IsStrictlySortedBy-filter}
 use Rattle.std.proofs.lemmas.List.Sorted.{IsPermutation-map}
 use Rattle.itch_messages.specs.declared.message.Message.{Message}
 use Rattle.row_types.specs.declared.order.OrderRow.{OrderRow}
-use Rattle.lists.proofs.Lists.{IsPermutation-filter}
-use Rattle.lists.proofs.Order.{sorted-filter_map}
+use Rattle.base.proofs.Lists.{IsPermutation-filter}
+use Rattle.base.proofs.Order.{sorted-filter_map}
 use Rattle.row_types.specs.declared.trade.Execution.{Execution}
 use Rattle.row_types.specs.declared.trade.Sale.{Sale}
 use Rattle.probe.specs.Pricing.{priced}

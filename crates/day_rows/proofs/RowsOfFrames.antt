@@ -8,7 +8,7 @@ use Rattle.std.proofs.lemmas.List.Elements.{All-filter, All-from_recursion, All-
 use Rattle.itch_messages.specs.Body.{message_of, has_wrong_length}
 use Rattle.itch_messages.specs.declared.message.Message.{Message}
 use Rattle.day_file.specs.Frames.{PlacedBody}
-use Rattle.lists.proofs.Lists.{cons_nil}
+use Rattle.base.proofs.Lists.{cons_nil}
 use Rattle.day_rows.specs.Messages.{counted, placed_at, messages_of, first_wrong}
 use Rattle.day_rows.specs.DayRows.{counted_rows_at, joined, rows_of}
 use Rattle.day_rows.proofs.CountedMessages.{counted-append}

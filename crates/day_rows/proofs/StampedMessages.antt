@@ -2,7 +2,7 @@
 use Rattle.std.proofs.Common.{◌≡◌, ℕ, List, Option, Some, sym, ap, subst, arith}
 use Rattle.std.proofs.lemmas.List.Elements.{All-filter, All-from_recursion}
 use Rattle.itch_messages.specs.Body.{message_of}
-use Rattle.lists.specs.Among.{AreBytes}
+use Rattle.base.specs.Among.{AreBytes}
 use Rattle.itch_messages.specs.declared.message.Message.{Message}
 use Rattle.itch_messages.proofs.Laws.{FitsMessage, FitsMessage-message_of}
 use Rattle.day_file.specs.Frames.{PlacedBody, StandsFor}

@@ -6,8 +6,8 @@ use Rattle.std.proofs.lemmas.List.Kept.{IsStrictlySortedBy-filter}
 use Rattle.std.proofs.lemmas.List.Sorted.{IsPermutation-sym, IsPermutation-trans}
 use Rattle.itch_messages.specs.declared.message.Message.{Message}
 use Rattle.row_types.specs.declared.order.OrderRow.{OrderRow}
-use Rattle.lists.proofs.Lists.{filter_map_as_flat_map, filter_map-flat_map, IsPermutation-filter, IsPermutation-both}
-use Rattle.lists.proofs.Order.{same_from_permutation, sorted-filter_map}
+use Rattle.base.proofs.Lists.{filter_map_as_flat_map, filter_map-flat_map, IsPermutation-filter, IsPermutation-both}
+use Rattle.base.proofs.Order.{same_from_permutation, sorted-filter_map}
 use Rattle.row_types.specs.declared.trade.Sale.{Sale}
 use Rattle.probe.specs.Pricing.{sale_of, priced}
 use Rattle.probe.specs.Selection.{is_kept, kept}

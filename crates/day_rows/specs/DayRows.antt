@@ -9,7 +9,7 @@ use Rattle.row_types.specs.declared.order.OrderRow.{OrderRow}
 use Rattle.row_types.specs.declared.trade.Execution.{Execution}
 use Rattle.row_types.specs.declared.trade.Sale.{Sale}
 use Rattle.row_types.specs.declared.directory.DirectoryRow.{DirectoryRow}
-use Rattle.lists.specs.declared.limits.TheConstants.{TIME_LIMIT}
+use Rattle.base.specs.declared.limits.TheConstants.{TIME_LIMIT}
 use Rattle.day_rows.specs.declared.row.Row.{Row}
 use Rattle.day_rows.specs.declared.row.Row.TheVariants as one
 use Rattle.day_rows.specs.Messages.{Placed, is_counted, order_row_at, execution_at, own_priced_at, break_of, directory_row_at}

@@ -2,8 +2,8 @@
 ghost use Rattle.std.specs.Prelude.{◌≡◌};
 ghost use Rattle.day_rows.specs.Messages.{is_counted};
 
+use base::limits::NANOSECONDS;
 use itch_messages::Message;
-use lists::limits::NANOSECONDS;
 
 /// Whether a message counts: there is no moment, or the message's time is not past it. The moment is in seconds since
 /// midnight; the time is the header's (TotalView-ITCH 5.0, section 1), in nanoseconds, and the moment itself counts.

@@ -9,7 +9,7 @@ use Rattle.std.proofs.lemmas.List.Sorted.{IsPermutation-refl, IsPermutation-sym,
 use Rattle.std.proofs.lemmas.List.Sums.{sum_by-append, sum_by-set, sum_by-cons, sum_by-remove, get_or-le-sum_by}
 use Rattle.std.proofs.lemmas.Bool.{cases_lt}
 use Rattle.std.proofs.lemmas.Bool.Decides.{nat_tests}
-use Rattle.lists.proofs.Lists.{range_more}
+use Rattle.base.proofs.Lists.{range_more}
 use Rattle.dispatcher.specs.Seats.{times_given}
 use Rattle.dispatcher.specs.Rule.{occurrences, once_below, late_count}
 

@@ -12,8 +12,8 @@ use Rattle.std.proofs.lemmas.List.Sums.{sum_by_push, sum_by-append, sum_by-le, g
 use mathlib.Core.Option.{Option, none, some}
 use Rattle.atomic_table.specs.Table.{State, Me, step, keeps, opening, Allows, Splits, Joins}
 use Rattle.atomic_table.proofs.Lists.{set_else, set_again}
-use Rattle.lists.proofs.Lists.{get_or-replicate_itself}
-use Rattle.lists.specs.declared.limits.TheConstants.{MOST_TASKS, MOST_SEATS}
+use Rattle.base.proofs.Lists.{get_or-replicate_itself}
+use Rattle.base.specs.declared.limits.TheConstants.{MOST_TASKS, MOST_SEATS}
 use Rattle.dispatcher.specs.declared.rule.View.{View}
 use Rattle.dispatcher.specs.declared.rule.Size.{Size}
 use Rattle.dispatcher.specs.Rule.{IsConsistent, IsFair, IsMarkWord, TellsClaim, TellsMark, TellsLook, joined_view, late_count, occurrences, unused_view}

@@ -3,7 +3,7 @@
 --
 -- Word 0 is the number of claims that were made. Word t + 1 is 1 if task t is marked, else 0.
 use Rattle.std.specs.Prelude.{◌≡◌, ◌⊎◌, ℕ, ◌+◌, ◌-◌, ◌*◌, ◌<◌, ◌≤◌, ◌==◌, min, nat_lt, nat_le, if◌then◌else◌, List, [], ◌∷◌, ◌++◌, length, slice_index, All, Contains, sum_by, count_by}
-use Rattle.lists.specs.declared.limits.TheConstants.{MOST_TASKS, MOST_SEATS}
+use Rattle.base.specs.declared.limits.TheConstants.{MOST_TASKS, MOST_SEATS}
 use Rattle.atomic_table.specs.Table.{State, Me, Step}
 use Rattle.dispatcher.specs.declared.rule.View.{View}
 use Rattle.dispatcher.specs.declared.rule.Size.{Size}

@@ -1,6 +1,6 @@
 //! The dispatcher, which threads share by reference or in an `Arc`.
 ghost use Rattle.std.specs.Prelude.{◌≡◌, ◌+◌, ◌<◌, ◌≤◌};
-ghost use Rattle.lists.specs.declared.limits.TheConstants.{MOST_TASKS, MOST_SEATS};
+ghost use Rattle.base.specs.declared.limits.TheConstants.{MOST_TASKS, MOST_SEATS};
 
 use crate::rule::{EachOnce, Size, View};
 use atomic_table::Table;

@@ -10,7 +10,7 @@ mod rule;
 mod seat;
 mod tally;
 
+pub use base::OutOfMemory;
 pub use dispatcher::{Claim, Dispatcher};
-pub use lists::OutOfMemory;
 pub use seat::Seat;
 pub use tally::{Marks, SettleRefused, Tally};

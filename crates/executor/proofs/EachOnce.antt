@@ -2,9 +2,9 @@
 use Rattle.std.proofs.Common.{◌≡◌, ℕ, ◌<◌, ◌==◌, ◌||◌, true, List, [], ◌∷◌, Option, Some, None, MatchOption, length, map, refl, ap, ◌∙◌, arith}
 use Rattle.std.specs.List.{concat, list_any}
 use Rattle.std.proofs.lemmas.List.FromFn.{get_or-range_with_len, length-range_with_len}
-use Rattle.lists.specs.Among.{is_among}
-use Rattle.lists.specs.Least.{numbers_below}
-use Rattle.lists.proofs.Among.{among_from}
+use Rattle.base.specs.Among.{is_among}
+use Rattle.base.specs.Least.{numbers_below}
+use Rattle.base.proofs.Among.{among_from}
 use Rattle.day_file.specs.Frames.{PlacedBody}
 use Rattle.meaning.specs.Meaning.{Meaning}
 use Rattle.day_rows.specs.Messages.{first_wrong}

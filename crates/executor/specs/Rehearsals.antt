@@ -2,7 +2,7 @@
 -- To be believed of a crate used by itself.
 use Rattle.std.specs.Prelude.{◌≡◌, ℕ, List, Result, length, map, MatchOption}
 use Rattle.std.specs.List.{concat}
-use Rattle.lists.specs.Least.{numbers_below}
+use Rattle.base.specs.Least.{numbers_below}
 use Rattle.day_file.specs.Frames.{PlacedBody, StandsFor}
 use Rattle.meaning.specs.Meaning.{Meaning}
 use Rattle.schedules.specs.Schedules.{first_left}

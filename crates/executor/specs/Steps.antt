@@ -1,7 +1,7 @@
 -- What the steps of `plain` give each other.
 -- Derived: no public clause cites it.
 use Rattle.std.specs.Prelude.{◌≡◌, ℕ, ◌<◌, ◌+◌, ◌++◌, List, All, Option, None, Err, length}
-use Rattle.lists.specs.declared.limits.TheConstants.{TRADE_LIMIT}
+use Rattle.base.specs.declared.limits.TheConstants.{TRADE_LIMIT}
 use Rattle.order_table.specs.Orders.{OrderRow, first_repeated}
 use Rattle.probe.specs.Pricing.{Execution, Sale, first_unknown, priced}
 use Rattle.answers.specs.Answers.{DayFault, FaultOr, HasCounted, repeated_at, unknown_at}

@@ -1,6 +1,6 @@
 //! Both pipelines by events, on one thread.
 ghost use Rattle.std.specs.Prelude.{◌<◌, ◌≤◌, IfOk};
-ghost use Rattle.lists.specs.declared.limits.TheConstants.{MOST_PARTITIONS};
+ghost use Rattle.base.specs.declared.limits.TheConstants.{MOST_PARTITIONS};
 ghost use Rattle.executor.specs.Rehearsals.{IsRehearsed};
 
 use crate::OutOfMemory;

@@ -10,7 +10,7 @@ use Rattle.std.specs.Ordering.{nat_cmp}
 use Rattle.std.specs.FinSet.{FinSet, contains, contains-retain, contains-from_list_nat, insert, empty, union, from_list, same_set, members}
 use Rattle.std.specs.FinSet.{nat_cmp-IsAntisymmetric}
 use Rattle.std.specs.Cmp.{nat_cmp_total}
-use Rattle.lists.proofs.Lists.{get_or-replicate_itself}
+use Rattle.base.proofs.Lists.{get_or-replicate_itself}
 use Rattle.gathering.specs.Kept.{covered_tasks}
 use Rattle.gathering.specs.Views.{GatheringView, IsFirstMissing}
 

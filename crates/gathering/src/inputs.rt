@@ -1,7 +1,7 @@
 //! The inputs of all tasks.
 ghost use Rattle.std.specs.Prelude.{◌≡◌, ◌<◌, ◌≤◌, List, OnOk, length, map, get_or, slice_get, None, Some};
 ghost use Rattle.std.specs.Arc.{arc_value};
-ghost use Rattle.lists.specs.declared.limits.TheConstants.{MOST_TASKS};
+ghost use Rattle.base.specs.declared.limits.TheConstants.{MOST_TASKS};
 ghost use Rattle.gathering.specs.Adding.{same_inputs};
 ghost use Rattle.gathering.specs.Kept.{covered_tasks, IsFolded};
 

@@ -15,11 +15,11 @@ mod piece;
 mod piece_places;
 mod work;
 
+pub use base::OutOfMemory;
 pub use gather::{Filed, Gathering, OtherInputs, Stranger, TotalRefused};
 pub use inputs::Inputs;
 pub use link::Link;
 pub use linked::Linked;
-pub use lists::OutOfMemory;
 pub use merge_laws::{alike_stay_alike, merge_is_a_join, own_inputs_belong};
 pub use piece::Piece;
 pub use work::Work;

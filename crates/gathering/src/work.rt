@@ -2,7 +2,7 @@
 ghost use Rattle.std.specs.Prelude.{◌≡◌, List, [], true, IfOk, OnOk, OnErr};
 ghost use Rattle.gathering.specs.Adding.{CanAdd, AddsOutput, same_inputs};
 
-use lists::OutOfMemory;
+use base::OutOfMemory;
 use std::alloc::Global;
 
 /// Work that is done task by task: a run of an input gives a value, and the values of a list of inputs add up to a

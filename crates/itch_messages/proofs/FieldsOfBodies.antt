@@ -6,7 +6,7 @@ use Rattle.std.proofs.lemmas.List.{length-drop, drop_all, drop-drop, length-take
 use Rattle.std.proofs.lemmas.List.Elements.{All-drop}
 use Rattle.byteorder.specs.Endian.{big_number}
 use Rattle.byteorder.specs.Numbers.{big_from-lt, big_number-reads_back, length-bytes_high_first}
-use Rattle.lists.specs.Among.{AreBytes}
+use Rattle.base.specs.Among.{AreBytes}
 use Rattle.itch_messages.specs.Layout.{number_at, bytes_at, number_bytes}
 use Rattle.itch_messages.specs.Body.{kind_of}
 use Rattle.itch_messages.proofs.Numbers.{AreBytes-of_slice, byte_in, bytes_high_first-big_from}

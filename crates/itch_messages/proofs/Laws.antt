@@ -4,7 +4,7 @@ use Rattle.std.proofs.Common.{◌∙◌, arith}
 use Rattle.std.specs.List.{concat}
 use Rattle.std.proofs.lemmas.Bool.{eq-eqb, eqb-true}
 use Rattle.std.proofs.lemmas.List.{append_assoc, append-nil, length-append}
-use Rattle.lists.specs.Among.{AreBytes}
+use Rattle.base.specs.Among.{AreBytes}
 use Rattle.itch_messages.specs.Body.{IsBodyOf, has_wrong_length, is_skipped, kind_of, message_of, message_of_kind}
 use Rattle.itch_messages.specs.Layout.{HeaderFields, length_of, number_bytes}
 use Rattle.itch_messages.specs.declared.message.Add.{Add as AddMessage}

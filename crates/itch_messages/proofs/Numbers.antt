@@ -9,7 +9,7 @@ use Rattle.std.specs.Prelude.{slice_index}
 use Rattle.std.specs.Int.{byte_at, bytes_high_first}
 use Rattle.byteorder.specs.Endian.{big_from}
 use Rattle.byteorder.specs.Numbers.{big_from-cons, big_from-lt, big_from-take, big_number-reads_back, length-bytes_high_first}
-use Rattle.lists.specs.Among.{AreBytes}
+use Rattle.base.specs.Among.{AreBytes}
 
 -- each number of the list is a byte, and so is the 0 past its end
 pub byte_in : (xs : List ℕ) (k : ℕ) → AreBytes xs → slice_index xs k < 256

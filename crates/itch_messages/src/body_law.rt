@@ -1,6 +1,6 @@
 //! The law that joins reading and writing.
 ghost use Rattle.std.specs.Prelude.{◌≡◌, ℕ, List, false};
-ghost use Rattle.lists.specs.Among.{AreBytes};
+ghost use Rattle.base.specs.Among.{AreBytes};
 ghost use Rattle.itch_messages.specs.Body.{has_wrong_length, is_skipped, message_of};
 
 /// A message other than `Skipped` has one body, which is the one that `append` writes, and that has

@@ -13,10 +13,10 @@ mod message;
 mod time;
 mod writing;
 
+pub use base::OutOfMemory;
 pub use body_law::one_body_each;
 pub use body_reading::{is_read, kind_of, read, read_of_kind};
 pub use header::Header;
 pub use layout::LengthFault;
-pub use lists::OutOfMemory;
 pub use message::{Add, Broken, Cross, Directory, Executed, ExecutedAt, Message, Replace, Trade};
 pub use writing::append;

@@ -10,7 +10,7 @@ use crate::header::Header;
 use crate::message::{
     Add, Broken, Cross, Directory, Executed, ExecutedAt, Message, Replace, Trade,
 };
-use lists::OutOfMemory;
+use base::OutOfMemory;
 use std::alloc::Allocator;
 
 /// The type's byte and the header.

@@ -8,9 +8,9 @@ use Rattle.std.proofs.lemmas.List.Sorted.{list_any-IsPermutation}
 use Rattle.std.proofs.lemmas.Map.Views.{any-filter_same}
 use Rattle.std.specs.List.{list_any}
 use Rattle.std.specs.List.Sorted.{IsStrictlyIncreasing}
-use Rattle.lists.specs.Among.{HasNumbersOf, is_among}
-use Rattle.lists.specs.Least.{numbers_below}
-use Rattle.lists.proofs.Among.{among_from, same_from_numbers}
+use Rattle.base.specs.Among.{HasNumbersOf, is_among}
+use Rattle.base.specs.Least.{numbers_below}
+use Rattle.base.proofs.Among.{among_from, same_from_numbers}
 use Rattle.probe.specs.Selection.{has_locate}
 use Rattle.meaning.specs.Selected.{has_name, locates_of, selected_locates}
 

@@ -2,7 +2,7 @@
 -- To be believed.
 use Rattle.std.specs.Prelude.{◌≡◌, ℕ, ◌<◌, ◌≤◌, ◌==◌, nat_lt, nat_le, Bool, true, ◌&&◌, ◌||◌, not, List, length, Option, Some}
 use Rattle.std.specs.List.{list_all}
-use Rattle.lists.specs.declared.limits.TheConstants.{SECONDS_OF_DAY}
+use Rattle.base.specs.declared.limits.TheConstants.{SECONDS_OF_DAY}
 use Rattle.meaning.specs.declared.query.What.{What}
 use Rattle.meaning.specs.declared.query.What.TheVariants.{Bars}
 use Rattle.meaning.specs.declared.symbols.TheConstants.{COMMA}

@@ -2,7 +2,7 @@
 -- To be believed.
 use Rattle.std.specs.Prelude.{ℕ, ◌^◌, Bool, true, List, Option, Some, None, filter, bytes_eq}
 use Rattle.std.specs.List.{list_any}
-use Rattle.lists.specs.Least.{numbers_below}
+use Rattle.base.specs.Least.{numbers_below}
 use Rattle.probe.specs.declared.selection.Locates.{Locates}
 use Rattle.probe.specs.declared.selection.Locates.TheVariants.{All, Listed}
 

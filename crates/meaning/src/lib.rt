@@ -9,7 +9,7 @@ mod select;
 mod sorted_symbols;
 mod symbols;
 
-pub use lists::OutOfMemory;
+pub use base::OutOfMemory;
 pub use probe::{Kinds, LocateList, Locates, Selection, Span};
 pub use query::{Query, What};
 pub use select::selection;

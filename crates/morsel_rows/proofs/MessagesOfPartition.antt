@@ -7,8 +7,8 @@ use Rattle.std.specs.Ordering.{nat_cmp}
 use Rattle.std.proofs.lemmas.List.Kept.{IsStrictlySortedBy-filter}
 use Rattle.itch_messages.specs.declared.message.Message.{Message}
 use Rattle.itch_messages.specs.declared.message.Message.TheVariants.{Add, Executed, Replace}
-use Rattle.lists.specs.Least.{part}
-use Rattle.lists.specs.declared.limits.TheConstants.{TRADE_LIMIT}
+use Rattle.base.specs.Least.{part}
+use Rattle.base.specs.declared.limits.TheConstants.{TRADE_LIMIT}
 use Rattle.row_types.specs.declared.order.OrderRow.{OrderRow}
 use Rattle.row_types.specs.declared.trade.Execution.{Execution}
 use Rattle.row_types.specs.declared.trade.Sale.{Sale}

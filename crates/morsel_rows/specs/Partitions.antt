@@ -2,8 +2,8 @@
 -- To be believed of a crate used by itself: the answer isn't defined by partitions.
 use Rattle.std.specs.Prelude.{◌≡◌, ℕ, ◌<◌, ◌+◌, List, [], map, length, slice_index_or}
 use Rattle.std.specs.List.{flat_map}
-use Rattle.lists.specs.Least.{numbers_below, part}
-use Rattle.lists.specs.declared.limits.TheConstants.{TRADE_LIMIT}
+use Rattle.base.specs.Least.{numbers_below, part}
+use Rattle.base.specs.declared.limits.TheConstants.{TRADE_LIMIT}
 use Rattle.row_types.specs.declared.order.OrderRow.{OrderRow}
 use Rattle.row_types.specs.declared.trade.Execution.{Execution}
 use Rattle.row_types.specs.declared.trade.Sale.{Sale}

@@ -5,7 +5,7 @@ use Rattle.std.specs.Cmp.{IsEquivalence}
 use Rattle.std.specs.Cmp.Lexicographic.{pointwise}
 use Rattle.std.proofs.Common.{arith}
 use Rattle.std.proofs.lemmas.Bool.Decides.{nat_tests}
-use Rattle.lists.proofs.Exact.{IsExact, exact_equiv, exact_list}
+use Rattle.base.proofs.Exact.{IsExact, exact_equiv, exact_list}
 use Rattle.order_list.specs.SameOrders.{are_same_orders, exact_orders}
 use Rattle.row_types.specs.contracts.trade.ExecutionPartialEq.TheImpl as execution_eq
 use Rattle.row_types.specs.contracts.trade.SalePartialEq.TheImpl as sale_eq

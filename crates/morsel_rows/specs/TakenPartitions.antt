@@ -1,7 +1,7 @@
 -- Partitions of which some have taken no memory yet.
 -- Derived: callers see a list of partitions.
 use Rattle.std.specs.Prelude.{◌≡◌, ℕ, List, Option, None, Some, Box, map, slice_index_or}
-use Rattle.lists.specs.Least.{numbers_below}
+use Rattle.base.specs.Least.{numbers_below}
 use Rattle.morsel_rows.specs.Partitions.{PartitionView, no_rows_in}
 
 module _ {Z : Type 0} where

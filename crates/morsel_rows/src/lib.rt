@@ -7,7 +7,7 @@
 mod partition;
 mod rows;
 
-pub use lists::OutOfMemory;
+pub use base::OutOfMemory;
 pub use order_list::{OrderList, OrderRows, RisingRows};
 pub use partition::Partition;
 pub use rows::MorselRows;

@@ -6,7 +6,7 @@ ghost use Rattle.morsel_rows.specs.Partitions.{no_rows_in};
 ghost use Rattle.morsel_rows.specs.SameRows.{is_same_partition, partition_equiv};
 
 use crate::OutOfMemory;
-use lists::push;
+use base::push;
 use order_list::OrderList;
 use row_types::{Execution, OrderRow, Sale};
 use std::alloc::{Allocator, Global};

@@ -6,9 +6,9 @@ use Rattle.std.proofs.lemmas.Bool.{cases_order, cond_both}
 use Rattle.std.proofs.lemmas.List.{get_or_default, get_or-map, length-map}
 use Rattle.std.proofs.lemmas.List.Elements.{All-contains_itself, All-head, All-map, All-push, All-tail, All-weaker}
 use Rattle.std.proofs.lemmas.List.Quantifiers.{all_pairs_push}
-use Rattle.lists.specs.Least.{least_by}
-use Rattle.lists.proofs.Lists.{filters_commute}
-use Rattle.lists.proofs.Order.{Contains-from_filter, passes_filter}
+use Rattle.base.specs.Least.{least_by}
+use Rattle.base.proofs.Lists.{filters_commute}
+use Rattle.base.proofs.Order.{Contains-from_filter, passes_filter}
 use Rattle.order_table.specs.Orders.{OrderRow, first_repeated, is_repeated}
 use Rattle.order_table.proofs.Repeats.{repeated_by}
 use Rattle.order_table.proofs.PartRows.{repeated_where, rows_where}

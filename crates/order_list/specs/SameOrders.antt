@@ -5,7 +5,7 @@ use Rattle.std.specs.Cmp.{IsEquivalence}
 use Rattle.std.specs.Cmp.Lexicographic.{pointwise}
 use Rattle.std.proofs.Common.{arith}
 use Rattle.std.proofs.lemmas.Bool.Decides.{nat_tests}
-use Rattle.lists.proofs.Exact.{IsExact, exact_equiv, exact_list}
+use Rattle.base.proofs.Exact.{IsExact, exact_equiv, exact_list}
 use Rattle.row_types.specs.contracts.order.OrderRowPartialEq.TheImpl as order_eq
 use Rattle.row_types.specs.declared.order.OrderRow.{OrderRow}
 

@@ -8,7 +8,7 @@ ghost use Rattle.order_list.specs.ShortRows.{IsOrigin, Rise, row_of_lean};
 use crate::OutOfMemory;
 use crate::offsets::{LAST_START, Origin, offset_from};
 use crate::rising_rows::RisingRows;
-use lists::push;
+use base::push;
 use row_types::OrderRow;
 use std::alloc::Allocator;
 use std::marker::Model;

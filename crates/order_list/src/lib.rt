@@ -18,8 +18,8 @@ mod orders;
 mod rising_rows;
 mod wide;
 
+pub use base::OutOfMemory;
 pub use filter::OrderFilter;
-pub use lists::OutOfMemory;
 pub use order_rows::OrderRows;
 pub use orders::OrderList;
 pub use rising_rows::RisingRows;

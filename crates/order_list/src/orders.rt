@@ -10,7 +10,7 @@ use crate::lean::LeanRows;
 use crate::order_rows::OrderRows;
 use crate::rising_rows::RisingRows;
 use crate::wide::Wide;
-use lists::push;
+use base::push;
 use row_types::OrderRow;
 use std::alloc::{Allocator, Global};
 use std::marker::Model;

@@ -10,13 +10,13 @@ use Rattle.std.proofs.lemmas.List.Elements.{filter_more}
 use Rattle.std.proofs.lemmas.List.Folds.{Any-from_list_any, list_any_at}
 use Rattle.std.proofs.lemmas.List.Sorted.{list_any-IsPermutation, IsPermutation-map}
 use Rattle.std.proofs.lemmas.Map.Keys.{apart_from_distinct, IsDistinct-IsPermutation}
-use Rattle.lists.specs.Least.{least_by}
+use Rattle.base.specs.Least.{least_by}
 use Rattle.order_table.specs.Orders.{OrderRow, is_repeated, first_repeated}
 use Rattle.order_table.specs.RowsInOrder.{MayFollow, IsInOrder}
-use Rattle.lists.proofs.Lists.{IsPermutation-filter}
+use Rattle.base.proofs.Lists.{IsPermutation-filter}
 use Rattle.std.proofs.lemmas.List.MinMax.{IsStrictWeakOrder-by_number}
-use Rattle.lists.proofs.Least.{best_by-append, better_option, least_by-permutation}
-use Rattle.lists.proofs.Order.{TellsApart-filter, TellsApart-from_distinct}
+use Rattle.base.proofs.Least.{best_by-append, better_option, least_by-permutation}
+use Rattle.base.proofs.Order.{TellsApart-filter, TellsApart-from_distinct}
 use Rattle.order_table.proofs.RowsInOrder.{place_of, in_order_from_rising, not_above}
 
 abbrev repeats : OrderRow → OrderRow → Bool

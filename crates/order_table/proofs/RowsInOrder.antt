@@ -12,12 +12,12 @@ use Rattle.std.proofs.lemmas.Cmp.{nat_cmp_total, on_total, then_total}
 use Rattle.std.proofs.lemmas.List.Elements.{All-filter, filter_passes}
 use Rattle.std.proofs.lemmas.List.Sorted.{sorted_far, ranks_by}
 use Rattle.std.proofs.lemmas.Map.Keys.{Less-from_sorted, sorted_from_all_adjacent}
-use Rattle.lists.specs.Least.{least_of}
+use Rattle.base.specs.Least.{least_of}
 use Rattle.order_table.specs.Orders.{OrderRow, first_row}
 use Rattle.order_table.specs.RowsInOrder.{MayFollow, IsInOrder}
-use Rattle.lists.proofs.Lists.{IsPermutation-filter}
-use Rattle.lists.proofs.Least.{least_by-permutation}
-use Rattle.lists.proofs.Order.{TellsApart-filter, TellsApart-from_distinct}
+use Rattle.base.proofs.Lists.{IsPermutation-filter}
+use Rattle.base.proofs.Least.{least_by-permutation}
+use Rattle.base.proofs.Order.{TellsApart-filter, TellsApart-from_distinct}
 
 abbrev pub place_of : OrderRow → ℕ
 place_of row = row.place

@@ -5,7 +5,7 @@ use Rattle.std.specs.List.{find, list_any}
 pub use Rattle.row_types.specs.declared.order.OrderRow.{OrderRow}
 pub use Rattle.order_table.specs.declared.table.OrderTable.{OrderTable}
 pub use Rattle.order_table.specs.declared.table.Repeated.{Repeated}
-use Rattle.lists.specs.Least.{least_by}
+use Rattle.base.specs.Least.{least_by}
 
 -- the row of least place that gives the reference
 abbrev pub first_row : List OrderRow → ℕ → Option OrderRow

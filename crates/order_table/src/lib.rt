@@ -12,7 +12,7 @@ mod sorted_rows;
 mod sorting;
 mod table;
 
-pub use lists::OutOfMemory;
+pub use base::OutOfMemory;
 pub use partitions::{greatest_prime, partition};
 pub use prices::PricesExecutions;
 pub use row_types::OrderRow;

@@ -5,7 +5,7 @@ ghost use Rattle.std.specs.List.Sorted.{IsPermutation};
 ghost use Rattle.order_table.specs.Orders.{first_repeated};
 ghost use Rattle.order_table.specs.RowsInOrder.{IsInOrder};
 
-use lists::earlier;
+use base::earlier;
 use row_types::OrderRow;
 use std::alloc::Allocator;
 

@@ -1,6 +1,6 @@
 //! How many threads work.
 ghost use Rattle.std.specs.Prelude.{◌≡◌, ◌<◌, ◌≤◌};
-ghost use Rattle.lists.specs.declared.limits.TheConstants.{MOST_WORKERS, MOST_GATHERERS};
+ghost use Rattle.base.specs.declared.limits.TheConstants.{MOST_WORKERS, MOST_GATHERERS};
 
 /// How many threads work on a pair of pipelines.
 #[derive(Clone, Copy)]

@@ -4,7 +4,7 @@ ghost use Rattle.outcomes.specs.declared.run_fault.RunFault.{RunFault};
 
 use crate::day_fault::DayFault;
 use crate::query_fault::QueryFault;
-use lists::limits::MOST_MORSELS;
+use base::limits::MOST_MORSELS;
 use std::alloc::AllocError;
 use thiserror::Error;
 

@@ -1,7 +1,7 @@
 //! The settings of a run: limit, crew, morsels and partitions.
 ghost use Rattle.std.specs.Prelude.{◌≡◌, ◌<◌, ◌≤◌};
-ghost use Rattle.lists.specs.declared.limits.TheConstants.{LARGEST_MORSEL, LONGEST_FILE};
-ghost use Rattle.lists.specs.declared.limits.TheConstants.{MOST_PARTITIONS};
+ghost use Rattle.base.specs.declared.limits.TheConstants.{LARGEST_MORSEL, LONGEST_FILE};
+ghost use Rattle.base.specs.declared.limits.TheConstants.{MOST_PARTITIONS};
 
 use crate::crew::Crew;
 

@@ -3,7 +3,7 @@ use Rattle.std.proofs.Common.{◌≡◌, ℕ, zero, suc, ◌+◌, List, [], ◌�
 use Rattle.std.specs.List.{range_with_len}
 use Rattle.std.proofs.lemmas.List.{length_push, take_more}
 use Rattle.std.proofs.lemmas.Option.{get_or_from_slice_get, slice_get_within}
-use Rattle.lists.specs.Least.{numbers_below}
+use Rattle.base.specs.Least.{numbers_below}
 use Rattle.gathering.specs.Adding.{AddsOutput, CanAdd, StartsAdmissible}
 
 -- the next of a range is its start and as many as come before

@@ -5,7 +5,7 @@ ghost use Rattle.std.specs.Cmp.Lexicographic.{same_text};
 ghost use Rattle.std.specs.Cmp.Rules.{comparing};
 ghost use Rattle.std.proofs.Common.{◌∙◌, ap, rules, subst, sym};
 ghost use Rattle.std.proofs.lemmas.Bool.{eqb-true};
-ghost use Rattle.lists.specs.Least.{numbers_below};
+ghost use Rattle.base.specs.Least.{numbers_below};
 
 use gathering::{Inputs, OutOfMemory, Work};
 use std::alloc::Global;

@@ -1,7 +1,7 @@
 //! The workers of a pipeline, each on a thread of its own.
 ghost use Rattle.std.specs.Prelude.{◌≡◌, ◌<◌, ◌≤◌, All, length};
 ghost use Rattle.std.specs.Arc.{arc_value};
-ghost use Rattle.lists.specs.declared.limits.TheConstants.{MOST_WORKERS};
+ghost use Rattle.base.specs.declared.limits.TheConstants.{MOST_WORKERS};
 ghost use Rattle.dispatcher.specs.Seats.{tasks_of, IsSeatOf, IsUnused};
 
 use crate::channel_port::ChannelPort;

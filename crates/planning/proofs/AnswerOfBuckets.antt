@@ -4,9 +4,9 @@ use Rattle.std.proofs.Common.{◌≡◌, ℕ, ◌<◌, List, ◌++◌, Option, S
 use Rattle.std.proofs.lemmas.List.{same_lists}
 use Rattle.std.proofs.lemmas.List.FromFn.{get_or-map-range_with_len, length-map-range_with_len}
 use Rattle.std.proofs.lemmas.List.Sorted.{IsPermutation-sym, IsPermutation-trans}
-use Rattle.lists.specs.Least.{numbers_below}
-use Rattle.lists.proofs.Least.{TellsApart-permutation}
-use Rattle.lists.proofs.Order.{TellsApart-from_distinct}
+use Rattle.base.specs.Least.{numbers_below}
+use Rattle.base.proofs.Least.{TellsApart-permutation}
+use Rattle.base.proofs.Order.{TellsApart-from_distinct}
 use Rattle.order_table.specs.Orders.{OrderRow, first_repeated, repeated_of}
 use Rattle.probe.specs.Pricing.{Execution, Sale, first_unknown, priced, unknown_of}
 use Rattle.probe.specs.Selection.{kept}

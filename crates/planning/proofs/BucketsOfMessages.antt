@@ -5,13 +5,13 @@ use Rattle.std.proofs.lemmas.Simd.{map-map}
 use Rattle.std.proofs.lemmas.List.Elements.{All-filter}
 use Rattle.std.proofs.lemmas.List.Folds.{flat_map-map}
 use Rattle.std.proofs.lemmas.List.Sorted.{All-permutation, IsPermutation-append, IsPermutation-sym, IsPermutation-trans, length_permutation}
-use Rattle.lists.specs.Least.{least_by, numbers_below, part}
-use Rattle.lists.specs.declared.limits.TheConstants.{TRADE_LIMIT}
-use Rattle.lists.proofs.Least.{least_by-map}
-use Rattle.lists.proofs.Lists.{filter-flat_map, filter_map-flat_map, filter_map-map, filter_map-option_map, IsPermutation-both, IsPermutation-filter}
-use Rattle.lists.proofs.Lists.{IsPermutation-filter_map}
-use Rattle.lists.proofs.Order.{TellsApart-from_distinct}
-use Rattle.lists.proofs.Parts.{parts_are_all}
+use Rattle.base.specs.Least.{least_by, numbers_below, part}
+use Rattle.base.specs.declared.limits.TheConstants.{TRADE_LIMIT}
+use Rattle.base.proofs.Least.{least_by-map}
+use Rattle.base.proofs.Lists.{filter-flat_map, filter_map-flat_map, filter_map-map, filter_map-option_map, IsPermutation-both, IsPermutation-filter}
+use Rattle.base.proofs.Lists.{IsPermutation-filter_map}
+use Rattle.base.proofs.Order.{TellsApart-from_distinct}
+use Rattle.base.proofs.Parts.{parts_are_all}
 use Rattle.time_and_sales.specs.Lent.{all_sales}
 use Rattle.order_table.specs.Orders.{OrderRow, first_repeated, repeated_of}
 use Rattle.order_table.specs.declared.table.Repeated.{Repeated}

@@ -3,9 +3,9 @@ use Rattle.std.proofs.Common.{◌≡◌, ℕ, ◌<◌, List, [], ◌∷◌, Opti
 use Rattle.std.proofs.lemmas.List.Folds.{flat_map-map}
 use Rattle.std.proofs.lemmas.Simd.{map-map}
 use Rattle.itch_messages.specs.Body.{has_wrong_length, length_fault_of}
-use Rattle.lists.specs.Least.{least_by}
-use Rattle.lists.proofs.Least.{least_by-flat_map, least_by-map}
-use Rattle.lists.proofs.Lists.{filter-flat_map, filter_map-flat_map, filter_map-map}
+use Rattle.base.specs.Least.{least_by}
+use Rattle.base.proofs.Least.{least_by-flat_map, least_by-map}
+use Rattle.base.proofs.Lists.{filter-flat_map, filter_map-flat_map, filter_map-map}
 use Rattle.day_file.specs.Cuts.{MorselView}
 use Rattle.day_file.specs.Frames.{PlacedBody}
 use Rattle.day_file.specs.Walk.{frames_of}

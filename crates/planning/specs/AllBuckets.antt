@@ -1,8 +1,8 @@
 -- What all buckets of a message list have found, and the text of what they list.
 -- To be believed of a crate used by itself: the answer isn't defined by buckets.
 use Rattle.std.specs.Prelude.{◌≡◌, ℕ, ◌<◌, ◌+◌, List, length, map, All, Option, Some, None, IsPermutation}
-use Rattle.lists.specs.Least.{numbers_below}
-use Rattle.lists.specs.declared.limits.TheConstants.{TRADE_LIMIT}
+use Rattle.base.specs.Least.{numbers_below}
+use Rattle.base.specs.declared.limits.TheConstants.{TRADE_LIMIT}
 use Rattle.order_table.specs.declared.table.Repeated.{Repeated}
 use Rattle.probe.specs.Selection.{admits}
 use Rattle.row_types.specs.declared.trade.Unknown.{Unknown}

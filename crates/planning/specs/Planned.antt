@@ -3,7 +3,7 @@
 use Rattle.std.specs.Prelude.{ℕ, List, map}
 use Rattle.std.specs.List.{flat_map}
 use Rattle.std.specs.Option.{option_map_or}
-use Rattle.lists.specs.Least.{numbers_below}
+use Rattle.base.specs.Least.{numbers_below}
 use Rattle.row_types.specs.declared.directory.DirectoryRow.{DirectoryRow}
 use Rattle.meaning.specs.Meaning.{Meaning}
 use Rattle.gathering.specs.declared.linked.Linked.{Linked}

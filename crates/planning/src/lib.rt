@@ -8,9 +8,9 @@ mod plan_link;
 mod plan_making;
 mod ranged_answer;
 
+pub use base::OutOfMemory;
 pub use buckets::DayNames;
 pub use day_plan::DayPlan;
 pub use fault_and_tables::{fault_of, tables};
-pub use lists::OutOfMemory;
 pub use plan_link::PlanLink;
 pub use ranged_answer::answer_in_ranges;

@@ -2,7 +2,7 @@
 ghost use Rattle.std.specs.Prelude.{◌≡◌, ℕ, ◌≤◌, IfOk, map};
 ghost use Rattle.std.specs.Arc.{arc_value};
 ghost use Rattle.gathering.specs.declared.linked.Linked.TheVariants.{Next};
-ghost use Rattle.lists.specs.declared.limits.TheConstants.{MOST_PARTITIONS};
+ghost use Rattle.base.specs.declared.limits.TheConstants.{MOST_PARTITIONS};
 ghost use Rattle.morsel_rows.specs.Partitions.{AreRowsByPlace, joined_partitions, partition_at};
 ghost use Rattle.planning.specs.Planned.{LinkView, all_directory, linked_to, planned_buckets};
 

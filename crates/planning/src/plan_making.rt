@@ -1,7 +1,7 @@
 //! What all buckets share, and the buckets.
 ghost use Rattle.std.specs.Prelude.{◌≡◌, ℕ, IfOk, map};
 ghost use Rattle.std.specs.Arc.{arc_value};
-ghost use Rattle.lists.specs.Least.{numbers_below};
+ghost use Rattle.base.specs.Least.{numbers_below};
 ghost use Rattle.meaning.specs.Meaning.{HasWidth};
 ghost use Rattle.morsel_rows.specs.Partitions.{AreRowsByPlace, joined_partitions};
 ghost use Rattle.buckets.specs.BucketRows.{bucket_of, planned_rows};

@@ -5,7 +5,7 @@ use Rattle.std.proofs.lemmas.Bool.Decides.{nat_tests}
 use Rattle.std.specs.Option.{option_eq}
 use Rattle.std.specs.contracts.alloc.Global as global
 use Rattle.std.specs.contracts.impls.GlobalAllocator.TheImpl as allocator
-use Rattle.lists.proofs.Exact.{IsExact, exact_list, exact_nat, exact_option}
+use Rattle.base.proofs.Exact.{IsExact, exact_list, exact_nat, exact_option}
 use Rattle.probe.specs.contracts.selection.KindsPartialEq.TheImpl as kinds_eq
 use Rattle.probe.specs.contracts.selection.LocatesPartialEq.TheImpl as locates_eq
 use Rattle.probe.specs.contracts.selection.SelectionPartialEq.TheImpl as selection_eq

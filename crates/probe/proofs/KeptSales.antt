@@ -5,7 +5,7 @@ use borrow.Author.Tests.{ltb-true}
 use Rattle.std.proofs.lemmas.List.Elements.{filter_passes}
 use Rattle.std.proofs.lemmas.List.Sums.{count_by-le-length, length-filter}
 use Rattle.order_table.specs.declared.OrderRow.{OrderRow}
-use Rattle.lists.proofs.Lists.{length-filter_map}
+use Rattle.base.proofs.Lists.{length-filter_map}
 use Rattle.probe.specs.Pricing.{Execution, Sale, priced, sale_of}
 use Rattle.probe.specs.Selection.{is_kept, kept}
 

@@ -5,8 +5,8 @@ use Rattle.std.specs.List.{cons_option}
 use Rattle.std.proofs.lemmas.List.{append-nil, append_assoc, take_more}
 use Rattle.std.proofs.lemmas.List.Elements.{filter-append, filter_map-append}
 use Rattle.order_table.specs.declared.OrderRow.{OrderRow}
-use Rattle.lists.specs.Least.{least_by}
-use Rattle.lists.proofs.Least.{least_made_more}
+use Rattle.base.specs.Least.{least_by}
+use Rattle.base.proofs.Least.{least_made_more}
 use Rattle.probe.specs.Pricing.{Execution, Unknown, first_unknown, is_unknown, price_of, priced, sale_at, sale_of, unknown_of}
 
 module _ (rows : List OrderRow) (before executions : List Execution) (i : ℕ) (d : Execution) (below : i < length executions) where

@@ -1,10 +1,10 @@
 -- The executions of a part, by their references modulo a number, are priced by the rows of the part as by all rows.
 use Rattle.std.proofs.Common.{◌≡◌, ℕ, ◌<◌, ◌%◌, eqb, List, is_none, option_map, filter, filter_map, ap, ◌∙◌}
 use Rattle.order_table.specs.declared.OrderRow.{OrderRow}
-use Rattle.lists.specs.Least.{least_by, numbers_below, part}
-use Rattle.lists.proofs.Lists.{filters_commute, filter_map_on_filter}
-use Rattle.lists.proofs.Order.{TellsApart, TellsApart-filter}
-use Rattle.lists.proofs.Parts.{least_of_parts}
+use Rattle.base.specs.Least.{least_by, numbers_below, part}
+use Rattle.base.proofs.Lists.{filters_commute, filter_map_on_filter}
+use Rattle.base.proofs.Order.{TellsApart, TellsApart-filter}
+use Rattle.base.proofs.Parts.{least_of_parts}
 use Rattle.order_table.proofs.PartRows.{part_rows, price_where}
 use Rattle.probe.specs.Pricing.{Execution, first_unknown, is_unknown, priced, sale_at, sale_of}
 

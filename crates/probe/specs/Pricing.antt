@@ -1,7 +1,7 @@
 -- The price of an execution, and the sales of a list of executions.
 -- To be believed.
 use Rattle.std.specs.Prelude.{◌≡◌, ℕ, Bool, is_none, List, Option, filter, filter_map, option_map}
-use Rattle.lists.specs.Least.{least_by}
+use Rattle.base.specs.Least.{least_by}
 use Rattle.order_table.specs.declared.OrderRow.{OrderRow}
 use Rattle.order_table.specs.Orders.{price_before}
 pub use Rattle.row_types.specs.declared.trade.Execution.{Execution}

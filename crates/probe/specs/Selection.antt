@@ -1,8 +1,8 @@
 -- Which sales a selection admits, and which are kept.
 -- To be believed.
 use Rattle.std.specs.Prelude.{ℕ, ◌*◌, nat_lt, nat_le, Bool, true, ◌&&◌, not, List, filter, Option, Some, None}
-use Rattle.lists.specs.Among.{is_among}
-use Rattle.lists.specs.declared.limits.TheConstants.{NANOSECONDS}
+use Rattle.base.specs.Among.{is_among}
+use Rattle.base.specs.declared.limits.TheConstants.{NANOSECONDS}
 use Rattle.row_types.specs.declared.trade.Kind.{Kind}
 use Rattle.row_types.specs.declared.trade.Kind.TheVariants.{E, C, P, Q}
 use Rattle.row_types.specs.declared.trade.Sale.{Sale}

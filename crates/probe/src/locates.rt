@@ -4,7 +4,7 @@ ghost use Rattle.std.specs.Cmp.Lexicographic.{pointwise};
 ghost use Rattle.std.specs.Cmp.Rules.{comparing};
 ghost use Rattle.std.proofs.Common.{rules};
 ghost use Rattle.std.specs.List.Sorted.{IsStrictlyIncreasing};
-ghost use Rattle.lists.specs.Among.{HasNumbersOf, is_among};
+ghost use Rattle.base.specs.Among.{HasNumbersOf, is_among};
 
 use std::alloc::{Allocator, Global};
 use std::marker::Model;

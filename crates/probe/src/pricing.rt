@@ -7,7 +7,7 @@ ghost use Rattle.order_table.specs.Orders.{IsTableOf};
 ghost use Rattle.probe.specs.Pricing.{IsPricingOf};
 ghost use Rattle.probe.specs.Pricing.{Execution as TheExecution, first_unknown, priced, sale_at, unknown_of};
 
-use lists::earlier;
+use base::earlier;
 use order_table::{OrderTable, OutOfMemory, PricesExecutions};
 use row_types::{Execution, Kind, Sale, Unknown};
 use std::alloc::{Allocator, Global};

@@ -4,7 +4,7 @@ ghost use Rattle.probe.specs.Selection.{admits, has_kind, has_locate, has_time};
 ghost use Rattle.row_types.specs.declared.trade.Sale.{Sale};
 
 use crate::locates::LocateList;
-use lists::limits::NANOSECONDS;
+use base::limits::NANOSECONDS;
 use row_types::{Kind, Sale};
 use std::alloc::{Allocator, Global};
 

@@ -3,7 +3,7 @@ use Rattle.std.proofs.Common.{◌≡◌, ℕ, ◌+◌, true, nat_lt, List, lengt
 use Rattle.std.specs.List.{list_all}
 use Rattle.std.proofs.lemmas.Bool.Decides.{nat_tests}
 use Rattle.std.proofs.lemmas.List.Sums.{AllPass-from_list_all}
-use Rattle.lists.specs.Among.{AreBytes}
+use Rattle.base.specs.Among.{AreBytes}
 use Rattle.day_file.specs.Frames.{FramesLeft, PlacedBody, StandsFor, IsTruncatedAt, IsWhole}
 use Rattle.day_file.specs.Walk.{left_of, walk}
 use Rattle.day_file.proofs.Walks.{walk_ends, walk_whole}

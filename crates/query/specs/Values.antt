@@ -3,10 +3,10 @@
 use Rattle.std.specs.Prelude.{ℕ, ◌+◌, ◌-◌, ◌*◌, ◌==◌, nat_lt, nat_le, Bool, ◌&&◌, ◌||◌, if◌then◌else◌, List, length, fold, Option, Some, None, option_and_then, slice_index, codes, bytes_eq}
 use Rattle.std.specs.Char.{is_ascii_digit}
 use Rattle.std.specs.List.{list_all}
-use Rattle.lists.specs.Among.{is_among}
+use Rattle.base.specs.Among.{is_among}
 use Rattle.query.specs.Words.{split_by}
 use Rattle.meaning.specs.Meaning.{is_symbol}
-use Rattle.lists.specs.declared.limits.TheConstants.{SECONDS_OF_DAY}
+use Rattle.base.specs.declared.limits.TheConstants.{SECONDS_OF_DAY}
 use Rattle.probe.specs.declared.selection.Kinds.{Kinds}
 use Rattle.meaning.specs.declared.symbols.TheConstants.{COMMA}
 use Rattle.query.specs.declared.values.TheConstants.{COLON}

@@ -11,7 +11,7 @@ ghost use Rattle.meaning.specs.declared.query.What.TheVariants.{Bars};
 
 use crate::values::{count_of, kinds_of, symbols_of, unit_of};
 use crate::words::Words;
-use lists::limits::SECONDS_OF_DAY;
+use base::limits::SECONDS_OF_DAY;
 use meaning::{Query, Symbols, What};
 use outcomes::QueryFault;
 use probe::{Kinds, Span};

@@ -7,7 +7,7 @@ ghost use Rattle.query.specs.Values.{unit_of};
 ghost use Rattle.query.specs.Words.{split_by};
 
 use crate::words::cut;
-use lists::limits::SECONDS_OF_DAY;
+use base::limits::SECONDS_OF_DAY;
 use meaning::{COMMA, OutOfMemory, Symbol, Symbols};
 use probe::Kinds;
 use std::alloc::Allocator;

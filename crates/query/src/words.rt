@@ -10,7 +10,7 @@ ghost use Rattle.query.specs.Faults.{Next, condition, linked, moment, needs, rea
 ghost use Rattle.query.specs.Grammar.{Said, meaning_of, only};
 
 use crate::values::time_of;
-use lists::limits::SECONDS_OF_DAY;
+use base::limits::SECONDS_OF_DAY;
 use outcomes::QueryFault;
 use std::marker::Model;
 

@@ -4,8 +4,8 @@ use Rattle.std.proofs.Common.{refl, sym, ap, ap₂, ◌∙◌, subst, arith, len
 use Rattle.std.specs.List.{concat}
 use Rattle.std.proofs.lemmas.List.Elements.{All-append}
 use Rattle.std.proofs.lemmas.List.Folds.{concat-append}
-use Rattle.lists.specs.declared.limits.TheConstants.{LONGEST_FILE, MOST_MORSELS}
-use Rattle.lists.specs.Among.{AreBytes}
+use Rattle.base.specs.declared.limits.TheConstants.{LONGEST_FILE, MOST_MORSELS}
+use Rattle.base.specs.Among.{AreBytes}
 use Rattle.day_file.specs.Cuts.{IsCutBy, IsRun}
 use Rattle.sources.specs.Given.{GaveAll, GaveSome}
 use Rattle.sources.specs.declared.source.Source.{Ghosts as SourceOf}

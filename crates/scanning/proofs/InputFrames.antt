@@ -7,7 +7,7 @@ use Rattle.std.proofs.lemmas.Bool.Decides.{nat_tests}
 use Rattle.std.proofs.lemmas.Cmp.{same_from_slice_cmp}
 use Rattle.std.proofs.lemmas.List.{append-nil, length-append, map-append, map_push, take-append-drop, take_all, take_more}
 use Rattle.std.proofs.lemmas.List.Folds.{concat-append}
-use Rattle.lists.specs.declared.limits.TheConstants.{LONGEST_FILE}
+use Rattle.base.specs.declared.limits.TheConstants.{LONGEST_FILE}
 use Rattle.day_file.specs.Cuts.{IsRun, MorselView}
 use Rattle.day_file.specs.Frames.{IsWhole, PlacedBody, StandsFrom, spelling}
 use Rattle.day_file.specs.Kept.{runs_of}

@@ -6,8 +6,8 @@ use Rattle.std.proofs.lemmas.Grind.{flat_map-append}
 use Rattle.std.proofs.lemmas.List.{append-nil, length-append, length-drop, length-map, length-take-le, map_push}
 use Rattle.std.proofs.lemmas.List.Elements.{All-append, All-cons, All-head, All-nil, All-push, All-tail}
 use Rattle.std.proofs.lemmas.List.Folds.{concat-append}
-use Rattle.lists.proofs.Lists.{All-parts}
-use Rattle.lists.specs.Among.{AreBytes}
+use Rattle.base.proofs.Lists.{All-parts}
+use Rattle.base.specs.Among.{AreBytes}
 use Rattle.day_file.specs.Cuts.{IsRun, MorselView, start_of}
 use Rattle.day_file.specs.Kept.{numbered}
 use Rattle.day_file.proofs.CutFrames.{frames_of_cut}

@@ -3,7 +3,7 @@ use Rattle.std.proofs.Common.{◌≡◌, ℕ, zero, suc, ◌+◌, ◌<◌, ◌�
 use Rattle.std.specs.List.{concat}
 use Rattle.std.proofs.lemmas.List.{drop-map, length-append, length-map, take-append-drop, take-map}
 use Rattle.std.proofs.lemmas.List.Folds.{concat-append}
-use Rattle.lists.specs.declared.limits.TheConstants.{LONGEST_FILE, MOST_MORSELS}
+use Rattle.base.specs.declared.limits.TheConstants.{LONGEST_FILE, MOST_MORSELS}
 use Rattle.day_file.specs.Cuts.{MorselView, start_of}
 use Rattle.day_file.specs.Kept.{AreMorsels, numbered, runs_of}
 use Rattle.day_file.proofs.Kept.{length-numbered, morsel_at}

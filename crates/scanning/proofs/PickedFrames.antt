@@ -14,8 +14,8 @@ use Rattle.day_file.proofs.Joined.{spelling-append}
 use Rattle.day_file.proofs.Readings.{length-spelling}
 use Rattle.day_rows.specs.DayRows.{rows_of}
 use Rattle.day_rows.specs.Messages.{counted, placed_at}
-use Rattle.lists.specs.Least.{least_by}
-use Rattle.lists.specs.declared.limits.TheConstants.{LONGEST_FILE}
+use Rattle.base.specs.Least.{least_by}
+use Rattle.base.specs.declared.limits.TheConstants.{LONGEST_FILE}
 use Rattle.morsel_rows.specs.Partitions.{in_partitions}
 use Rattle.scanning.specs.Scans.{AreTakenIn, ScanView, TakesIn, scan_of, wrong_at}
 use Rattle.scanning.specs.declared.open_scan.TheConstants.{FRAMES_AT_ONCE}

@@ -3,8 +3,8 @@ use Rattle.std.proofs.Common.{◌≡◌, ℕ, ◌<◌, Bool, true, false, cond, 
 use Rattle.std.specs.List.{cons_option}
 use Rattle.std.proofs.lemmas.List.{append-nil}
 use Rattle.std.proofs.lemmas.List.Elements.{filter_map-append}
-use Rattle.lists.proofs.Least.{least_more}
-use Rattle.lists.specs.Least.{least_by}
+use Rattle.base.proofs.Least.{least_more}
+use Rattle.base.specs.Least.{least_by}
 use Rattle.itch_messages.proofs.NineTypes.{skipped_of_wrong_length}
 use Rattle.itch_messages.specs.Body.{has_wrong_length, length_fault_of, message_of}
 use Rattle.itch_messages.specs.declared.message.Message.{Message}

@@ -3,8 +3,8 @@ use Rattle.std.proofs.Common.{◌≡◌, ℕ, ◌+◌, List, [], ◌∷◌, ◌+
 use Rattle.std.specs.List.{concat, cons_option}
 use Rattle.std.proofs.lemmas.List.{map-append, map_push}
 use Rattle.std.proofs.lemmas.List.Elements.{filter_map-append}
-use Rattle.lists.specs.Least.{least_by}
-use Rattle.lists.proofs.Least.{least_more, least_of_both}
+use Rattle.base.specs.Least.{least_by}
+use Rattle.base.proofs.Least.{least_more, least_of_both}
 use Rattle.day_file.specs.Walk.{frames_of}
 use Rattle.day_file.proofs.Kept.{numbered-append}
 use Rattle.scanning.specs.Scans.{ScanInputView, inputs_from, inputs_of, scan_of, scanned, total_of, with_scan, with_scans}

@@ -6,10 +6,10 @@ use Rattle.std.specs.List.{concat, flat_map}
 use Rattle.std.specs.Option.{option_eq}
 use Rattle.std.proofs.Common.{arith}
 use Rattle.std.proofs.lemmas.Bool.Decides.{nat_tests}
-use Rattle.lists.specs.Among.{AreBytes}
-use Rattle.lists.proofs.Exact.{IsExact, exact_equiv, exact_list, exact_nat, exact_option}
-use Rattle.lists.specs.Least.{least_by}
-use Rattle.lists.specs.declared.limits.TheConstants.{LONGEST_FILE, MOST_PARTITIONS}
+use Rattle.base.specs.Among.{AreBytes}
+use Rattle.base.proofs.Exact.{IsExact, exact_equiv, exact_list, exact_nat, exact_option}
+use Rattle.base.specs.Least.{least_by}
+use Rattle.base.specs.declared.limits.TheConstants.{LONGEST_FILE, MOST_PARTITIONS}
 use Rattle.itch_messages.specs.Body.{has_wrong_length, length_fault_of}
 use Rattle.day_file.specs.Cuts.{IsRun, MorselView, is_same_morsel}
 use Rattle.day_file.specs.Frames.{PlacedBody, spelling}

@@ -4,12 +4,12 @@ ghost use Rattle.std.specs.Arc.{arc_value};
 ghost use Rattle.std.specs.Cmp.{partial_equiv_from_equiv};
 ghost use Rattle.std.specs.Cmp.Lexicographic.{pointwise};
 ghost use Rattle.std.specs.Prelude.{nat_eq};
-ghost use Rattle.lists.specs.declared.limits.TheConstants.{LONGEST_FILE, MOST_PARTITIONS};
+ghost use Rattle.base.specs.declared.limits.TheConstants.{LONGEST_FILE, MOST_PARTITIONS};
 ghost use Rattle.scanning.specs.Scans.{bytes_of, input_equiv, is_same_input};
 
 use crate::OutOfMemory;
+use base::limits::{LONGEST_FILE, MOST_PARTITIONS};
 use day_file::Morsel;
-use lists::limits::{LONGEST_FILE, MOST_PARTITIONS};
 use std::alloc::Global;
 use std::marker::Model;
 use std::sync::Arc;
@@ -31,7 +31,7 @@ pub struct ScanInput {
 impl Model for ScanInput {
     ghost use Rattle.std.specs.Prelude.{◌≡◌, ◌+◌, ◌<◌, ◌≤◌, length, map};
     ghost use Rattle.std.specs.Arc.{arc_value};
-    ghost use Rattle.lists.specs.declared.limits.TheConstants.{LONGEST_FILE, MOST_PARTITIONS};
+    ghost use Rattle.base.specs.declared.limits.TheConstants.{LONGEST_FILE, MOST_PARTITIONS};
     ghost use Rattle.scanning.specs.Scans.{ScanInputView, bytes_of};
 
     ghost Value = { ScanInputView };

@@ -10,9 +10,9 @@ mod scanned;
 mod total;
 mod wrong;
 
+pub use base::OutOfMemory;
 pub use cut_inputs::{batch_inputs, scan_inputs};
 pub use input::ScanInput;
-pub use lists::OutOfMemory;
 pub use open_scan::OpenScan;
 pub use scan_work::ScanWork;
 pub use scanned::Scanned;

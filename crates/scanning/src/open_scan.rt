@@ -1,6 +1,6 @@
 //! A scan under way.
 ghost use Rattle.std.specs.Prelude.{◌≡◌, ◌*◌, ◌<◌, ◌≤◌, ◌⊎◌, ℕ, [], ◌∷◌, length, map, take, IfOk, OnErr, OnOk, Option};
-ghost use Rattle.lists.specs.declared.limits.TheConstants.{LONGEST_FILE, MOST_PARTITIONS};
+ghost use Rattle.base.specs.declared.limits.TheConstants.{LONGEST_FILE, MOST_PARTITIONS};
 ghost use Rattle.day_file.specs.Frames.{spelling};
 ghost use Rattle.day_file.specs.Placed.{placed_body};
 ghost use Rattle.itch_messages.specs.Body.{kind_of};
@@ -10,10 +10,10 @@ ghost use Rattle.scanning.specs.declared.open_scan.TheConstants.{BYTES_AN_ORDER,
 use crate::OutOfMemory;
 use crate::scanned::Scanned;
 use crate::wrong::WrongLength;
+use base::earlier;
+use base::limits::MOST_PARTITIONS;
 use day_file::{Frame, Frames, LENGTH_BYTES};
 use itch_messages::{is_read, kind_of, read_of_kind};
-use lists::earlier;
-use lists::limits::MOST_PARTITIONS;
 use morsel_rows::MorselRows;
 use std::alloc::Global;
 use std::marker::Model;

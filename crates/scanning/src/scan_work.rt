@@ -1,7 +1,7 @@
 //! The work whose tasks are the scans of morsels.
 ghost use Rattle.std.specs.Prelude.{◌≡◌, OnOk};
 ghost use Rattle.std.proofs.Common.{◌∙◌, ap, sym};
-ghost use Rattle.lists.proofs.Exact.{exact_list};
+ghost use Rattle.base.proofs.Exact.{exact_list};
 ghost use Rattle.day_file.specs.Walk.{frames_of};
 ghost use Rattle.scanning.specs.Scans.{AreConsecutive, TakesIn, exact_input, scanned, total_of};
 

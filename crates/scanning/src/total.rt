@@ -6,7 +6,7 @@ ghost use Rattle.scanning.specs.Scans.{total_of, with_scan, with_scans};
 use crate::OutOfMemory;
 use crate::scanned::Scanned;
 use crate::wrong::WrongLength;
-use lists::earlier;
+use base::earlier;
 use morsel_rows::MorselRows;
 use std::alloc::Global;
 use std::marker::Model;

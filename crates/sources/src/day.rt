@@ -13,7 +13,7 @@ pub struct DayFile<A: Allocator = Global> {
 
 impl<A: Allocator> Model for DayFile<A> {
     ghost use Rattle.std.specs.Prelude.{ℕ, List, ◌≤◌, vec_len};
-    ghost use Rattle.lists.specs.declared.limits.TheConstants.{LONGEST_FILE};
+    ghost use Rattle.base.specs.declared.limits.TheConstants.{LONGEST_FILE};
 
     ghost Value = { List ℕ };
 

@@ -6,9 +6,9 @@ mod day;
 mod day_reading;
 mod source;
 
+pub use base::OutOfMemory;
+pub use base::limits::LONGEST_FILE;
 pub use counted::Counted;
 pub use day::DayFile;
 pub use day_reading::{ReadFault, read_day};
-pub use lists::OutOfMemory;
-pub use lists::limits::LONGEST_FILE;
 pub use source::{DeviceFailed, Source};

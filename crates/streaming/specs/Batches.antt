@@ -2,7 +2,7 @@
 -- To be believed of a crate used by itself: what is promised of a run speaks of what its source gave alone.
 use Rattle.std.specs.Prelude.{◌≡◌, ℕ, ◌+◌, ◌<◌, ◌≤◌, true, false, List, ◌++◌, length, All}
 use Rattle.std.specs.List.{concat}
-use Rattle.lists.specs.declared.limits.TheConstants.{LONGEST_FILE, MOST_MORSELS}
+use Rattle.base.specs.declared.limits.TheConstants.{LONGEST_FILE, MOST_MORSELS}
 use Rattle.day_file.specs.Cuts.{IsCutBy}
 use Rattle.day_file.specs.Feeding.{CutterView, HasFed, IsFullRun, fed_length}
 use Rattle.day_file.specs.Frames.{IsTruncatedAt}

@@ -1,7 +1,7 @@
 -- What is known of a source after it was read, whichever kind of source it is.
 -- To be believed.
 use Rattle.std.specs.Prelude.{◌≡◌, ℕ, ◌<◌, ◌≤◌, ◌⊎◌, List, length}
-use Rattle.lists.specs.declared.limits.TheConstants.{MOST_MORSELS}
+use Rattle.base.specs.declared.limits.TheConstants.{MOST_MORSELS}
 use Rattle.day_file.specs.Cuts.{IsCutBy}
 use Rattle.day_file.specs.Frames.{IsTruncatedAt}
 use Rattle.sources.specs.Given.{GaveAll, GaveMore, GaveSome}

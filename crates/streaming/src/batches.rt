@@ -2,7 +2,7 @@
 ghost use Rattle.std.specs.Prelude.{◌≡◌, ◌≤◌, ◌<◌, ◌+◌, ◌++◌, ◌↔◌, ℕ, List, [], length, true, false, vec_len};
 ghost use Rattle.std.specs.Prelude.{IfErr, IfOk, IfSome, IsErrOf, IsNone, OnErr, OnOk};
 ghost use Rattle.std.specs.List.{concat};
-ghost use Rattle.lists.specs.declared.limits.TheConstants.{LONGEST_FILE, MOST_MORSELS};
+ghost use Rattle.base.specs.declared.limits.TheConstants.{LONGEST_FILE, MOST_MORSELS};
 ghost use Rattle.day_file.specs.Cuts.{IsCutBy};
 ghost use Rattle.day_file.specs.Feeding.{HasFed, fed_length};
 ghost use Rattle.streaming.specs.Batches.{HasRead, IsLastFault, IsNextBatch, IsReadTo, IsReading};

@@ -1,6 +1,6 @@
 //! What `answer` and `answer_blocks` tell in the tests, and what they do of one thread alone.
 ghost use Rattle.std.specs.Prelude.{◌≡◌, ◌<◌, ◌≤◌};
-ghost use Rattle.lists.specs.declared.limits.TheConstants.{MOST_PARTITIONS};
+ghost use Rattle.base.specs.declared.limits.TheConstants.{MOST_PARTITIONS};
 
 use day_file::cut;
 use executor::{

@@ -1,7 +1,7 @@
 //! What `rehearse` tells in the tests.
+use base::limits::MOST_PARTITIONS;
 use day_file::cut_at;
 use executor::{Answer, Cut, DayFault, Event, OutOfMemory, Query, Rehearsal, parse, rehearse};
-use lists::limits::MOST_PARTITIONS;
 use std::alloc::Global;
 use std::test::Fail;
 use tests_support::{Day, Form, file_of};

@@ -1,9 +1,9 @@
 //! Rows in short.
 ghost use Rattle.std.specs.Prelude.{◌≤◌};
-ghost use Rattle.lists.specs.declared.limits.TheConstants.{LONGEST_FILE};
+ghost use Rattle.base.specs.declared.limits.TheConstants.{LONGEST_FILE};
 
+use base::limits::LONGEST_FILE;
 use block_scan::{BlockSource, Division, OutOfMemory, SourceFault, block_inputs};
-use lists::limits::LONGEST_FILE;
 use morsel_rows::{MorselRows, Partition};
 use pipelines::{Crew, FreeGate, run_first};
 use scanning::ScanTotal;

@@ -1,6 +1,6 @@
 //! Day files that are cut while they are read from a source.
 ghost use Rattle.std.specs.Prelude.{◌≡◌, ◌<◌, ◌≤◌, ◌↔◌, false, true, IsErrOf};
-ghost use Rattle.lists.specs.declared.limits.TheConstants.{LONGEST_FILE};
+ghost use Rattle.base.specs.declared.limits.TheConstants.{LONGEST_FILE};
 
 use day_file::{Counted, LONGEST_FILE, Source, cut};
 use std::alloc::Global;

@@ -4,7 +4,7 @@ ghost use Rattle.std.specs.Cmp.Lexicographic.{same_text};
 ghost use Rattle.std.specs.Cmp.Rules.{comparing};
 ghost use Rattle.std.proofs.Common.{rules, ◌∙◌, ap, sym};
 ghost use Rattle.std.proofs.lemmas.Bool.{eqb-true};
-ghost use Rattle.lists.specs.declared.limits.TheConstants.{MOST_TASKS};
+ghost use Rattle.base.specs.declared.limits.TheConstants.{MOST_TASKS};
 ghost use Rattle.gathering.specs.declared.linked.Linked.TheVariants.{Halt};
 
 use crate::gatherers::{OVERLAP, Order, TWO_AND_TWO};

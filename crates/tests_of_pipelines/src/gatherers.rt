@@ -1,7 +1,7 @@
 //! Gatherers, on the test's thread and on threads of their own: what each gathers, when it ends, and that
 //! nothing is lost where they are merged or where no worker is left.
 ghost use Rattle.std.specs.Prelude.{◌≡◌, ◌<◌, ◌≤◌, length};
-ghost use Rattle.lists.specs.declared.limits.TheConstants.{MOST_TASKS};
+ghost use Rattle.base.specs.declared.limits.TheConstants.{MOST_TASKS};
 
 use crate::threads::outcome;
 use pipelines::{

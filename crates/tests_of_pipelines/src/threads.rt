@@ -1,6 +1,6 @@
 //! Pipelines on threads: which runs are made, when, and what the gate hears.
 ghost use Rattle.std.specs.Prelude.{◌≡◌, ◌<◌, ◌≤◌, length};
-ghost use Rattle.lists.specs.declared.limits.TheConstants.{MOST_TASKS};
+ghost use Rattle.base.specs.declared.limits.TheConstants.{MOST_TASKS};
 
 use crate::link::OneAndTwo;
 use pipelines::{Crew, FreeGate, Gate, OutOfMemory, Outcome, run_pair};

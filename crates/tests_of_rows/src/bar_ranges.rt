@@ -1,6 +1,6 @@
 //! The lines of many tables that threads make by ranges, beside those of all bars in one table.
 ghost use Rattle.std.specs.Prelude.{◌≡◌, ◌<◌, ◌≤◌, All, IfOk, [], ◌∷◌, length};
-ghost use Rattle.lists.specs.declared.limits.TheConstants.{TIME_LIMIT};
+ghost use Rattle.base.specs.declared.limits.TheConstants.{TIME_LIMIT};
 ghost use Rattle.time_and_sales.specs.Lent.{AreApart};
 ghost use Rattle.bars.specs.Bars.{AllSumsFit, AreBarsOf, IsTraded, all_bars};
 

@@ -1,7 +1,7 @@
 //! The table of orders.
 use crate::rows::{forty_rows, hundred_rows, order_rows};
+use base::limits::MOST_PARTITIONS;
 use linked_list_allocator::LocalHeap;
-use lists::limits::MOST_PARTITIONS;
 use order_table::{Built, OrderRow, OrderTable, Repeated, greatest_prime, partition};
 use std::alloc::{Allocator, Global};
 use std::test::Fail;

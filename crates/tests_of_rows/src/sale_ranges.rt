@@ -1,7 +1,7 @@
 //! The lines of listings that threads make by ranges, beside those of all sales in one listing.
 ghost use Rattle.std.specs.Prelude.{◌<◌, ◌++◌, All, IfOk, [], ◌∷◌};
 ghost use Rattle.std.specs.List.Sorted.{IsPermutation};
-ghost use Rattle.lists.specs.declared.limits.TheConstants.{TIME_LIMIT};
+ghost use Rattle.base.specs.declared.limits.TheConstants.{TIME_LIMIT};
 ghost use Rattle.time_and_sales.specs.Lent.{AreApart, all_sales};
 
 use crate::bar_ranges::{joined, names, sale};

@@ -3,11 +3,11 @@ ghost use Rattle.std.specs.Prelude.{◌≡◌, IfSome, false};
 ghost use Rattle.itch_messages.specs.Body.{is_skipped};
 
 use crate::MSFT;
+use base::OutOfMemory;
 use day_file::append_frame;
 use itch_messages::{
     Add, Broken, Cross, Directory, Executed, ExecutedAt, Header, Message, Replace, Trade, append,
 };
-use lists::OutOfMemory;
 use std::alloc::Global;
 
 /// The time of orders and breaks, in nanoseconds since midnight.

@@ -1,7 +1,7 @@
 //! Inputs of the work.
 ghost use Rattle.std.specs.Prelude.{◌≡◌, ◌<◌, ◌≤◌, ◌^◌, IfOk, length, sum};
 ghost use Rattle.std.specs.Arc.{arc_value};
-ghost use Rattle.lists.specs.declared.limits.TheConstants.{MOST_TASKS};
+ghost use Rattle.base.specs.declared.limits.TheConstants.{MOST_TASKS};
 
 use crate::sum::{Number, Sum};
 use crate::watch::Watch;

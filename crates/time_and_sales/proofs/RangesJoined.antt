@@ -10,7 +10,7 @@ use Rattle.std.proofs.lemmas.List.{length-take-le, map-append, take-append-drop,
 use Rattle.std.proofs.lemmas.List.Concat.{flat_map-append}
 use Rattle.std.proofs.lemmas.List.Elements.{filter-append, All-head, All-tail}
 use Rattle.std.proofs.lemmas.List.Kept.{IsNonDecreasingBy-filter}
-use Rattle.lists.proofs.Lists.{filter_of_filter}
+use Rattle.base.proofs.Lists.{filter_of_filter}
 use Rattle.time_and_sales.specs.Ranges.{GivesRanges, all_items, greatest_so_far, is_in_first}
 use Rattle.time_and_sales.specs.Turns.{AreTextsOf}
 

@@ -6,7 +6,7 @@ use Rattle.std.proofs.lemmas.List.{map_more, map_push, take_all}
 use Rattle.std.proofs.lemmas.List.Elements.{filter-append}
 use Rattle.std.proofs.lemmas.List.Kept.{IsStrictlySortedBy-filter}
 use Rattle.std.proofs.lemmas.List.Sorted.{IsPermutation-sym, IsPermutation-trans}
-use Rattle.lists.proofs.Lists.{IsPermutation-filter}
+use Rattle.base.proofs.Lists.{IsPermutation-filter}
 use Rattle.row_types.specs.SalesByPlace.{place_cmp, IsByPlace}
 use Rattle.time_and_sales.specs.Lent.{all_sales}
 use Rattle.time_and_sales.specs.Texts.{Sale}

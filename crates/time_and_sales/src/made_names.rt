@@ -1,6 +1,6 @@
 //! The names of many locates, each made once.
 ghost use Rattle.std.specs.Prelude.{◌≡◌, ℕ, ◌<◌, ◌++◌, IfOk, List, OnOk, length, slice_index_or};
-ghost use Rattle.lists.specs.declared.limits.TheConstants.{TIME_LIMIT};
+ghost use Rattle.base.specs.declared.limits.TheConstants.{TIME_LIMIT};
 ghost use Rattle.time_and_sales.specs.Names.{names_by};
 ghost use Rattle.time_and_sales.specs.Texts.{sale_line};
 

@@ -1,7 +1,7 @@
 //! A new dispatcher, and its seats.
 ghost use Rattle.std.specs.Prelude.{◌≡◌, ℕ, ◌+◌, ◌-◌, ◌<◌, ◌≤◌, [], All, length, map, IfOk};
 ghost use Rattle.std.specs.List.{range_with_len};
-ghost use Rattle.lists.specs.declared.limits.TheConstants.{MOST_TASKS, MOST_SEATS};
+ghost use Rattle.base.specs.declared.limits.TheConstants.{MOST_TASKS, MOST_SEATS};
 ghost use Rattle.dispatcher.specs.Rule.{unused_view};
 ghost use Rattle.dispatcher.specs.Seats.{tasks_of, seats_of, number, IsSeatOf, IsUnused};
 

@@ -2,7 +2,7 @@
 ghost use Rattle.std.specs.Prelude.{◌≡◌, ℕ, ◌<◌, ◌≤◌, List, false, IfErr, IfOk};
 ghost use Rattle.std.specs.Arc.{arc_value};
 ghost use Rattle.std.specs.List.{concat};
-ghost use Rattle.lists.specs.declared.limits.TheConstants.{MOST_PARTITIONS};
+ghost use Rattle.base.specs.declared.limits.TheConstants.{MOST_PARTITIONS};
 ghost use Rattle.answers.specs.Answers.{IsAnswer, told_by};
 ghost use Rattle.block_scan.specs.Blocks.{GaveWhole, IsBlocksFault, of_blocks};
 ghost use Rattle.runs.specs.Runs.{IsAnsweredOrRefused, Ran, is_write_failed};

@@ -1,7 +1,7 @@
 //! `answer`: a query over a day that is cut already.
 ghost use Rattle.std.specs.Prelude.{◌≡◌, ℕ, List, ◌<◌, ◌≤◌, Err, IfOk};
 ghost use Rattle.std.specs.List.{concat};
-ghost use Rattle.lists.specs.declared.limits.TheConstants.{MOST_PARTITIONS};
+ghost use Rattle.base.specs.declared.limits.TheConstants.{MOST_PARTITIONS};
 ghost use Rattle.answers.specs.Answers.{IsAnswer, told_by};
 ghost use Rattle.runs.specs.Steps.{IsOutcomeOf};
 

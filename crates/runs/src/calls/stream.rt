@@ -1,6 +1,6 @@
 //! A source that is read batch by batch, while threads scan the batch before.
 ghost use Rattle.std.specs.Prelude.{◌≡◌, ◌<◌, ◌≤◌, ◌↔◌, false, true, IfErr, IfOk, IsErrOf, Ok, OnOk};
-ghost use Rattle.lists.specs.declared.limits.TheConstants.{MOST_PARTITIONS};
+ghost use Rattle.base.specs.declared.limits.TheConstants.{MOST_PARTITIONS};
 ghost use Rattle.streaming.specs.Readings.{IsSourceFault, of_stream};
 ghost use Rattle.scanning.specs.Scans.{ScanTotalView, with_scans};
 ghost use Rattle.runs.specs.Steps.{IsBatchRead, IsReadWhole, IsScanOfBatch};

@@ -1,5 +1,5 @@
 use Rattle.std.proofs.Common.{refl, arith}
-use Rattle.lists.specs.declared.limits.TheConstants.{LARGEST_MORSEL, MOST_GATHERERS, MOST_PARTITIONS, MOST_WORKERS}
+use Rattle.base.specs.declared.limits.TheConstants.{LARGEST_MORSEL, MOST_GATHERERS, MOST_PARTITIONS, MOST_WORKERS}
 use Rattle.clap.specs.Words.{found_of}
 use Rattle.arguments.proofs.Numbers.{integer_found, integer_unwrapped}
 use Rattle.arguments.proofs.Whole.{whole}

@@ -1,6 +1,6 @@
 use Rattle.std.proofs.Common.{codes}
 use Rattle.std.specs.Fmt.{decimal}
-use Rattle.lists.specs.declared.limits.TheConstants.{MOST_MORSELS}
+use Rattle.base.specs.declared.limits.TheConstants.{MOST_MORSELS}
 use Rattle.arguments.proofs.LineParts.{one_number}
 use Rattle.arguments.proofs.fault_lines.push_fault.Goals as goal
 

@@ -2,7 +2,7 @@ use Rattle.std.proofs.Common.{◌<◌, rules, refl, ap, ◌∙◌, map}
 use Rattle.std.proofs.lemmas.List.Elements.{All-weaker}
 use Rattle.std.proofs.lemmas.List.Sorted.{All-permutation}
 use Rattle.std.proofs.lemmas.Result.{IfOk-weaker}
-use Rattle.lists.specs.declared.limits.TheConstants.{TIME_LIMIT}
+use Rattle.base.specs.declared.limits.TheConstants.{TIME_LIMIT}
 use Rattle.time_and_sales.specs.Names.{names_by}
 use Rattle.bars.specs.Bars.{Bar, IsTraded, IsUnionOf, joined_all}
 use Rattle.bars.specs.Steps.{AreJoinedAlike, bar_at}

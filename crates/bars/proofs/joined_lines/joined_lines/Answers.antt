@@ -2,8 +2,8 @@ use Rattle.std.proofs.Common.{◌≡◌, ◌<◌, false, All, List, map, take, �
 use Rattle.std.proofs.lemmas.Bool.{eqb-false, eqb-true}
 use Rattle.std.proofs.lemmas.List.{length-map, nil_from_length, take_all}
 use Rattle.std.proofs.lemmas.List.Elements.{All-contains, All-take, Contains-push}
-use Rattle.lists.specs.declared.limits.TheConstants.{TIME_LIMIT}
-use Rattle.lists.proofs.Lists.{flat_map_push}
+use Rattle.base.specs.declared.limits.TheConstants.{TIME_LIMIT}
+use Rattle.base.proofs.Lists.{flat_map_push}
 use Rattle.time_and_sales.specs.Names.{names_by}
 use Rattle.bars.specs.Bars.{Bar, IsTraded, IsUnionOf, key_cmp}
 use Rattle.bars.specs.Steps.{bar_at}

@@ -3,7 +3,7 @@ use Rattle.std.proofs.lemmas.Grind.{common_steps}
 use Rattle.std.proofs.lemmas.List.{length-append, length-take-le}
 use Rattle.std.proofs.lemmas.List.Elements.{All-append, All-nil}
 use borrow.Rule.Slice.PartMut.{put_mid}
-use Rattle.lists.specs.Among.{AreBytes}
+use Rattle.base.specs.Among.{AreBytes}
 use Rattle.day_file.proofs.Joined.{reading_of}
 use Rattle.day_file.proofs.Readings.{IsStuck-nil}
 use Rattle.block_scan.proofs.Filled.{fills_more, filled_more, moved}

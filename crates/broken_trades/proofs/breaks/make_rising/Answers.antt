@@ -1,5 +1,5 @@
 use Rattle.std.proofs.Common.{rules}
-use Rattle.lists.proofs.Among.{made_has, made_rises}
+use Rattle.base.proofs.Among.{made_has, made_rises}
 use Rattle.broken_trades.proofs.breaks.make_rising.Goals as goal
 
 pub returns-clause-numbers : goal.returns-clause-numbers

@@ -2,7 +2,7 @@ use Rattle.std.proofs.Common.{◌≡◌, ◌∷◌, ◌++◌, ◌+◌, ℕ, List
 use Rattle.std.specs.List.Sorted.{IsStrictlySortedBy}
 use Rattle.std.proofs.lemmas.Option.{MatchOption-at_none, MatchOption-at_some}
 use Rattle.std.proofs.lemmas.Result.{err_from_is_err_and}
-use Rattle.lists.specs.Least.{least_by}
+use Rattle.base.specs.Least.{least_by}
 use Rattle.day_file.specs.Frames.{IsTruncatedAt, IsWhole, PlacedBody}
 use Rattle.day_file.specs.Placed.{placed_body}
 use Rattle.day_file.proofs.Kept.{bytes_of_type}

@@ -1,6 +1,6 @@
 use Rattle.std.proofs.Common.{Err, Ok, ◌∙◌, ap, subst}
 use Rattle.std.proofs.lemmas.Result.{err_from_is_err_and}
-use Rattle.lists.specs.declared.limits.TheConstants.{TRADE_LIMIT}
+use Rattle.base.specs.declared.limits.TheConstants.{TRADE_LIMIT}
 use Rattle.meaning.specs.Meaning.{Meaning}
 use Rattle.time_and_sales.specs.Names.{IsNamesOf, name_text, names_by}
 use Rattle.answers.specs.Answers.{IsAnswer}

@@ -1,6 +1,6 @@
 use Rattle.std.proofs.Common.{◌<◌}
 use Rattle.std.proofs.lemmas.List.Sorted.{All-permutation, IsPermutation-trans}
-use Rattle.lists.specs.declared.limits.TheConstants.{TIME_LIMIT}
+use Rattle.base.specs.declared.limits.TheConstants.{TIME_LIMIT}
 use Rattle.planning.proofs.ProductsJoined.{listings_apart, listings_are, listings_times, on_ok}
 use Rattle.executor.proofs.joined.text_of_listings.Goals as goal
 

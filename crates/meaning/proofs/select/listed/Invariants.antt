@@ -1,5 +1,5 @@
 use Rattle.std.specs.Prelude.{◌≡◌, Some, filter}
-use Rattle.lists.specs.Least.{numbers_below}
+use Rattle.base.specs.Least.{numbers_below}
 use Rattle.time_and_sales.specs.Names.{names_by}
 use Rattle.meaning.specs.Selected.{has_name}
 use Rattle.meaning.proofs.select.listed.Given as goal

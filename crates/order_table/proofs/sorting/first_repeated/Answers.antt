@@ -1,6 +1,6 @@
 use Rattle.std.proofs.Common.{◌∙◌, ◌++◌, ◌∷◌, [], ap, arith, get_or, option_to_list, rules, sym}
 use Rattle.std.proofs.lemmas.List.Sorted.{answers_always}
-use Rattle.lists.specs.Least.{least_by}
+use Rattle.base.specs.Least.{least_by}
 use Rattle.order_table.specs.Orders.{OrderRow}
 use Rattle.order_table.proofs.Repeats.{is_again, is_new, none_first, one_again, one_new}
 use Rattle.order_table.proofs.RowsInOrder.{place_of}

@@ -2,7 +2,7 @@ use Rattle.std.proofs.Common.{◌≡◌, length, add-one, ap, subst, arith}
 use Rattle.std.specs.Arc.{arc_value}
 use Rattle.std.proofs.lemmas.List.{length-map, map_push}
 use Rattle.std.proofs.lemmas.List.FromFn.{length-range_with_len}
-use Rattle.lists.proofs.Lists.{range_more}
+use Rattle.base.proofs.Lists.{range_more}
 use Rattle.pipelines.proofs.by_number.numbered.Goals as goal
 
 pub loop-number-preserved : goal.loop-number-preserved

@@ -1,6 +1,6 @@
 use Rattle.std.proofs.Common.{◌≡◌, map}
 use Rattle.std.specs.Arc.{arc_value}
-use Rattle.lists.specs.Least.{numbers_below}
+use Rattle.base.specs.Least.{numbers_below}
 use Rattle.buckets.specs.BucketRows.{bucket_of}
 use Rattle.planning.proofs.plan_making.buckets_of.Given as goal
 

@@ -1,7 +1,7 @@
 use Rattle.std.proofs.Common.{◌∙◌, ◌<◌, ◌++◌, ◌∷◌, [], ap, ap₂, arith, length, option_map, option_to_list, rules, sym}
 use Rattle.std.proofs.lemmas.Grind.{common_steps}
 use Rattle.std.proofs.lemmas.List.Sorted.{answers_always}
-use Rattle.lists.specs.Least.{least_by}
+use Rattle.base.specs.Least.{least_by}
 use Rattle.probe.specs.Pricing.{Sale, Unknown, unknown_of}
 use Rattle.probe.proofs.OneMoreExecution.{priced_more, priced_stays, unknown_more, unknown_stays}
 use Rattle.probe.proofs.pricing.price_each.Goals as goal

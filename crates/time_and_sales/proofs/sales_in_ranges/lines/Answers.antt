@@ -3,7 +3,7 @@ use Rattle.std.proofs.lemmas.Iterator.Adapters.{YieldsList-from_vec}
 use Rattle.std.proofs.lemmas.List.Elements.{All-contains, Contains-append_left, Contains-push}
 use Rattle.std.proofs.lemmas.List.Sorted.{All-permutation, IsNonDecreasingBy-from_all_adjacent, IsStrictWeakOrder-by_number}
 use Rattle.itertools.proofs.AdaptorLemmas.{items_from_whole_run}
-use Rattle.lists.specs.declared.limits.TheConstants.{TIME_LIMIT}
+use Rattle.base.specs.declared.limits.TheConstants.{TIME_LIMIT}
 use Rattle.row_types.specs.declared.trade.Sale.{Sale}
 use Rattle.time_and_sales.specs.Lent.{all_sales}
 use Rattle.time_and_sales.proofs.MergedListings.{before, merges, parts_in_order, ran_out, ran_to, rest_of, slices_give}

@@ -1,7 +1,7 @@
 use Rattle.std.proofs.Common.{◌∙◌, ap, sym, subst}
 use Rattle.std.specs.List.Sorted.{IsStrictlyIncreasing}
-use Rattle.lists.specs.Among.{is_among}
-use Rattle.lists.proofs.Among.{found_among}
+use Rattle.base.specs.Among.{is_among}
+use Rattle.base.proofs.Among.{found_among}
 use Rattle.broken_trades.proofs.breaks.Breaks.holds.Goals as goal
 
 pub returns : goal.returns

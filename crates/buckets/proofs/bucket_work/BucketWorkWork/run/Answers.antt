@@ -1,5 +1,5 @@
 use Rattle.std.proofs.Common.{◌≡◌, ◌<◌, All, Bool, List, ap, length, subst, sym, ℕ, ◌∙◌}
-use Rattle.lists.specs.declared.limits.TheConstants.{TRADE_LIMIT}
+use Rattle.base.specs.declared.limits.TheConstants.{TRADE_LIMIT}
 use Rattle.probe.specs.Selection.{kept}
 use Rattle.row_types.specs.declared.trade.Sale.{Sale}
 use Rattle.probe.proofs.KeptSales.{kept_have_shares}

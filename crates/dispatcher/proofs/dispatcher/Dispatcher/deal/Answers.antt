@@ -1,7 +1,7 @@
 use Rattle.std.proofs.Common.{◌≡◌, ℕ, suc, ◌+◌, ◌-◌, add-one, arith, rules}
 use Rattle.std.proofs.lemmas.Grind.{common_steps, elements}
 use Rattle.std.proofs.lemmas.List.{map_push}
-use Rattle.lists.proofs.Lists.{range_more}
+use Rattle.base.proofs.Lists.{range_more}
 use Rattle.dispatcher.proofs.dispatcher.Dispatcher.deal.Goals as goal
 use Rattle.dispatcher.proofs.RuleIsKept.{splits}
 

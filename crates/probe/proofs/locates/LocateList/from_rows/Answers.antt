@@ -1,5 +1,5 @@
 use Rattle.std.proofs.Common.{rules}
-use Rattle.lists.proofs.Among.{made_has, made_rises}
+use Rattle.base.proofs.Among.{made_has, made_rises}
 use Rattle.probe.proofs.locates.LocateList.from_rows.Goals as goal
 
 pub invariant_of-result : goal.invariant_of-result

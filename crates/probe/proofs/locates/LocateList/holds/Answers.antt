@@ -1,6 +1,6 @@
 use Rattle.std.proofs.Common.{◌∙◌, ap}
-use Rattle.lists.specs.Among.{is_among}
-use Rattle.lists.proofs.Among.{found_among}
+use Rattle.base.specs.Among.{is_among}
+use Rattle.base.proofs.Among.{found_among}
 use Rattle.probe.proofs.locates.LocateList.holds.Goals as goal
 
 pub returns : goal.returns

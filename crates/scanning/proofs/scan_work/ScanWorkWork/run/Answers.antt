@@ -1,6 +1,6 @@
 use Rattle.std.proofs.Common.{◌≡◌, ◌≤◌, ◌<◌, [], ap, ◌∙◌, subst}
 use Rattle.std.proofs.lemmas.Result.{IfOk-weaker}
-use Rattle.lists.specs.declared.limits.TheConstants.{MOST_PARTITIONS}
+use Rattle.base.specs.declared.limits.TheConstants.{MOST_PARTITIONS}
 use Rattle.scanning.specs.Scans.{scan_of, scanned}
 use Rattle.scanning.proofs.scan_work.ScanWorkWork.run.Goals as goal
 

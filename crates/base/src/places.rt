@@ -1,7 +1,7 @@
 //! What stands at places.
 ghost use Rattle.std.specs.Prelude.{◌≡◌, ℕ, ◌++◌, option_to_list};
 ghost use Rattle.std.specs.Fn.{ComputesKey};
-ghost use Rattle.lists.specs.Least.{least_by};
+ghost use Rattle.base.specs.Least.{least_by};
 
 use std::cmp::min_by_key;
 

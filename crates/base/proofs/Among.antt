@@ -14,8 +14,8 @@ use Rattle.std.proofs.lemmas.List.Filters.{dedup_is}
 use Rattle.std.proofs.lemmas.List.Kept.{Contains-dedup_nat, Contains-from_dedup, AllPairs-from_increasing}
 use Rattle.std.proofs.lemmas.List.Sorted.{list_any-IsPermutation, searched}
 use Rattle.std.proofs.lemmas.Map.Keys.{IsStrictlyIncreasing-dedup, sorted_from_strictly_increasing}
-use Rattle.lists.specs.Among.{is_among}
-use Rattle.lists.proofs.Order.{same_from_items}
+use Rattle.base.specs.Among.{is_among}
+use Rattle.base.proofs.Order.{same_from_items}
 
 abbrev is_number : ℕ → ℕ → Bool
 is_number wanted number = eqb number wanted
