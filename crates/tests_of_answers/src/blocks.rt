@@ -11,8 +11,7 @@ use std::sync::atomic::{AtomicBool, AtomicU64, Ordering};
 use std::sync::{Arc, Wait};
 use std::test::Fail;
 use std::thread::Threads;
-use tests_support::{BROKEN_EARLIER, Day, Form, UNNAMED, UNNAMED_TEXT, in_memory};
-use tests_works::hold;
+use tests_support::{BROKEN_EARLIER, Day, Form, UNNAMED, UNNAMED_TEXT, hold, in_memory};
 
 /// What `run_blocks` gives with `workers` workers, and whether it wrote this text, or nothing if there is a fault.
 fn told_by_blocks<R: Threads + Wait + Sync, S: BlockSource + Send + Sync>(

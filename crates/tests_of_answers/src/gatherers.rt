@@ -3,8 +3,7 @@ use crate::answering::{WAYS, is_answered_by};
 use crate::threads::is_answered;
 use executor::{Crew, FreeGate};
 use std::test::Fail;
-use tests_support::NAMED;
-use tests_works::{Heard, Hold, Warden};
+use tests_support::{Heard, Hold, NAMED, Warden};
 
 /// Two workers, and two gatherers.
 const PAIRS: Crew = Crew {

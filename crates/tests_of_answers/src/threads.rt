@@ -7,8 +7,7 @@ use std::sync::Wait;
 use std::sync::atomic::{AtomicU64, Ordering};
 use std::test::Fail;
 use std::thread::Threads;
-use tests_support::{BROKEN_EARLIER, Form};
-use tests_works::{Counter, Heard, Hold, Warden};
+use tests_support::{BROKEN_EARLIER, Counter, Form, Heard, Hold, Warden};
 
 /// `sales` of a day whose one sale is broken is answered, with four tasks and 64 partitions.
 pub fn is_answered<G: Gate, R: Threads + Wait + Abort + Sync>(

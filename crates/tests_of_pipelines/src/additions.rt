@@ -14,7 +14,7 @@ use std::marker::Model;
 use std::sync::Arc;
 use std::sync::atomic::{AtomicBool, Ordering};
 use std::test::Fail;
-use tests_works::hold;
+use tests_support::hold;
 
 /// What all inputs and values of a test share.
 #[derive(Drop)]

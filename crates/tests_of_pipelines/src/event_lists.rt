@@ -7,7 +7,7 @@ use schedules::{Event, Rehearsed, apply, rehearse_pair};
 use std::alloc::Global;
 use std::sync::Arc;
 use std::test::Fail;
-use tests_works::{NUMBERS, Watch, shared_inputs_of};
+use tests_support::{NUMBERS, Watch, shared_inputs_of};
 
 /// A task arrives at gatherer 0.
 fn at_0(task: u32) -> Event {

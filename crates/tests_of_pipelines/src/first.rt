@@ -5,7 +5,7 @@ use crate::threads::{Ledger, ONE, TWO};
 use pipelines::{FreeGate, Outcome, run_alone, run_first};
 use std::sync::Arc;
 use std::test::Fail;
-use tests_works::{NUMBERS, Watch, shared_inputs_of};
+use tests_support::{NUMBERS, Watch, shared_inputs_of};
 
 #[test]
 fn one_pipeline_gives_each_task_to_a_worker(rt: HostRuntime) -> Result<(), Fail> {

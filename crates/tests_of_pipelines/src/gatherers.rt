@@ -15,7 +15,7 @@ use std::sync::{Arc, Wait};
 use std::test::Fail;
 use std::thread;
 use std::thread::Threads;
-use tests_works::{NUMBERS, Number, Sum, Watch, hold, shared_inputs_of};
+use tests_support::{NUMBERS, Number, Sum, Watch, hold, shared_inputs_of};
 
 /// A run: its pipeline, its task and its round.
 pub(crate) type Run = (u8, u32, u8);

@@ -5,7 +5,7 @@ ghost use Rattle.gathering.specs.declared.linked.Linked.TheVariants.{Next, Halt}
 use pipelines::{Inputs, Link, Linked, OutOfMemory};
 use std::alloc::Global;
 use std::sync::Arc;
-use tests_works::{Sum, Watch, inputs_of};
+use tests_support::{Sum, Watch, inputs_of};
 
 /// Goes on with inputs 1 and 2 and keeps the total, or halts with it.
 #[derive(Drop)]

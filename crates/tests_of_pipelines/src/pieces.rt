@@ -4,7 +4,7 @@ use gathering::{Filed, Gathering, Inputs, OutOfMemory, Piece, TotalRefused};
 use std::alloc::{Allocator, Global};
 use std::sync::Arc;
 use std::test::Fail;
-use tests_works::{NUMBERS, Number, Sum, Watch, shared_inputs_of};
+use tests_support::{NUMBERS, Number, Sum, Watch, shared_inputs_of};
 
 /// The inputs of the eight numbers, and what they share.
 #[derive(Drop)]

@@ -9,7 +9,7 @@ use std::process::Abort;
 use std::sync::Wait;
 use std::test::Fail;
 use std::thread::Threads;
-use tests_works::{Heard, Hold, NUMBERS, Warden, Watch};
+use tests_support::{Heard, Hold, NUMBERS, Warden, Watch};
 
 /// Workers and gatherers.
 const CREWS: [(u32, u32); 4] = [(1, 1), (2, 1), (4, 3), (64, 8)];

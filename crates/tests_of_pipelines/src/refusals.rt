@@ -11,7 +11,7 @@ use std::alloc::Global;
 use std::sync::{Arc, Wait};
 use std::test::Fail;
 use std::thread::Threads;
-use tests_works::{Watch, shared_inputs_of};
+use tests_support::{Watch, shared_inputs_of};
 
 /// The second total and the first.
 type Sums = (u128, u128);

@@ -8,7 +8,7 @@ use std::alloc::{Allocator, Global};
 use std::process::Abort;
 use std::sync::Arc;
 use std::test::Fail;
-use tests_works::{Sum, Watch};
+use tests_support::{Sum, Watch};
 
 /// All tasks, in the order in which their pieces are filed.
 const ORDER: [u32; 8] = [3, 0, 6, 1, 7, 4, 2, 5];

@@ -9,7 +9,7 @@ use std::sync::atomic::{AtomicBool, AtomicU64, Ordering};
 use std::sync::{Arc, Wait};
 use std::test::Fail;
 use std::thread::Threads;
-use tests_works::{Heard, Hold, NUMBERS, Warden, Watch, shared_inputs_of};
+use tests_support::{Heard, Hold, NUMBERS, Warden, Watch, shared_inputs_of};
 
 /// One worker and one gatherer.
 pub(crate) const ONE: Crew = Crew {

@@ -6,7 +6,7 @@ use linked_list_allocator::LocalHeap;
 use pipelines::{ChannelPort, FreeGate, Piece, Port, work};
 use std::alloc::Global;
 use std::test::Fail;
-use tests_works::{KeepingPort, NUMBERS, Sum, Watch, inputs_of};
+use tests_support::{KeepingPort, NUMBERS, Sum, Watch, inputs_of};
 
 /// Keeps pieces, but refuses the first one of a task.
 #[derive(Drop)]

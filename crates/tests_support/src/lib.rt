@@ -1,23 +1,41 @@
-//! What the tests of several crates share: sources, readers and writers that give or take few bytes
-//! a call and fail at some call, bytes in memory as a file that is read at places, and day files that are made of
-//! one form for each frame, which may be written as text.
+//! What the tests of several crates share.
+//!
+//! Of bytes: sources, readers and writers that give or take few bytes a call and fail at some call, bytes in memory as a
+//! file that is read at places, and day files that are made of one form for each frame, which may be written as text.
+//!
+//! Of pipelines: a work whose inputs are numbers and whose total is their sum. All inputs of a test, their values and
+//! what else the test makes share a `Watch`. It counts runs and growths, refuses the growths that a test names, and lets
+//! two runs wait for one another. Of the gates one holds runs until it hears what they wait for, one counts runs. And
+//! there is a port that keeps what it is sent.
 #![tactic(auto)]
 
+mod counter;
 mod days;
 mod forms;
+pub mod inputs;
+mod keeping;
 mod memory;
 mod notation;
 mod readers;
+pub mod sum;
 mod trickle;
+mod warden;
+pub mod watch;
 mod writers;
 
+pub use counter::Counter;
 pub use days::{
     BROKEN_EARLIER, MSFT, NAMED, NAMED_TEXT, SHORT_ADD, UNNAMED, UNNAMED_TEXT, WITH_A_SHORT_ADD,
     file_of,
 };
 pub use forms::{Day, Form, Placed};
+pub use inputs::{NUMBERS, inputs_of, shared_inputs_of};
+pub use keeping::KeepingPort;
 pub use memory::{Memory, in_memory};
 pub use notation::{append_day, append_text, fields_of, not_written_so, number, overwrite};
 pub use readers::{Broken, Interrupted};
+pub use sum::{Number, Sum, Value};
 pub use trickle::Trickle;
+pub use warden::{Heard, Hold, Warden};
+pub use watch::{Watch, hold, hold_for};
 pub use writers::InterruptedWriter;

@@ -1,6 +1,6 @@
 use Rattle.std.proofs.Common.{◌≡◌, ◌≤◌, ◌*◌, length, map, take, sum}
 use Rattle.std.specs.Arc.{arc_value}
-use Rattle.tests_works.proofs.inputs.inputs_of.Given as goal
+use Rattle.tests_support.proofs.inputs.inputs_of.Given as goal
 
 -- each number is below 2 ^ 64
 abbrev pub invariant-loop-number : goal.invariant-loop-number
