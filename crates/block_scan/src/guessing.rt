@@ -47,7 +47,7 @@ fn likely_offset(bytes: &[u8]) -> usize
     0
 }
 
-/// Whether bytes begin with `CHAIN` frames, each of which looks like one of a message.
+/// Whether bytes begin with `FRAMES_IN_A_ROW` frames, each of which looks like one of a message.
 fn is_likely(bytes: &[u8]) -> bool
     requires { length bytes.now ≤ LONGEST_FILE }
 {
