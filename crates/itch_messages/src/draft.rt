@@ -8,7 +8,7 @@ use std::marker::Model;
 /// The length of the longest body, in bytes: a trade's.
 const LONGEST_BODY: usize = 44;
 
-/// The bytes of a body so far, at most `LONGEST`.
+/// The bytes of a body so far, at most `LONGEST_BODY`.
 #[derive(Drop)]
 pub struct Draft {
     bytes: [u8; LONGEST_BODY],
