@@ -1,7 +1,6 @@
 //! The workers of a pipeline, each on a thread of its own.
-ghost use Rattle.std.specs.Prelude.{◌≡◌, ◌<◌, ◌≤◌, All, length};
+ghost use Rattle.std.specs.Prelude.{◌≡◌, ◌<◌, length};
 ghost use Rattle.std.specs.Arc.{arc_value};
-ghost use Rattle.base.specs.declared.limits.TheConstants.{MOST_WORKERS};
 ghost use Rattle.dispatcher.specs.Seats.{tasks_of, IsSeatOf, IsUnused};
 
 use crate::channel_port::ChannelPort;
@@ -9,65 +8,49 @@ use crate::gatherers::{Gatherer, channel_of};
 use crate::pipeline::Pipeline;
 use crossbeam_channel::Sender;
 use dispatcher::{Dispatcher, Seat};
-use gathering::{Piece, Work};
+use gathering::{Inputs, Piece, Work};
 use std::alloc::Global;
 use std::sync::{Arc, Wait};
 use std::thread::{Scope, Threads};
 use workers::{Gate, work};
 
-impl<'s, W: Work + 's, G: Gate, R: Threads + Wait + Sync> Pipeline<'s, W, G, R> {
-    /// Starts the workers of a pipeline, each with a seat of its own. One that can't be started is done without. The
-    /// caller's thread receives from the channel that is given, and each other gatherer has its own.
-    pub(crate) fn start_workers<E>(
+impl<'s, G: Gate, R: Threads + Wait + Sync> Pipeline<'s, G, R> {
+    /// Starts the crew's workers, each with a seat of its own. One that can't be started is done without. The caller's
+    /// thread receives from the channel that is given, and each other gatherer has its own.
+    pub(crate) fn start_workers<E, W: Work + 's>(
         &self,
         scope: &Scope<'s, E>,
-        workers: u32,
+        inputs: &Arc<Inputs<W>, Global>,
         own: &Sender<Piece<W>>,
         others: &Vec<Gatherer<W>>,
     ) -> Option<()>
-        requires some_task { 0 < length (arc_value self.now.inputs) }
-        requires workers { (0 < workers) × (workers ≤ MOST_WORKERS) }
+        requires some_task { 0 < length (arc_value inputs.now) }
     {
-        let tasks = self.inputs.count();
-        let (dispatcher, seats) = Dispatcher::new(self.alloc, tasks, workers).ok()?;
+        let (tasks, workers) = (inputs.count(), self.crew.workers);
+        let (dispatcher, mut seats) = Dispatcher::new(self.alloc, tasks, workers).ok()?;
         let dispatcher = Arc::new(self.alloc, dispatcher).ok()?;
-        self.start_each(scope, &dispatcher, seats, own, others);
+        while let Some(seat) = seats.pop() {
+            let to = channel_of(seats.len(), own, others);
+            self.start_worker(scope, inputs, &dispatcher, seat, to);
+        }
         Some(())
     }
 
-    /// Starts a worker for each seat.
-    fn start_each<E>(
-        &self,
-        scope: &Scope<'s, E>,
-        dispatcher: &Arc<Dispatcher, Global>,
-        mut seats: Vec<Seat>,
-        own: &Sender<Piece<W>>,
-        others: &Vec<Gatherer<W>>,
-    )
-        requires tasks { tasks_of (arc_value dispatcher.now) ≡ length (arc_value self.now.inputs) }
-        requires own { All (IsSeatOf (arc_value dispatcher.now)) seats.items }
-        requires unused { All IsUnused seats.items }
-    {
-        while let Some(seat) = seats.pop() {
-            let to = channel_of(seats.len(), own, others);
-            self.start_worker(scope, dispatcher, seat, to);
-        }
-    }
-
     /// Starts one worker, if it can be started.
-    fn start_worker<E>(
+    fn start_worker<E, W: Work + 's>(
         &self,
         scope: &Scope<'s, E>,
+        inputs: &Arc<Inputs<W>, Global>,
         dispatcher: &Arc<Dispatcher, Global>,
         mut seat: Seat,
         to: &Sender<Piece<W>>,
     ) -> Option<()>
-        requires tasks { tasks_of (arc_value dispatcher.now) ≡ length (arc_value self.now.inputs) }
+        requires tasks { tasks_of (arc_value dispatcher.now) ≡ length (arc_value inputs.now) }
         requires own { IsSeatOf (arc_value dispatcher.now) seat }
         requires unused { IsUnused seat }
     {
         let dispatcher = Arc::try_clone(dispatcher).ok()?;
-        let inputs = Arc::try_clone(&self.inputs).ok()?;
+        let inputs = Arc::try_clone(inputs).ok()?;
         let to = to.clone().ok()?;
         let (alloc, number, gate) = (self.alloc, self.number, self.gate);
         let mut port = ChannelPort::new(self.rt, to);

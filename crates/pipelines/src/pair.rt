@@ -5,7 +5,7 @@ ghost use Rattle.gathering.specs.Totals.{IsTotal};
 ghost use Rattle.pipelines.specs.Outcomes.{IsOutcome};
 
 use crate::outcome::Outcome;
-use crate::pipeline::run_pipeline;
+use crate::pipeline::Pipeline;
 use gathering::{Inputs, Link, Linked, OutOfMemory, Work};
 use outcomes::Crew;
 use std::alloc::Global;
@@ -32,7 +32,14 @@ pub fn run_pair<A: Work, B: Work, L: Link<A, B>, G: Gate, R: Threads + Wait + Sy
             ensures { IfOk result
                 (IsOutcome (A.IsTotalOf (arc_value inputs)) (L.Links link.entry.now) B.IsTotalOf) }
         {
-            let total = run_pipeline(scope, rt, alloc, inputs, crew, gate, 1)?;
+            let first = Pipeline {
+                rt,
+                alloc,
+                crew,
+                gate,
+                number: 1,
+            };
+            let total = first.total_in(scope, &inputs)?;
             run_second(rt, alloc, total, link, crew, gate)
         },
     )
@@ -49,8 +56,14 @@ pub fn run_first<W: Work, G: Gate, R: Threads + Wait + Sync>(
     ensures total { IfOk result (λ total. W.IsTotalOf (arc_value inputs.now) total) }
     ensures admissible { OnOk result (W.IsAdmissible (arc_value inputs.now)) }
 {
-    let inputs = Arc::try_clone(inputs)?;
-    run_on_threads(rt, alloc, inputs, crew, gate, 1)
+    let first = Pipeline {
+        rt,
+        alloc,
+        crew,
+        gate,
+        number: 1,
+    };
+    first.total(inputs)
 }
 
 /// Links a total, which some inputs of the first pipeline have, and runs the second pipeline alone, as
@@ -69,31 +82,15 @@ pub fn run_second<A: Work, B: Work, L: Link<A, B>, G: Gate, R: Threads + Wait + 
     match link.link(alloc, total)? {
         Linked::Halt { stop } => Ok(Outcome::Stopped { stop }),
         Linked::Next { inputs, kept } => {
-            let inputs = Arc::new(alloc, inputs)?;
-            let total = run_on_threads(rt, alloc, inputs, crew, gate, 2)?;
+            let second = Pipeline {
+                rt,
+                alloc,
+                crew,
+                gate,
+                number: 2,
+            };
+            let total = second.total(&inputs)?;
             Ok(Outcome::Finished { total, kept })
         }
     }
-}
-
-/// Runs the pipeline of this number alone, and waits at the end for all its workers.
-fn run_on_threads<W: Work, G: Gate, R: Threads + Wait + Sync>(
-    rt: &R,
-    alloc: Global,
-    inputs: Arc<Inputs<W>, Global>,
-    crew: Crew,
-    gate: &G,
-    number: u8,
-) -> Result<W::Total, OutOfMemory>
-    ensures total { IfOk result (λ total. W.IsTotalOf (arc_value inputs) total) }
-    ensures admissible { OnOk result (W.IsAdmissible (arc_value inputs)) }
-{
-    thread::scope(
-        thread::scope_env(),
-        rt,
-        move |scope| -> Result<W::Total, OutOfMemory>
-            ensures total { IfOk result (λ total. W.IsTotalOf (arc_value inputs) total) }
-            ensures admissible { OnOk result (W.IsAdmissible (arc_value inputs)) }
-        { run_pipeline(scope, rt, alloc, inputs, crew, gate, number) },
-    )
 }

@@ -9,7 +9,7 @@ use outcomes::Crew;
 use std::alloc::{AllocError, Global};
 use std::marker::Brand;
 use std::sync::{Arc, Wait};
-use std::thread::{Scope, Threads};
+use std::thread::{self, Scope, Threads};
 use workers::{Gate, run_missing};
 
 /// The total of all inputs of one pipeline. If there is a task, it starts the crew's workers on threads of their
@@ -32,71 +32,81 @@ pub fn run_pipeline<'s, E, W: Work + 's, G: Gate, R: Threads + Wait + Sync>(
     ensures total { IfOk result (λ total. W.IsTotalOf (arc_value inputs) total) }
     ensures admissible { OnOk result (W.IsAdmissible (arc_value inputs)) }
 {
-    run_known::<E, W, Brand, G, R>(scope, rt, alloc, &inputs, crew, gate, number)
-}
-
-/// Runs a pipeline over the inputs that K names. Its tasks know them by number, so that pieces are gathered without
-/// a look at what their inputs hold.
-fn run_known<'s, E, W: Work + 's, K: Known<W::Input> + 's, G: Gate, R: Threads + Wait + Sync>(
-    scope: &Scope<'s, E>,
-    rt: &'s R,
-    alloc: Global,
-    inputs: &Inputs<W>,
-    crew: Crew,
-    gate: &'s G,
-    number: u8,
-) -> Result<W::Total, OutOfMemory>
-    requires known { inputs.now ≡ K.inputs }
-    ensures total { IfOk result (λ total. W.IsTotalOf inputs.now total) }
-    ensures admissible { OnOk result (W.IsAdmissible inputs.now) }
-{
-    let inputs = numbered::<W, K>(alloc, inputs)?;
-    run_over(scope, rt, alloc, inputs, crew, gate, number)
-}
-
-/// Runs a pipeline over these inputs.
-fn run_over<'s, E, W: Work + 's, G: Gate, R: Threads + Wait + Sync>(
-    scope: &Scope<'s, E>,
-    rt: &'s R,
-    alloc: Global,
-    inputs: Arc<Inputs<W>, Global>,
-    crew: Crew,
-    gate: &'s G,
-    number: u8,
-) -> Result<W::Total, OutOfMemory>
-    ensures total { IfOk result (λ total. W.IsTotalOf (arc_value inputs) total) }
-    ensures admissible { OnOk result (W.IsAdmissible (arc_value inputs)) }
-{
-    let mut gathering = Gathering::new(alloc, Arc::try_clone(&inputs)?)?;
     let pipeline = Pipeline {
         rt,
         alloc,
-        inputs,
+        crew,
         gate,
         number,
     };
-    pipeline.gather(scope, crew, &mut gathering);
-    pipeline.complete(gathering)
+    pipeline.total_in(scope, &inputs)
 }
 
-/// A pipeline of this number, and what its threads share.
+/// A pipeline of this number, who works on it, and what all of its threads are given.
 #[derive(Drop)]
-pub(crate) struct Pipeline<'s, W: Work, G: Gate, R> {
+pub(crate) struct Pipeline<'s, G: Gate, R> {
     pub(crate) rt: &'s R,
     pub(crate) alloc: Global,
-    pub(crate) inputs: Arc<Inputs<W>, Global>,
+    pub(crate) crew: Crew,
     pub(crate) gate: &'s G,
     pub(crate) number: u8,
 }
 
-impl<'s, W: Work + 's, G: Gate, R: Threads + Wait + Sync> Pipeline<'s, W, G, R> {
-    /// Runs the tasks that are not covered, and gives the total of all inputs.
-    fn complete(&self, mut gathering: Gathering<W>) -> Result<W::Total, OutOfMemory>
-        requires own { gathering.inputs ≡ arc_value self.now.inputs }
-        ensures total { IfOk result (λ total. W.IsTotalOf (arc_value self.now.inputs) total) }
-        ensures admissible { OnOk result (W.IsAdmissible (arc_value self.now.inputs)) }
+impl<'s, G: Gate, R: Threads + Wait + Sync> Pipeline<'s, G, R> {
+    /// The total of all inputs. It waits at the end for all workers.
+    pub(crate) fn total<W: Work>(&self, inputs: &Inputs<W>) -> Result<W::Total, OutOfMemory>
+        ensures total { IfOk result (λ total. W.IsTotalOf inputs.now total) }
+        ensures admissible { OnOk result (W.IsAdmissible inputs.now) }
     {
-        let inputs = &self.inputs;
+        thread::scope(
+            thread::scope_env(),
+            self.rt,
+            move |scope| -> Result<W::Total, OutOfMemory>
+                ensures total { IfOk result (λ total. W.IsTotalOf inputs.entry.now total) }
+                ensures admissible { OnOk result (W.IsAdmissible inputs.entry.now) }
+            { self.total_in(scope, inputs) },
+        )
+    }
+
+    /// The total of all inputs, whose workers the scope waits for.
+    pub(crate) fn total_in<E, W: Work + 's>(
+        &self,
+        scope: &Scope<'s, E>,
+        inputs: &Inputs<W>,
+    ) -> Result<W::Total, OutOfMemory>
+        ensures total { IfOk result (λ total. W.IsTotalOf inputs.now total) }
+        ensures admissible { OnOk result (W.IsAdmissible inputs.now) }
+    {
+        self.total_of_known::<E, W, Brand>(scope, inputs)
+    }
+
+    /// The total of the inputs that K names. The tasks know them by number, so that pieces are gathered without a look
+    /// at what their inputs hold.
+    fn total_of_known<E, W: Work + 's, K: Known<W::Input> + 's>(
+        &self,
+        scope: &Scope<'s, E>,
+        inputs: &Inputs<W>,
+    ) -> Result<W::Total, OutOfMemory>
+        requires known { inputs.now ≡ K.inputs }
+        ensures total { IfOk result (λ total. W.IsTotalOf inputs.now total) }
+        ensures admissible { OnOk result (W.IsAdmissible inputs.now) }
+    {
+        let inputs = numbered::<W, K>(self.alloc, inputs)?;
+        let mut gathering = Gathering::new(self.alloc, Arc::try_clone(&inputs)?)?;
+        self.gather(scope, &inputs, &mut gathering);
+        self.complete(&inputs, gathering)
+    }
+
+    /// Runs the tasks that are not covered, and gives the total of all inputs.
+    fn complete<W: Work>(
+        &self,
+        inputs: &Arc<Inputs<W>, Global>,
+        mut gathering: Gathering<W>,
+    ) -> Result<W::Total, OutOfMemory>
+        requires own { gathering.inputs ≡ arc_value inputs.now }
+        ensures total { IfOk result (λ total. W.IsTotalOf (arc_value inputs.now) total) }
+        ensures admissible { OnOk result (W.IsAdmissible (arc_value inputs.now)) }
+    {
         run_missing(self.alloc, &mut gathering, inputs, self.number, self.gate)?;
         self.gate.done(self.number);
         match gathering.total() {
@@ -107,20 +117,25 @@ impl<'s, W: Work + 's, G: Gate, R: Threads + Wait + Sync> Pipeline<'s, W, G, R> 
     }
 
     /// Gathers what the crew's workers bring.
-    fn gather<E>(&self, scope: &Scope<'s, E>, crew: Crew, gathering: &mut Gathering<W>)
+    fn gather<E, W: Work + 's>(
+        &self,
+        scope: &Scope<'s, E>,
+        inputs: &Arc<Inputs<W>, Global>,
+        gathering: &mut Gathering<W>,
+    )
         ensures { gathering.new.inputs ≡ gathering.old.inputs }
     {
-        if self.inputs.count() == 0 {
+        if inputs.count() == 0 {
             return;
         }
         let Ok((to, from)) = crossbeam_channel::unbounded::<Piece<W>, Global>(self.alloc) else {
             return;
         };
-        let others = start_gatherers(scope, self.rt, self.alloc, &self.inputs, crew.gatherers);
-        self.start_workers(scope, crew.workers, &to, &others);
+        let others = start_gatherers(scope, self.rt, self.alloc, inputs, self.crew.gatherers);
+        self.start_workers(scope, inputs, &to, &others);
         drop(to);
         if others.is_empty() {
-            gather_until_covered(self.rt, gathering, &from, self.inputs.count());
+            gather_until_covered(self.rt, gathering, &from, inputs.count());
         } else {
             gather_all(self.rt, gathering, &from);
             merge_all(self.rt, gathering, others);

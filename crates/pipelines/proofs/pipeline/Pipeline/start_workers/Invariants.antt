@@ -1,7 +1,7 @@
 use Rattle.std.proofs.Common.{All, vec_len}
 use Rattle.std.specs.Arc.{arc_value}
 use Rattle.dispatcher.specs.Seats.{IsSeatOf, IsUnused}
-use Rattle.pipelines.proofs.pipeline.Pipeline.start_each.Given as goal
+use Rattle.pipelines.proofs.pipeline.Pipeline.start_workers.Given as goal
 
 abbrev pub invariant-loop-seat : goal.invariant-loop-seat
 invariant-loop-seat g l = record {
