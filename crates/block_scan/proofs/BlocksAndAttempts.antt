@@ -12,7 +12,7 @@ use Rattle.std.proofs.lemmas.List.Elements.{All-map}
 use Rattle.base.specs.Least.{numbers_below}
 use Rattle.block_scan.specs.Attempts.{AreAttemptsOf, AreBlocks, AreOf, AttemptView, BlockView, block_at, blocks_of, first_fault_of}
 use Rattle.block_scan.specs.Pieces.{Asked, IsAskable}
-use Rattle.streaming.specs.declared.fault.SourceFault.{SourceFault}
+use Rattle.day_file.specs.declared.source_fault.SourceFault.{SourceFault}
 use Rattle.block_scan.specs.declared.scanned_block.ScannedBlock.{ScannedBlock}
 use Rattle.block_scan.specs.declared.request.Request.{Request}
 

@@ -17,7 +17,7 @@ use Rattle.scanning.specs.Scans.{ScanInputView, ScanTotalView, inputs_of, scan_o
 use Rattle.scanning.proofs.TotalOfScans.{total_more}
 use Rattle.block_scan.specs.Blocks.{GaveWhole}
 use Rattle.block_scan.specs.Pieces.{Asked, IsChained, IsPiece, IsTried}
-use Rattle.streaming.specs.declared.fault.SourceFault.{SourceFault}
+use Rattle.day_file.specs.declared.source_fault.SourceFault.{SourceFault}
 use Rattle.block_scan.specs.declared.scanned_block.ScannedBlock.{ScannedBlock}
 use Rattle.block_scan.specs.declared.scanned_block.Tail.TheVariants.{Cut}
 use Rattle.block_scan.specs.declared.request.Request.{Request}

@@ -9,7 +9,7 @@ use Rattle.std.proofs.lemmas.Bool.Decides.{nat_tests}
 use Rattle.base.proofs.Exact.{IsExact, exact_equiv, exact_list, exact_nat, exact_option}
 use Rattle.base.specs.Least.{numbers_below}
 use Rattle.gathering.specs.Adding.{same_inputs}
-use Rattle.streaming.specs.declared.fault.SourceFault.{SourceFault}
+use Rattle.day_file.specs.declared.source_fault.SourceFault.{SourceFault}
 use Rattle.block_scan.specs.declared.scanned_block.ScannedBlock.{ScannedBlock}
 use Rattle.block_scan.specs.declared.scanned_block.Tail.TheVariants.{More}
 use Rattle.block_scan.specs.declared.request.Request.{Request}

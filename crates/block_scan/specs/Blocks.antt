@@ -13,8 +13,8 @@ use Rattle.std.proofs.lemmas.Bool.Decides.{Decides-int_eq}
 use Rattle.std.proofs.lemmas.List.{drop-drop, drop-take, length-append, take-take}
 use Rattle.base.proofs.Exact.{IsExact, exact_list, exact_nat, exact_option}
 use Rattle.block_scan.specs.declared.block_source.BlockSource.{Ghosts as BlockSourceOf}
-use Rattle.streaming.specs.Readings.{IsSourceFault, Reading}
-use Rattle.streaming.specs.declared.fault.SourceFault.{SourceFault}
+use Rattle.day_file.specs.Sources.{IsSourceFault, Reading}
+use Rattle.day_file.specs.declared.source_fault.SourceFault.{SourceFault}
 
 -- S is sources, and `device` the members of their `BlockSource`: `device.GaveAt` says which bytes a source gave to
 -- readings from a place on, `device.EndsAt` that a reading at a place found none there, and `device.FailsAt` that one

@@ -8,7 +8,7 @@ use Rattle.day_file.specs.Cuts.{IsRun}
 use Rattle.day_file.specs.Frames.{IsStuck, PlacedBody, StandsFrom}
 use Rattle.scanning.specs.Scans.{ScanTotalView, inputs_of, scan_of, total_of}
 use Rattle.block_scan.specs.Blocks.{IsBlocksFault}
-use Rattle.streaming.specs.declared.fault.SourceFault.{SourceFault}
+use Rattle.day_file.specs.declared.source_fault.SourceFault.{SourceFault}
 use Rattle.block_scan.specs.declared.scanned_block.ScannedBlock.{ScannedBlock}
 use Rattle.block_scan.specs.declared.scanned_block.Tail.TheVariants.{Whole, Cut}
 use Rattle.block_scan.specs.declared.request.Request.{Request}

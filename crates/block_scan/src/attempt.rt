@@ -1,17 +1,17 @@
 //! What comes of blocks.
 ghost use Rattle.std.specs.Prelude.{IsErrOf, List, map};
 ghost use Rattle.std.specs.Arc.{arc_value};
-ghost use Rattle.streaming.specs.declared.fault.SourceFault.{SourceFault};
+ghost use Rattle.day_file.specs.declared.source_fault.SourceFault.{SourceFault};
 ghost use Rattle.block_scan.specs.Attempts.{AttemptView};
 ghost use Rattle.block_scan.specs.Pieces.{IsAskable, IsTried};
 
 use crate::block_source::BlockSource;
 use crate::request::Request;
 use crate::scanned_block::ScannedBlock;
+use day_file::SourceFault;
 use std::alloc::Global;
 use std::marker::Model;
 use std::sync::Arc;
-use streaming::SourceFault;
 
 /// What came of a block: the piece that was found from its start on, or why there is none. That the source
 /// gave it is kept by the type, and that it isn't for want of memory: such a block is run again.

@@ -14,10 +14,9 @@ use crate::guessing::guess;
 use crate::request::Request;
 use crate::scanned_block::{ScannedBlock, Tail};
 use base::limits::LONGEST_FILE;
-use day_file::{Frames, LONGEST_FRAME};
+use day_file::{Frames, LONGEST_FRAME, SourceFault};
 use scanning::OpenScan;
 use std::alloc::Global;
-use streaming::SourceFault;
 
 /// The bytes of the buffer that a block is read through: just below glibc's mmap threshold of 128 KiB. A larger buffer
 /// would be mapped; freeing it raises the threshold, and lists of its size then fragment the heap.

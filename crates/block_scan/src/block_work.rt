@@ -8,11 +8,11 @@ use crate::attempt::{Attempt, Attempts};
 use crate::block::Block;
 use crate::block_reading::scan_block;
 use crate::block_source::BlockSource;
+use day_file::SourceFault;
 use gathering::Work;
 use std::alloc::{AllocError, Global};
 use std::marker::PhantomData;
 use std::sync::Arc;
-use streaming::SourceFault;
 
 /// Reads and scans blocks. Two readings of a block may find different bytes, so what comes of a block isn't a function
 /// of it. Blocks may be worked on together if they are of one source and of one request.

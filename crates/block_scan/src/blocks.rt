@@ -13,10 +13,10 @@ use crate::block_work::BlockWork;
 use crate::division::Division;
 use crate::request::Request;
 use base::limits::{LONGEST_FILE, MOST_PARTITIONS};
+use day_file::SourceFault;
 use gathering::Inputs;
 use std::alloc::Global;
 use std::sync::Arc;
-use streaming::SourceFault;
 
 /// The blocks of a source of at most `limit` bytes, in order, those of the division. In them
 /// is found what counts up to this moment, in seconds since midnight, in `parts` partitions.

@@ -2,7 +2,7 @@
 ghost use Rattle.std.specs.Prelude.{◌≡◌, ◌≤◌, ◌<◌, All, Any, Err, MatchOption, Some, map, true, vec_len, IfErr, IfOk, IsErr, IsOk};
 ghost use Rattle.std.specs.Arc.{arc_value};
 ghost use Rattle.block_scan.specs.Attempts.{AreAttemptsOf, first_fault_of};
-ghost use Rattle.streaming.specs.declared.fault.SourceFault.{SourceFault as TheFault};
+ghost use Rattle.day_file.specs.declared.source_fault.SourceFault.{SourceFault as TheFault};
 ghost use Rattle.block_scan.specs.Blocks.{IsBlocksFault};
 ghost use Rattle.day_file.specs.declared.frame.TheConstants.{LONGEST_FRAME};
 ghost use Rattle.block_scan.specs.Pieces.{Asked, ChainedView, IsAskable, IsChained, IsGoneOn, IsPiece, IsScannedWhole};
@@ -12,11 +12,11 @@ use crate::block_reading::{scan_piece, zeros};
 use crate::block_source::BlockSource;
 use crate::request::Request;
 use crate::scanned_block::{ScannedBlock, Tail};
+use day_file::SourceFault;
 use scanning::ScanTotal;
 use std::alloc::Global;
 use std::marker::Model;
 use std::sync::Arc;
-use streaming::SourceFault;
 
 impl<S: BlockSource> Attempts<S> {
     /// What the whole source gives: its pieces put together, the first fault of a reading, or the place where all that

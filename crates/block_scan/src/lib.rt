@@ -21,7 +21,6 @@ pub use block::Block;
 pub use block_source::BlockSource;
 pub use block_work::BlockWork;
 pub use blocks::block_inputs;
-pub use day_file::DeviceFailed;
+pub use day_file::{DeviceFailed, SourceFault};
 pub use division::Division;
 pub use file_blocks::{FileBlocks, ReadsAt, known_bytes_are_read};
-pub use streaming::SourceFault;

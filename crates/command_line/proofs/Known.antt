@@ -3,7 +3,7 @@ use Rattle.std.proofs.Common.{◌≡◌, ℕ, ◌<◌, ◌≤◌, ◌++◌, inl,
 use Rattle.std.proofs.lemmas.List.{length-append}
 use Rattle.std.specs.Io.KnownBytes.{Consumes, IsAtEnd}
 use Rattle.outcomes.specs.declared.day_fault.DayFault.{DayFault}
-use Rattle.streaming.specs.Readings.{Reading}
+use Rattle.day_file.specs.Sources.{Reading}
 use Rattle.runs.specs.Runs.{Answers, Ran}
 use Rattle.outcomes.specs.declared.run_fault.RunFault.{RunFault}
 use Rattle.outcomes.specs.declared.run_fault.RunFault.TheVariants as fault

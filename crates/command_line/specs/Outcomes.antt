@@ -6,7 +6,8 @@ use Rattle.sources.specs.Given.{is_failed, reader_of}
 use Rattle.sources.specs.declared.counted.Counted.{Counted}
 use Rattle.block_scan.specs.Blocks.{FileView, of_blocks}
 use Rattle.block_scan.specs.declared.block_source.BlockSource.{Ghosts as BlockSourceOf}
-use Rattle.streaming.specs.Readings.{Reading, of_stream}
+use Rattle.day_file.specs.Sources.{Reading}
+use Rattle.streaming.specs.Readings.{of_stream}
 use Rattle.streaming.specs.declared.Source.{Ghosts as SourceOf}
 use Rattle.runs.specs.Runs.{Ran, is_write_failed}
 use Rattle.outcomes.specs.declared.run_fault.RunFault.{RunFault}

@@ -13,6 +13,7 @@ mod morsel;
 mod morsels;
 mod rest;
 mod runs;
+mod source_fault;
 mod truncated;
 
 pub use base::OutOfMemory;
@@ -24,6 +25,7 @@ pub use frame::{Frame, Frames, LENGTH_BYTES, LONGEST_FRAME, append_frame};
 pub use frame_laws::{one_cut, one_cut_at, one_reading};
 pub use morsel::Morsel;
 pub use morsels::Cut;
+pub use source_fault::SourceFault;
 pub use sources::{Counted, DayFile, DeviceFailed, ReadFault, Source, read_day};
 pub use truncated::{Truncated, check};
 

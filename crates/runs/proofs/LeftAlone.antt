@@ -2,7 +2,7 @@
 use Rattle.std.proofs.Common.{◌≡◌, ℕ, List, Err, false, sym}
 use Rattle.std.proofs.lemmas.Bool.{false≢true}
 use Rattle.sinks.specs.declared.sink.Sink.{Ghosts as SinkOf}
-use Rattle.streaming.specs.Readings.{Reading}
+use Rattle.day_file.specs.Sources.{Reading}
 use Rattle.outcomes.specs.declared.run_fault.RunFault.{RunFault}
 use Rattle.outcomes.specs.declared.run_fault.RunFault.TheVariants as fault
 use Rattle.runs.specs.Runs.{Ran, is_write_failed}

@@ -5,7 +5,7 @@ use Rattle.answers.proofs.OneAnswer.{answers_are_one}
 use Rattle.outcomes.specs.declared.day_fault.DayFault.{DayFault}
 use Rattle.query.specs.Words.{words_of}
 use Rattle.query.proofs.MeaningOrFault.{one_meaning}
-use Rattle.streaming.specs.Readings.{Reading}
+use Rattle.day_file.specs.Sources.{Reading}
 use Rattle.runs.specs.Runs.{Answers}
 
 pub answers_of_one_day : (reading : Reading) → ((day more : List ℕ) → reading.all day → reading.all more → day ≡ more)

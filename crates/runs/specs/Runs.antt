@@ -8,7 +8,7 @@ use Rattle.query.specs.Grammar.{Means}
 use Rattle.meaning.specs.Meaning.{Meaning}
 use Rattle.query.specs.Words.{lists_symbols, words_of}
 use Rattle.sinks.specs.declared.sink.Sink.{Ghosts as SinkOf}
-use Rattle.streaming.specs.Readings.{Reading}
+use Rattle.day_file.specs.Sources.{Reading}
 use Rattle.outcomes.specs.declared.run_fault.RunFault.{RunFault}
 use Rattle.outcomes.specs.declared.run_fault.RunFault.TheVariants as fault
 

@@ -11,10 +11,11 @@ use Rattle.pipelines.specs.declared.outcome.Outcome.{Outcome}
 use Rattle.pipelines.specs.declared.outcome.Outcome.TheVariants.{Finished, Stopped}
 use Rattle.sources.specs.declared.source.Source.{Ghosts as SourceOf}
 use Rattle.streaming.specs.Batches.{IsNextBatch, IsReadTo, ReaderView}
-use Rattle.streaming.specs.Readings.{IsSourceFault, Reading, of_stream}
+use Rattle.day_file.specs.Sources.{IsSourceFault, Reading}
+use Rattle.streaming.specs.Readings.{of_stream}
 use Rattle.streaming.specs.declared.batch.Batch.{Batch}
-use Rattle.streaming.specs.declared.fault.SourceFault.{SourceFault}
-use Rattle.streaming.specs.declared.fault.SourceFault.TheVariants as source
+use Rattle.day_file.specs.declared.source_fault.SourceFault.{SourceFault}
+use Rattle.day_file.specs.declared.source_fault.SourceFault.TheVariants as source
 use Rattle.row_types.specs.declared.directory.DirectoryRow.{DirectoryRow}
 use Rattle.meaning.specs.Meaning.{Meaning}
 use Rattle.query.specs.Faults.{first_query_fault}

@@ -12,9 +12,10 @@ use Rattle.sources.specs.declared.source.Source.{Ghosts as SourceOf}
 use Rattle.day_file.proofs.Fed.{fed_length_is, truncated_after_full}
 use Rattle.day_file.proofs.CutsBy.{cut_after}
 use Rattle.streaming.specs.Batches.{HasRead, IsLastFault, IsReadTo, IsReading, ReaderView, read_length}
-use Rattle.streaming.specs.Readings.{IsSourceFault, of_stream}
-use Rattle.streaming.specs.declared.fault.SourceFault.{SourceFault}
-use Rattle.streaming.specs.declared.fault.SourceFault.TheVariants as fault
+use Rattle.day_file.specs.Sources.{IsSourceFault}
+use Rattle.streaming.specs.Readings.{of_stream}
+use Rattle.day_file.specs.declared.source_fault.SourceFault.{SourceFault}
+use Rattle.day_file.specs.declared.source_fault.SourceFault.TheVariants as fault
 
 -- the cutter of a reader was fed more
 pub reading_on : {limit target start first : ℕ} {old new : CutterView} {fed : List ℕ} → IsReading limit target start first old → HasFed new fed

@@ -9,8 +9,8 @@ use Rattle.day_file.specs.Frames.{IsTruncatedAt}
 use Rattle.sources.specs.Given.{GaveAll}
 use Rattle.sources.specs.declared.source.Source.{Ghosts as SourceOf}
 use Rattle.streaming.specs.declared.batch.Batch.{Batch}
-use Rattle.streaming.specs.declared.fault.SourceFault.{SourceFault}
-use Rattle.streaming.specs.declared.fault.SourceFault.TheVariants as fault
+use Rattle.day_file.specs.declared.source_fault.SourceFault.{SourceFault}
+use Rattle.day_file.specs.declared.source_fault.SourceFault.TheVariants as fault
 
 -- what contracts see of a `BatchReader`: the most bytes that it reads, its target, how many bytes and how many morsels
 -- its batches had so far, and its cutter, which was fed the bytes after those

@@ -7,11 +7,11 @@ ghost use Rattle.day_file.specs.Cuts.{IsCutBy};
 ghost use Rattle.day_file.specs.Feeding.{HasFed, fed_length};
 ghost use Rattle.streaming.specs.Batches.{HasRead, IsLastFault, IsNextBatch, IsReadTo, IsReading};
 ghost use Rattle.streaming.specs.Batches.{ReaderView, read_length};
-ghost use Rattle.streaming.specs.Readings.{IsSourceFault, of_stream};
+ghost use Rattle.day_file.specs.Sources.{IsSourceFault};
+ghost use Rattle.streaming.specs.Readings.{of_stream};
 
 use crate::batch::Batch;
-use crate::fault::SourceFault;
-use day_file::{CutFault, Cutter, LONGEST_FILE, MOST_MORSELS, OutOfMemory, Source};
+use day_file::{CutFault, Cutter, LONGEST_FILE, MOST_MORSELS, OutOfMemory, Source, SourceFault};
 use std::alloc::Global;
 use std::marker::Model;
 use std::mem;

@@ -3,9 +3,7 @@
 
 mod batch;
 mod batches;
-mod fault;
 
 pub use batch::Batch;
 pub use batches::BatchReader;
-pub use day_file::{Cut, LONGEST_FILE, MOST_MORSELS, Morsel, OutOfMemory, Source};
-pub use fault::SourceFault;
+pub use day_file::{Cut, LONGEST_FILE, MOST_MORSELS, Morsel, OutOfMemory, Source, SourceFault};

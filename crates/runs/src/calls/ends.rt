@@ -7,11 +7,11 @@ ghost use Rattle.runs.specs.Runs.{IsHandedOver, is_read_failed, is_write_failed}
 ghost use Rattle.runs.specs.Steps.{IsQueryRefusal, reported};
 
 use answers::{Answer, DayFault};
+use day_file::SourceFault;
 use outcomes::RunFault;
 use query::{Query, QueryFault, parse};
 use sinks::{Sink, WriteFailed, deliver_pieces};
 use std::alloc::Global;
-use streaming::SourceFault;
 
 /// The query that a text means.
 pub(crate) fn query_of(alloc: Global, text: &str) -> Result<Query, RunFault>

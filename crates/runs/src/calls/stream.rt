@@ -1,7 +1,8 @@
 //! A source that is read batch by batch, while threads scan the batch before.
 ghost use Rattle.std.specs.Prelude.{◌≡◌, ◌<◌, ◌≤◌, ◌↔◌, false, true, IfErr, IfOk, IsErrOf, Ok, OnOk};
 ghost use Rattle.base.specs.declared.limits.TheConstants.{MOST_PARTITIONS};
-ghost use Rattle.streaming.specs.Readings.{IsSourceFault, of_stream};
+ghost use Rattle.day_file.specs.Sources.{IsSourceFault};
+ghost use Rattle.streaming.specs.Readings.{of_stream};
 ghost use Rattle.scanning.specs.Scans.{ScanTotalView, with_scans};
 ghost use Rattle.runs.specs.Steps.{IsBatchRead, IsReadWhole, IsScanOfBatch};
 

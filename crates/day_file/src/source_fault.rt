@@ -1,8 +1,9 @@
 //! Why a source gives no day.
 ghost use Rattle.std.specs.Prelude.{◌≡◌};
-ghost use Rattle.streaming.specs.declared.fault.SourceFault.{SourceFault};
+ghost use Rattle.day_file.specs.declared.source_fault.SourceFault.{SourceFault};
 
-use day_file::{DeviceFailed, OutOfMemory};
+use crate::OutOfMemory;
+use sources::DeviceFailed;
 
 /// Why a source gives no day, whether it is read in order or at places.
 #[derive(Clone, Copy, Debug, PartialEq, Eq)]
