@@ -1,6 +1,5 @@
 //! A source that is read batch by batch, while threads scan the batch before.
-ghost use Rattle.std.specs.Prelude.{◌≡◌, ◌<◌, ◌≤◌, ◌↔◌, false, true, IfErr, IfOk, IsErrOf, Ok, OnOk};
-ghost use Rattle.base.specs.declared.limits.TheConstants.{MOST_PARTITIONS};
+ghost use Rattle.std.specs.Prelude.{◌≡◌, ◌<◌, ◌↔◌, false, true, IfErr, IfOk, IsErrOf, Ok, OnOk};
 ghost use Rattle.day_file.specs.Sources.{IsSourceFault};
 ghost use Rattle.streaming.specs.Readings.{of_stream};
 ghost use Rattle.scanning.specs.Scans.{ScanTotalView, with_scans};
@@ -53,18 +52,16 @@ pub(crate) fn scan_source<R: Threads + Wait + Sync, S: Source>(
 {
     let mut reader = BatchReader::new(alloc, settings.limit, settings.morsel, BATCH_BYTES)?;
     let mut batch = reader.next_batch(source)?;
-    let crew = settings.crew;
-    if batch.is_last && Division::of(batch.cut.length(), crew.workers).blocks == 1 {
+    if batch.is_last && Division::of(batch.cut.length(), settings.crew.workers).blocks == 1 {
         return Ok(WholeSource::Short(batch.cut));
     }
     let mut total = ScanTotal::empty(alloc);
-    let parts = settings.parts;
     while !batch.is_last {
-        let (scans, next) = scan_ahead(rt, alloc, &batch, as_of, parts, crew, &mut reader, source);
+        let (scans, next) = scan_ahead(rt, alloc, &batch, as_of, settings, &mut reader, source);
         batch = next?;
         take_in(&mut total, scans)?;
     }
-    take_in(&mut total, scan(rt, alloc, &batch, as_of, parts, crew))?;
+    take_in(&mut total, scan(rt, alloc, &batch, as_of, settings))?;
     Ok(WholeSource::Long(total))
 }
 
@@ -81,20 +78,17 @@ fn scan_ahead<R: Threads + Wait + Sync, S: Source>(
     alloc: Global,
     batch: &Batch,
     as_of: Option<u32>,
-    parts: u32,
-    crew: Crew,
+    settings: Settings,
     reader: &mut BatchReader,
     source: &mut S,
 ) -> (Result<ScanTotal, OutOfMemory>, Result<Batch, SourceFault>)
     requires source { S.has_failed source.old ≡ false }
-    requires parts { (0 < parts) × (parts ≤ MOST_PARTITIONS) }
-    ensures scans { IfOk result.0 (IsScanOfBatch batch.now as_of parts) }
+    ensures scans { IfOk result.0 (IsScanOfBatch batch.now as_of settings.parts) }
     ensures next { IsBatchRead S.Source source.old source.new reader.old reader.new result.1 }
 {
     let mut scan = || -> Result<ScanTotal, OutOfMemory>
-        requires { (0 < parts) × (parts ≤ MOST_PARTITIONS) }
-        ensures { IfOk result (IsScanOfBatch batch.entry.now as_of parts) }
-    { scan(rt, alloc, batch, as_of, parts, crew) };
+        ensures { IfOk result (IsScanOfBatch batch.entry.now as_of settings.parts) }
+    { scan(rt, alloc, batch, as_of, settings) };
     let mut read = || -> Result<Batch, SourceFault>
         requires { S.has_failed source.now ≡ false }
         ensures { IsBatchRead S.Source source.entry.now source.exit.now
@@ -109,13 +103,11 @@ fn scan<R: Threads + Wait + Sync>(
     alloc: Global,
     batch: &Batch,
     as_of: Option<u32>,
-    parts: u32,
-    crew: Crew,
+    settings: Settings,
 ) -> Result<ScanTotal, OutOfMemory>
-    requires { (0 < parts) × (parts ≤ MOST_PARTITIONS) }
-    ensures { IfOk result (IsScanOfBatch batch.now as_of parts) }
+    ensures { IfOk result (IsScanOfBatch batch.now as_of settings.parts) }
 {
-    let together = together_of(batch.cut.count(), crew);
+    let together = together_of(batch.cut.count(), settings.crew);
     let inputs = batch_inputs(
         alloc,
         &batch.cut,
@@ -123,10 +115,10 @@ fn scan<R: Threads + Wait + Sync>(
         batch.first,
         batch.start,
         as_of,
-        parts,
+        settings.parts,
     )?;
     let inputs = Arc::new(alloc, inputs)?;
-    run_first(rt, alloc, &inputs, crew, &FreeGate)
+    run_first(rt, alloc, &inputs, settings.crew, &FreeGate)
 }
 
 /// How many neighbouring morsels of a batch are scanned as one task. The more they are, the longer their lists of rows,

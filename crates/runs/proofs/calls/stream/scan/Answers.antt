@@ -10,5 +10,5 @@ returns g c =
     let batch = c.args.batch.now in
     let inputs = c.in_ok-inputs.ensures in
     let shared = c.in_ok-inputs-2.ensures.ok in
-    IfOk-weaker c.run_first.result (λ total. total ≡ total_of _) (IsScanOfBatch batch c.args.as_of c.args.parts)
+    IfOk-weaker c.run_first.result (λ total. total ≡ total_of _) (IsScanOfBatch batch c.args.as_of c.args.settings.parts)
     (λ total is. scanned_batch batch inputs.runs inputs.inputs (is ∙ ap total_of shared)) c.run_first.ensures.total

@@ -6,7 +6,7 @@ use Rattle.runs.proofs.calls.stream.scan_source.Given as goal
 -- the batches before this one are scanned
 abbrev pub invariant-loop-batch : goal.invariant-loop-batch
 invariant-loop-batch g l = record {
-  to : IsScannedTo g.S.Source l.fn.settings.limit l.fn.settings.morsel l.as_of l.parts l.fn.source l.source
+  to : IsScannedTo g.S.Source l.fn.settings.limit l.fn.settings.morsel l.as_of l.fn.settings.parts l.fn.source l.source
       l.reader l.total l.batch;
   fine : g.S.Source.has_failed l.source ≡ false;
 }
