@@ -181,9 +181,8 @@ class Trusted(unittest.TestCase):
     def test_threads_share_what_the_kit_gives_alone(self):
         own = re.compile(r"\b(Atomic\w*|atomic|\w*Cell|cell|Mutex\w*|RwLock\w*|Condvar|Barrier|Once|OnceLock|LazyLock|Perch|static|unsafe)\b|\bOrdering::")
         for path in (path for crate in PRODUCT for path in sources(crate)):
-            flag = {"atomic", "AtomicBool", "Ordering::"} if path.name == "file_blocks.rt" else set()
-            self.assertEqual(flag, {it[0] for it in own.finditer(re.sub(r"'static\b", "", code_of(path.read_text())))}, path)
-        for name, user in (("atomic_table", "dispatcher"), ("crossbeam_channel", "pipelines")):
+            self.assertEqual([], [it[0] for it in own.finditer(re.sub(r"'static\b", "", code_of(path.read_text())))], path)
+        for name, user in (("atomic_table", "dispatcher"), ("crossbeam_channel", "pipelines"), ("logbook", "block_scan")):
             self.assertEqual([user], [crate for crate in PRODUCT if name in crates()[crate]], name)
 
 

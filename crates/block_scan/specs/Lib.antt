@@ -1,3 +1,4 @@
 pub mod Attempts
 pub mod Blocks
+pub mod Noting
 pub mod Pieces

@@ -27,10 +27,6 @@ pub trait BlockSource: Eq + Drop {
         ensures end { IfOk result (λ n. n ≡ 0 → EndsAt self.now place) }
         ensures failed { IfErr result (λ _. FailsAt self.now place) };
 
-    /// Whether a reading has failed, on any thread. Only that one has is promised, not that it is known of each.
-    fn has_failed(&self) -> bool
-        ensures failed { result ≡ true → (place : ℕ) × FailsAt self.now place };
-
     // Nothing is read everywhere; what is read one after the other was read, and so were its parts.
     ghost gave_nothing: { (s : Self) (place : ℕ) → GaveAt s place [] };
 

@@ -1,5 +1,5 @@
 //! Open files as devices that are read at places.
-ghost use Rattle.std.specs.Prelude.{◌≡◌, ◌<◌, ◌≤◌, ℕ, ℤ, List, Option, None, Some, IfErr, IfOk, length, take, true};
+ghost use Rattle.std.specs.Prelude.{◌≡◌, ◌<◌, ◌≤◌, ℕ, ℤ, List, Option, None, Some, IfErr, IfOk, length, take};
 ghost use Rattle.std.specs.Cmp.{partial_equiv_from_equiv};
 ghost use Rattle.std.specs.Fd.{file_raw_fd};
 ghost use Rattle.base.proofs.Exact.{exact_equiv};
@@ -12,7 +12,6 @@ use std::fs::File;
 use std::marker::Model;
 use std::os::fd::AsRawFd;
 use std::os::unix::fs::FileExt;
-use std::sync::atomic::{AtomicBool, Ordering};
 
 /// What is read at offsets by all threads at once, as an open file is.
 pub trait ReadsAt: Drop {
@@ -30,10 +29,6 @@ pub trait ReadsAt: Drop {
         ensures known { IfOk result (λ n. KnownAt (contents self.now) place (take n into.new)) }
         ensures end { IfOk result (λ n. n ≡ 0 → KnownEnd (contents self.now) place) }
         ensures failed { IfErr result (λ _. contents self.now ≡ None) };
-
-    /// Whether a reading may fail: none does of bytes that are known.
-    fn may_fail(&self) -> bool
-        ensures { result ≡ true → contents self.now ≡ None };
 
     /// Whether both are one file, as far as contracts see: what is known of their bytes, and their descriptors.
     fn is_same(&self, other: &Self) -> bool
@@ -54,21 +49,16 @@ impl ReadsAt for File {
         }
     }
 
-    fn may_fail(&self) -> bool {
-        true
-    }
-
     fn is_same(&self, other: &Self) -> bool {
         self.as_raw_fd() == other.as_raw_fd()
     }
 }
 
-/// An open file, which all threads read at offsets of their own, and which notes that one of them failed. Contracts see
-/// its descriptor, and what it holds, if that is known.
+/// An open file, which all threads read at offsets of their own. Contracts see its descriptor, and what it
+/// holds, if that is known.
 #[derive(Drop)]
 pub struct FileBlocks<F: ReadsAt> {
     file: F,
-    has_failed: AtomicBool,
 }
 
 impl<F: ReadsAt> Model for FileBlocks<F> {
@@ -85,10 +75,7 @@ impl<F: ReadsAt> FileBlocks<F> {
     pub fn of(file: F) -> Self
         ensures { result ≡ record { contents = F.contents file; descriptor = F.descriptor file } }
     {
-        FileBlocks {
-            file,
-            has_failed: AtomicBool::new(false),
-        }
+        FileBlocks { file }
     }
 }
 
@@ -125,15 +112,7 @@ impl<F: ReadsAt> BlockSource for FileBlocks<F> {
     ghost one_source = { exact_file.one };
 
     fn read_at(&self, place: u64, into: &mut [u8]) -> Result<usize, DeviceFailed> {
-        let read = self.file.get(place, into);
-        if read.is_err() {
-            self.has_failed.store(true, Ordering::SeqCst);
-        }
-        read
-    }
-
-    fn has_failed(&self) -> bool {
-        self.has_failed.load(Ordering::SeqCst) && self.file.may_fail()
+        self.file.get(place, into)
     }
 }
 

@@ -14,6 +14,8 @@ mod file_blocks;
 mod guessing;
 mod request;
 mod scanned_block;
+mod watch;
+mod watched;
 
 pub use attempt::{Attempt, Attempts};
 pub use base::OutOfMemory;
@@ -24,3 +26,5 @@ pub use blocks::block_inputs;
 pub use day_file::{DeviceFailed, SourceFault};
 pub use division::Division;
 pub use file_blocks::{FileBlocks, ReadsAt, known_bytes_are_read};
+pub use watch::{Knowledge, NewWatch, Watch, WatchName};
+pub use watched::Watched;

@@ -57,10 +57,6 @@ impl<'a> ReadsAt for Frail<'a> {
         Ok(copied(self.bytes, place, &mut into[..most]))
     }
 
-    fn may_fail(&self) -> bool {
-        true
-    }
-
     fn is_same(&self, _other: &Self) -> bool {
         true
     }
@@ -179,10 +175,6 @@ impl<'a> ReadsAt for &Meeting<'a> {
         Ok(count)
     }
 
-    fn may_fail(&self) -> bool {
-        false
-    }
-
     fn is_same(&self, _other: &Self) -> bool {
         true
     }
@@ -249,10 +241,6 @@ impl<'a> ReadsAt for Failing<'a> {
             return Err(DeviceFailed);
         }
         Ok(copied(self.bytes, place, into))
-    }
-
-    fn may_fail(&self) -> bool {
-        true
     }
 
     fn is_same(&self, _other: &Self) -> bool {
@@ -325,10 +313,6 @@ impl<'a> ReadsAt for &FailsLate<'a> {
             return Err(DeviceFailed);
         }
         Ok(copied(self.bytes, place, into))
-    }
-
-    fn may_fail(&self) -> bool {
-        true
     }
 
     fn is_same(&self, _other: &Self) -> bool {

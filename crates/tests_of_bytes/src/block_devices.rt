@@ -26,10 +26,6 @@ impl<'a> ReadsAt for Disk<'a> {
         Ok(count)
     }
 
-    fn may_fail(&self) -> bool {
-        true
-    }
-
     fn is_same(&self, _other: &Self) -> bool {
         true
     }

@@ -29,10 +29,6 @@ impl<'a> ReadsAt for Memory<'a> {
         Ok(count)
     }
 
-    fn may_fail(&self) -> bool {
-        false
-    }
-
     fn is_same(&self, other: &Self) -> bool {
         self.bytes == other.bytes
     }

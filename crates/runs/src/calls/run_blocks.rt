@@ -1,5 +1,5 @@
 //! `run_blocks` and `answer_blocks`: a query over a source that is read at places.
-ghost use Rattle.std.specs.Prelude.{◌≡◌, ℕ, List, false, IfErr, IfOk};
+ghost use Rattle.std.specs.Prelude.{◌≡◌, ℕ, List, false, IfErr, IfOk, OnOk};
 ghost use Rattle.std.specs.Arc.{arc_value};
 ghost use Rattle.std.specs.List.{concat};
 ghost use Rattle.block_scan.specs.Blocks.{GaveWhole, IsBlocksFault, of_blocks};
@@ -11,7 +11,10 @@ use crate::calls::answer::answer_of_outcome;
 use crate::calls::block_link::{BlockLink, found_or_fault};
 use crate::calls::ends::{answer_of_fault, hand_over, query_of};
 use answers::Answer;
-use block_scan::{BlockSource, Division, SourceFault, block_inputs};
+use block_scan::{
+    BlockSource, Division, Knowledge, NewWatch, SourceFault, Watch, WatchName, Watched,
+    block_inputs,
+};
 use buckets::BucketTotal;
 use order_table::greatest_prime;
 use outcomes::{RunFault, Settings};
@@ -21,6 +24,7 @@ use query::Query;
 use scanning::WrongLength;
 use sinks::Sink;
 use std::alloc::Global;
+use std::marker::Brand;
 use std::sync::{Arc, Wait};
 use std::thread::Threads;
 
@@ -74,7 +78,14 @@ pub fn answer_blocks<G: Gate, R: Threads + Wait + Sync, S: BlockSource + Send + 
     ensures { IsAnsweredOrRefused (of_blocks S.BlockSource.own settings.limit (arc_value source.now))
         query.now settings.limit result }
 {
-    let outcome = match outcome_of_blocks(rt, alloc, source, division, query, settings, gate) {
+    let Ok(source) = Arc::try_clone(source) else {
+        return Err(RunFault::OutOfMemory);
+    };
+    let watch = NewWatch::over(source);
+    let outcome = outcome_of_named::<Brand, G, R, S>(
+        rt, alloc, watch, division, query, settings, gate,
+    );
+    let outcome = match outcome {
         Ok(outcome) => outcome,
         Err(fault) => return answer_of_fault(fault, settings.limit),
     };
@@ -82,32 +93,89 @@ pub fn answer_blocks<G: Gate, R: Threads + Wait + Sync, S: BlockSource + Send + 
     Ok(answer)
 }
 
-/// What both pipelines give over the blocks of a source, or why it gives no rows.
-fn outcome_of_blocks<G: Gate, R: Threads + Wait + Sync, S: BlockSource + Send + Sync>(
+/// What both pipelines give over the blocks of a source that is watched, or why it gives no rows.
+fn outcome_of_named<
+    J: WatchName + Send + Sync,
+    G: Gate,
+    R: Threads + Wait + Sync,
+    S: BlockSource + Send + Sync,
+>(
     rt: &R,
     alloc: Global,
-    source: &Arc<S, Global>,
+    watch: NewWatch<S>,
+    division: Division,
+    query: &Query,
+    settings: Settings,
+    gate: &G,
+) -> Result<Outcome<BucketTotal, DayPlan, WrongLength>, SourceFault>
+    requires name { watch.book ≡ J.book }
+    ensures outcome { IfOk result (λ outcome. (runs : List (List ℕ))
+        × GaveWhole S.BlockSource.own settings.limit watch.source (concat runs)
+        × IsOutcomeOf query.now outcome runs) }
+    ensures fault { IfErr result (IsBlocksFault S.BlockSource.own watch.source settings.limit) }
+{
+    let watch = watch.named::<J>();
+    let known = watch.nothing_known();
+    outcome_of_watched(rt, alloc, watch, &known, division, query, settings, gate)
+}
+
+/// The same. The source is read under the watch alone, which is asked when all readings have ended: it is
+/// taken, and they borrow it. Whoever knows of one that failed gets no outcome.
+fn outcome_of_watched<
+    J: WatchName + Send + Sync,
+    G: Gate,
+    R: Threads + Wait + Sync,
+    S: BlockSource + Send + Sync,
+>(
+    rt: &R,
+    alloc: Global,
+    watch: Watch<S, J>,
+    known: &Knowledge<S, J>,
     division: Division,
     query: &Query,
     settings: Settings,
     gate: &G,
 ) -> Result<Outcome<BucketTotal, DayPlan, WrongLength>, SourceFault>
     ensures outcome { IfOk result (λ outcome. (runs : List (List ℕ))
-        × GaveWhole S.BlockSource.own settings.limit (arc_value source.now) (concat runs)
+        × GaveWhole S.BlockSource.own settings.limit watch (concat runs)
         × IsOutcomeOf query.now outcome runs) }
-    ensures fault { IfErr result (IsBlocksFault S.BlockSource.own (arc_value source.now) settings.limit) }
+    ensures fault { IfErr result (IsBlocksFault S.BlockSource.own watch settings.limit) }
+    ensures told { OnOk result (known.now ≡ false) }
+{
+    let source = Watched::under(&watch);
+    let outcome = outcome_of_blocks(rt, alloc, source, division, query, settings, gate);
+    if watch.has_failed(known) {
+        return Err(SourceFault::ReadFailed);
+    }
+    outcome
+}
+
+/// What both pipelines give over the blocks of a source, or why it gives no rows.
+fn outcome_of_blocks<G: Gate, R: Threads + Wait + Sync, S: BlockSource + Send + Sync>(
+    rt: &R,
+    alloc: Global,
+    source: S,
+    division: Division,
+    query: &Query,
+    settings: Settings,
+    gate: &G,
+) -> Result<Outcome<BucketTotal, DayPlan, WrongLength>, SourceFault>
+    ensures outcome { IfOk result (λ outcome. (runs : List (List ℕ))
+        × GaveWhole S.BlockSource.own settings.limit source (concat runs)
+        × IsOutcomeOf query.now outcome runs) }
+    ensures fault { IfErr result (IsBlocksFault S.BlockSource.own source settings.limit) }
 {
     let limit = settings.limit;
     let parts = settings.parts;
-    let inputs = block_inputs(alloc, source, query.as_of, parts, limit, division)?;
+    let Ok(source) = Arc::new(alloc, source) else {
+        return Err(SourceFault::OutOfMemory);
+    };
+    let inputs = block_inputs(alloc, &source, query.as_of, parts, limit, division)?;
     let Ok(inputs) = Arc::new(alloc, inputs) else {
         return Err(SourceFault::OutOfMemory);
     };
     let plan = PlanLink::new(query, parts);
     let link = BlockLink { plan };
     let outcome = run_pair(rt, alloc, inputs, &link, settings.crew, gate);
-    if source.has_failed() {
-        return Err(SourceFault::ReadFailed);
-    }
     found_or_fault(outcome?)
 }

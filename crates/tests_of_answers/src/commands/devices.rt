@@ -54,10 +54,6 @@ impl ReadsAt for Unreadable {
         Err(DeviceFailed)
     }
 
-    fn may_fail(&self) -> bool {
-        true
-    }
-
     fn is_same(&self, _other: &Self) -> bool {
         true
     }

@@ -43,10 +43,6 @@ impl<'a> ReadsAt for Opened<'a> {
         Ok(count)
     }
 
-    fn may_fail(&self) -> bool {
-        true
-    }
-
     fn is_same(&self, _other: &Self) -> bool {
         true
     }
