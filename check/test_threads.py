@@ -72,8 +72,8 @@ class OfThreads(Case):
         self.assertEqual((own[0].place, own[0].asked, own[0]), (LIMIT, 1, report.of("pread")[0]), words)
         self.assertLessEqual(sum(call.count for call in own), again, words)
         self.assertEqual(len(own) == 1, not again, words)
-        # Eight blocks for each worker, if they have a MiB then, and eight at most. Each but the first begins with a guess.
-        block = min(max(MIB, length // (8 * workers)), 8 * MIB)
+        # Eight blocks for each worker, 256 in all, if they have a MiB then, and eight at most. Each but the first begins with a guess.
+        block = min(max(MIB, length // min(8 * workers, 256)), 8 * MIB)
         blocks = length // block
         self.assertEqual({call.thread for call in others}, set(threads.first[0]), words)
         guesses = {call.place for call in others if call.asked == SEEN and call.place and call.place % block == 0}

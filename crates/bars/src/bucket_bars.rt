@@ -12,9 +12,9 @@ use row_types::Sale;
 use std::alloc::Global;
 use std::marker::Model;
 
-/// The least number of sales a bar, on average, for which bars are made. They are made while the sales are still there:
-/// of two sales a bar both together would take more than twice what the sales take.
-const SALES_A_BAR: usize = 3;
+/// The least number of sales a bar, on average, for which bars are made. They are made while the sales, and the rows
+/// that these are of, are still there, perhaps by two workers at once: of so many sales a bar that takes a sixth more.
+const SALES_A_BAR: usize = 16;
 
 /// The bars of some sales, in the form that takes less: where the sales of one key are in many
 /// tables, each has nearly a bar a sale, and a sale has less than half the bytes of a bar.
@@ -37,7 +37,7 @@ impl Model for BucketBars {
 
 impl BucketBars {
     /// The bars of the sales, in whatever order they are, at a width in seconds. They are made where
-    /// there are three sales a bar or more, and memory for them; otherwise the sales are kept, which
+    /// there are sixteen sales a bar or more, and memory for them; otherwise the sales are kept, which
     /// are put in order in place and have no more room than they need.
     #[tactic(auto, using(std::proofs::lemmas::List::Sorted::length_permutation))]
     pub fn of_vec(mut sales: Vec<Sale>, width: u32) -> BucketBars

@@ -10,8 +10,11 @@ const SMALLEST_BLOCK: u64 = 1 << 20;
 
 const LARGEST_BLOCK: u64 = 8 << 20;
 
-/// How many blocks each worker is to have.
+/// How many blocks each worker is to have, and how many there are for that at most: each has a list of rows for each
+/// partition, and short lists take longer.
 const BLOCKS_A_WORKER: u64 = 8;
+
+const MOST_SHARES: u64 = 256;
 
 /// A number of blocks of one length in bytes, of which the last goes on to the source's end.
 #[derive(Clone, Copy)]
@@ -25,7 +28,8 @@ impl Division {
     /// The blocks of a source that is expected to have `length` bytes, for this many workers.
     pub fn of(length: u64, workers: u32) -> Self {
         let length = length.min(LONGEST_FILE);
-        let share = length / (BLOCKS_A_WORKER * u64::from(workers.max(1)));
+        let shares = BLOCKS_A_WORKER * u64::from(workers.max(1));
+        let share = length / shares.min(MOST_SHARES);
         let bytes = share.clamp(SMALLEST_BLOCK, LARGEST_BLOCK);
         let blocks = (length / bytes).clamp(1, u64::from(MOST_TASKS)) as u32;
         Division { bytes, blocks }

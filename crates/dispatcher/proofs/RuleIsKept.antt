@@ -16,7 +16,7 @@ use Rattle.base.proofs.Lists.{get_or-replicate_itself}
 use Rattle.base.specs.declared.limits.TheConstants.{MOST_TASKS, MOST_SEATS}
 use Rattle.dispatcher.specs.declared.rule.View.{View}
 use Rattle.dispatcher.specs.declared.rule.Size.{Size}
-use Rattle.dispatcher.specs.Rule.{IsConsistent, IsFair, IsMarkWord, TellsClaim, TellsMark, TellsLook, joined_view, late_count, occurrences, unused_view}
+use Rattle.dispatcher.specs.Rule.{IsConsistent, IsFair, IsMarkWord, TellsClaim, TellsCount, TellsMark, TellsLook, joined_view, late_count, occurrences, unused_view}
 use Rattle.dispatcher.proofs.Occurrences.{at_read, sum_set, sum_le, occurs_at, occurs_range, late_range}
 
 -- of whatever adds up when views are joined, the new views have what the old ones had, and the gain
@@ -117,6 +117,11 @@ module _ {size : Size} {state : State (Unit {0}) View} (rule : IsConsistent size
       rw (spent_is_unused _ (fair place spare below) (omega arith)) (omega arith)) in
       omega (arith, sum_set amount state.views id _ unused at))
       (All-push (IsFair size) [] view (λ place spare none. absurd (omega arith)) fair_at)
+
+pub counts : {size : Size} {slots : ℕ} (id : ℕ) {me : Me (Unit {0}) View}
+    → Allows (IsConsistent size) slots id me 0 (λ count. count) (TellsCount (step slots 0 0 0 none) me)
+counts id {me} state rule _ at _ = let few = count_at_most rule id at in let kept = claims_below rule id at in
+    (me.0, keeps, tt, rw (set-get_or, set_again state.views id me.0 at) rule, (refl, kept, omega (arith, few, rule.small)))
 
 module _ {size : Size} {slots : ℕ} (id : ℕ) {me : Me (Unit {0}) View} (one : length me.0.numbers ≡ 1) where
   pub claims : All (λ claim. claim < 2 * size.tasks) me.0.claims

@@ -66,6 +66,10 @@ module _ (st : Step (Unit {0})) (m : Me (Unit {0}) View) (word : ℕ) (m' : Me (
       ((word ≡ 0) × (¬ Contains m.0.seen task) × (m' ≡ m))
       ⊎ ((word ≡ 1) × (m' ≡ (record m.0 { seen = m.0.seen ++ task ∷ [] }, m.1)))
 
+  -- the seat's claims are among those that are counted
+  abbrev pub TellsCount : Type 0
+  TellsCount = (m' ≡ m) × All (λ x. x < word) m.0.claims × (word ≤ 2 * MOST_TASKS + MOST_SEATS)
+
 -- one seat that has what two had
 abbrev pub joined_view : View → View → View
 joined_view v w = record {

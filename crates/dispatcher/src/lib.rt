@@ -2,7 +2,7 @@
 //!
 //! Workers on any number of threads share a `Dispatcher`, and each owns a `Seat`. A claim takes the next number of all
 //! seats together: with n tasks, the numbers below 2 * n go through the tasks twice, and later ones find no task.
-//! `claim`, `mark` and `is_marked` are one atomic step each: they take no memory and wait for nobody.
+//! `claim`, `mark`, `is_marked` and `count_claims` are one atomic step each: they take no memory and wait for nobody.
 #![tactic(auto)]
 
 mod dispatcher;

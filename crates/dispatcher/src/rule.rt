@@ -1,7 +1,7 @@
 //! What a seat knows, and the rule that ties it to the words.
 ghost use Rattle.std.specs.Prelude.{◌≡◌, ◌+◌, [], drop, take};
 ghost use Rattle.std.specs.List.{range_with_len};
-ghost use Rattle.dispatcher.specs.Rule.{IsConsistent, TellsClaim, TellsMark, TellsLook, joined_view, unused_view};
+ghost use Rattle.dispatcher.specs.Rule.{IsConsistent, TellsClaim, TellsCount, TellsMark, TellsLook, joined_view, unused_view};
 
 use atomic_table::{Join, Play, Split, TableRule};
 use std::collections::LinkedList;
@@ -61,6 +61,13 @@ pub(crate) struct LookStep;
 
 impl Play<(), View> for LookStep {
     ghost then = { TellsLook };
+}
+
+/// A look reads the count of the claims.
+pub(crate) struct CountStep;
+
+impl Play<(), View> for CountStep {
+    ghost then = { TellsCount };
 }
 
 /// The first number of a seat goes to a seat of its own.

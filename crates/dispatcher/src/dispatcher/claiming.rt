@@ -1,11 +1,12 @@
 //! Claims. A claim is one atomic step: it takes no memory and waits for nobody.
-ghost use Rattle.std.specs.Prelude.{◌≡◌, ◌<◌, ◌++◌, [], ◌∷◌, All};
+ghost use Rattle.std.specs.Prelude.{◌≡◌, ◌+◌, ◌*◌, ◌<◌, ◌≤◌, ◌++◌, [], ◌∷◌, All};
+ghost use Rattle.base.specs.declared.limits.TheConstants.{MOST_SEATS, MOST_TASKS};
 ghost use Rattle.dispatcher.specs.Seats.{FitsClaim, IsSameSeat, IsSeatOf, MayClaim, claim_of, claims};
-ghost use Rattle.dispatcher.specs.Seats.{marked_tasks, seen_tasks, tasks_of};
+ghost use Rattle.dispatcher.specs.Seats.{marked_tasks, seats_of, seen_tasks, tasks_of};
 
 use super::Dispatcher;
 use crate::Seat;
-use crate::rule::{CLAIMS_WORD, ClaimStep};
+use crate::rule::{CLAIMS_WORD, ClaimStep, CountStep};
 use std::alloc::Allocator;
 
 /// The answer to a claim. Each claim of a dispatcher has a number of its own, from 0 on.
@@ -42,5 +43,33 @@ impl<A: Allocator> Dispatcher<A> {
         } else {
             Claim::NoMore { claim: number }
         }
+    }
+    /// How many claims all seats have made so far, in one atomic step: each of the seat's own is below that. A claim
+    /// that another seat makes meanwhile may be missed.
+    pub fn count_claims(&self, seat: &mut Seat) -> u64
+        requires own { IsSeatOf self.now seat.old }
+        ensures same { IsSameSeat seat.old seat.new }
+        ensures claims { claims seat.new ≡ claims seat.old }
+        ensures marked { marked_tasks seat.new ≡ marked_tasks seat.old }
+        ensures seen { seen_tasks seat.new ≡ seen_tasks seat.old }
+        ensures counted { All (λ c. c < result) (claims seat.old) }
+        ensures few { result ≤ 2 * MOST_TASKS + MOST_SEATS }
+    {
+        let words = &self.table.shared;
+        words.load::<CountStep>(&mut seat.inner, CLAIMS_WORD)
+    }
+
+    /// The number of its seats, those that were dropped among them.
+    pub fn seats(&self) -> u32
+        ensures { result ≡ seats_of self.now }
+    {
+        self.seats
+    }
+
+    /// The number of its tasks.
+    pub fn tasks(&self) -> u32
+        ensures { result ≡ tasks_of self.now }
+    {
+        self.tasks
     }
 }

@@ -2,8 +2,8 @@ use Rattle.std.proofs.Common.{◌≡◌}
 use Rattle.dispatcher.specs.Seats.{claims, marked_tasks, seen_tasks, IsSameSeat}
 use Rattle.workers.proofs.worker.is_done.Given as goal
 
-abbrev pub invariant-loop : goal.invariant-loop
-invariant-loop l = record {
+abbrev pub invariant-loop-look : goal.invariant-loop-look
+invariant-loop-look g l = record {
   same : IsSameSeat l.fn.seat l.seat;
   claims : claims l.seat ≡ claims l.fn.seat;
   marked : marked_tasks l.seat ≡ marked_tasks l.fn.seat;
