@@ -49,9 +49,9 @@ class OfMemory(Case):
     def took(self, file, query, workers, way="file", **more):
         """The KiB that a run holds at most and asks for, its allocations, readings and writes."""
         words = ["-" if way == "stream" else file, query, "--workers", workers]
-        # All rows are freed by a thread of their own, the next one after those of the second pipeline: the caller waits for it.
-        given, first = file if way == "stream" else b"", {"FIRST": 2 * workers + 1}
-        ran, report = self.counted(program(), *words, *more.pop("words", []), input=given, preload=first, **more)
+        # The caller frees all rows while the text is made: its first thread, the next after those of the second pipeline, is late.
+        given, late = file if way == "stream" else b"", {"LATE": 2 * workers + 1}
+        ran, report = self.counted(program(), *words, *more.pop("words", []), input=given, preload=late, **more)
         self.assertEqual((ran.status, ran.errors), (0, b""), words)
         heap = report.heap
         return heap.most >> 10, heap.bytes >> 10, heap.allocations, len(report.of("read", "pread")), len(report.of("write"))

@@ -26,8 +26,9 @@ class Threads:
             # (of each batch but the last, one that waits for the others while the caller reads on)
             self.first.append(self.behind(gatherers - 1 + (batch < batches - 1), workers))
         self.second = self.behind(gatherers - 1, workers)
-        # One frees the rows, and the caller makes one share of the text itself.
-        self.text = self.behind(1, workers - 1)
+        # Each makes a share of the text, while the caller frees the rows. The last one frees what buckets listed.
+        self.text = self.behind(0, workers)
+        self.count += 1
 
     def behind(self, others, count):
         """The numbers of this many threads behind others."""
@@ -52,9 +53,9 @@ class OfThreads(Case):
         ran, report = self.counted(program(), *words, preload=preload, **more)
         self.assertEqual((ran.status, ran.errors), (0, b""), words)
         self.assertEqual((report.started, report.alone), (threads.count, []), words)
-        # Each thread takes its share of the room for lines, and little beside it: the keys of bars. So the caller has no more.
+        # Each thread takes its share of the room for lines, and little beside it: the keys of bars.
         rooms = [report.threads[number] for number in threads.text]
-        share = len(ran.out) / (len(rooms) + 1)
+        share = len(ran.out) / len(rooms)
         if share > PIECE:
             self.assertTrue(all(0.8 * share <= it <= 4 * share and it <= 2 * min(rooms) for it in rooms), f"{words}: {rooms}")
         return report
@@ -110,12 +111,13 @@ class OfThreads(Case):
             self.stream(file, by_name, *crew)
 
     def test_each_is_waited_for(self):
-        """Before the answer is written, whichever begins late."""
+        """Before the answer is written, whichever begins late; the last thread meanwhile, before the program ends."""
         file, count = self.file("day", day()[: 46 * 60_000]), Threads(2, 2).count
         for morsel, number in itertools.product(([], ["--morsel", 500_000]), range(1, count + 1)):
             words = [program(), file, "sales", "--workers", 2, "--gatherers", 2, *morsel]
             report = self.counted(*words, preload={"LATE": number})[1]
-            self.assertEqual((report.started, report.begun), (count, [count]), f"{number} is late: {words}")
+            self.assertEqual(report.started, count, words)
+            self.assertIn(report.begun, ([count - 1, count], [count, count]), f"{number} is late: {words}")
 
     def test_messages_of_all_lengths(self):
         """A guess knows the longest message and the shortest, which stand beside trades at the opening."""

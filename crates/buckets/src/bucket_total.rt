@@ -61,6 +61,13 @@ impl BucketTotal {
         self.unknown
     }
 
+    /// What is listed of each bucket, in the order of their numbers.
+    pub fn products(&self) -> &[Arc<Product, Global>]
+        ensures { map arc_value result.now ≡ self.now.products }
+    {
+        self.products.as_slice()
+    }
+
     /// Gives what is listed of each bucket, in the order of their numbers, and takes no memory.
     pub fn into_products(self) -> Vec<Arc<Product, Global>>
         ensures { map arc_value result.items ≡ self.products }

@@ -19,24 +19,24 @@ use std::thread::Threads;
 use time_and_sales::{Listing, Names};
 
 /// The answer that the total of all buckets gives: the first fault in the references, or the text that is asked for. So
-/// many threads, or fewer, make the text in ranges, and the rows of all buckets are let go when it is made.
+/// many threads, or fewer, make the text in ranges.
 pub fn answer_in_ranges<R: Threads + Sync>(
     rt: &R,
     alloc: Global,
     query: &Query,
-    total: BucketTotal,
+    total: &BucketTotal,
     names: &DayNames,
     threads: u32,
 ) -> Result<Answer, OutOfMemory>
-    requires gathered { (messages : List Placed) × AreGatheredOf query.now total names.now messages }
-    ensures { IfOk result (λ answer. (messages : List Placed) → AreGatheredOf query.now total names.now messages →
+    requires gathered { (messages : List Placed) × AreGatheredOf query.now total.now names.now messages }
+    ensures { IfOk result (λ answer. (messages : List Placed) → AreGatheredOf query.now total.now names.now messages →
         IsAnswerToMessages messages query.now (told_by answer)) }
 {
-    match fault_of(&total) {
+    match fault_of(total) {
         Some(fault) => Ok(Answer::Faulty(fault)),
         None => {
-            let products = total.into_products();
-            let text = text_of(rt, alloc, query.what, &products, names.names(), threads)?;
+            let products = total.products();
+            let text = text_of(rt, alloc, query.what, products, names.names(), threads)?;
             Ok(Answer::Printed(text))
         }
     }

@@ -4,6 +4,7 @@ pub(crate) mod alone;
 pub(crate) mod answer;
 pub(crate) mod block_link;
 pub(crate) mod ends;
+pub(crate) mod made;
 pub(crate) mod run;
 pub(crate) mod run_blocks;
 pub(crate) mod stream;

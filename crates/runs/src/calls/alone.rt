@@ -68,7 +68,8 @@ pub fn answer_alone<G: Gate, R: Threads + Sync>(
     let inputs = scan_inputs(alloc, cut, query.as_of, parts)?;
     let link = PlanLink::new(query, parts);
     let outcome = run_alone(alloc, &inputs, &link, gate)?;
-    answer_of_outcome(rt, alloc, query, outcome, 0)
+    let made = answer_of_outcome(rt, alloc, query, outcome, 0)?;
+    Ok(made.into_answer())
 }
 
 /// Answers a query over all that a source gives at places, as `answer_blocks` does, on the caller's thread alone: as
@@ -88,8 +89,8 @@ pub fn answer_blocks_alone<G: Gate, R: Threads + Sync, S: BlockSource + Send + S
         Ok(outcome) => outcome,
         Err(fault) => return answer_of_fault(fault, settings.limit),
     };
-    let answer = answer_of_outcome(rt, alloc, query, outcome, 0)?;
-    Ok(answer)
+    let made = answer_of_outcome(rt, alloc, query, outcome, 0)?;
+    Ok(made.into_answer())
 }
 
 /// What both pipelines give over a source that is one block, or why it gives no rows.

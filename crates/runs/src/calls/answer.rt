@@ -2,12 +2,15 @@
 ghost use Rattle.std.specs.Prelude.{◌≡◌, ℕ, List, ◌<◌, ◌≤◌, Err, IfOk};
 ghost use Rattle.std.specs.List.{concat};
 ghost use Rattle.base.specs.declared.limits.TheConstants.{MOST_PARTITIONS};
-ghost use Rattle.answers.specs.Answers.{IsAnswer, told_by};
+ghost use Rattle.answers.specs.Answers.{IsAnswer, IsAnswerToMessages, told_by};
+ghost use Rattle.day_rows.specs.Messages.{Placed};
+ghost use Rattle.planning.specs.AllBuckets.{AreGatheredOf};
 ghost use Rattle.runs.specs.Steps.{IsOutcomeOf};
 
 use crate::OutOfMemory;
+use crate::calls::made::Made;
 use answers::{Answer, DayFault};
-use buckets::BucketTotal;
+use buckets::{BucketTotal, DayNames, Plan};
 use day_file::Cut;
 use pipelines::{Crew, Gate, Outcome, run_pair};
 use planning::{DayPlan, PlanLink, answer_in_ranges};
@@ -39,37 +42,57 @@ pub fn answer<G: Gate, R: Threads + Wait + Sync>(
     let inputs = Arc::new(alloc, scans)?;
     let link = PlanLink::new(query, parts);
     let outcome = run_pair(rt, alloc, inputs, &link, crew, gate)?;
-    answer_of_outcome(rt, alloc, query, outcome, crew.workers)
+    let made = answer_of_outcome(rt, alloc, query, outcome, crew.workers)?;
+    Ok(made.into_answer())
 }
 
-/// The answer that the outcome of both pipelines gives. `workers` threads make its text; meanwhile another one frees
-/// what the scans found, or the caller does first if none can be made. With none the caller's thread does all of it.
+/// The answer that the outcome of both pipelines gives, and what it was made of. `threads` threads make its text, or
+/// the caller's if that is none.
 pub(crate) fn answer_of_outcome<R: Threads + Sync>(
     rt: &R,
     alloc: Global,
     query: &Query,
     outcome: Outcome<BucketTotal, DayPlan, WrongLength>,
     threads: u32,
-) -> Result<Answer, OutOfMemory>
+) -> Result<Made, OutOfMemory>
     requires outcome { (runs : List (List ℕ)) × IsOutcomeOf query.now outcome runs }
     ensures { (runs : List (List ℕ)) → IsOutcomeOf query.now outcome runs →
         IfOk result (λ answer. IsAnswer (concat runs) query.now (told_by answer)) }
 {
     let (total, DayPlan { names, plan }) = match outcome {
         Outcome::Finished { total, kept } => (total, kept),
-        Outcome::Stopped { stop } => return Ok(told_of(stop)),
+        Outcome::Stopped { stop } => return Ok(Made::alone(told_of(stop))),
     };
-    let freeing = if threads > 0 {
-        // (without a thread, what it was to free is let go with the error)
-        thread::spawn(rt, move || drop(plan)).ok()
-    } else {
+    let answer = answer_and_free(rt, alloc, query, &total, &names, threads, plan)?;
+    Ok(Made::of(answer, total, names))
+}
+
+/// The answer that the total of all buckets gives (`answer_in_ranges`). Threads make its text while the caller frees
+/// what the scans found; if none can be made, or none is asked for, the caller frees it first.
+fn answer_and_free<R: Threads + Sync>(
+    rt: &R,
+    alloc: Global,
+    query: &Query,
+    total: &BucketTotal,
+    names: &DayNames,
+    threads: u32,
+    plan: Arc<Plan, Global>,
+) -> Result<Answer, OutOfMemory>
+    requires gathered { (messages : List Placed) × AreGatheredOf query.now total.now names.now messages }
+    ensures { IfOk result (λ answer. (messages : List Placed) → AreGatheredOf query.now total.now names.now messages →
+        IsAnswerToMessages messages query.now (told_by answer)) }
+{
+    if threads == 0 {
         drop(plan);
-        None
-    };
-    let answer = answer_in_ranges(rt, alloc, query, total, &names, threads);
-    if let Some(freeing) = freeing {
-        freeing.join(rt);
+        return answer_in_ranges(rt, alloc, query, total, names, threads);
     }
+    let make = move || -> Result<Answer, OutOfMemory>
+        requires { (messages : List Placed) × AreGatheredOf query.now total.now names.now messages }
+        ensures { IfOk result (λ answer. (messages : List Placed) →
+            AreGatheredOf query.entry.now total.entry.now names.entry.now messages →
+            IsAnswerToMessages messages query.entry.now (told_by answer)) }
+    { answer_in_ranges(rt, alloc, query, total, names, threads) };
+    let (answer, ()) = thread::join(rt, make, move || drop(plan));
     answer
 }
 

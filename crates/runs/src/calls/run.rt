@@ -5,9 +5,9 @@ ghost use Rattle.runs.specs.Runs.{IsAnsweredOrRefused, Ran, is_read_failed, is_w
 
 use crate::calls::alone::answer_alone;
 use crate::calls::answer::answer_of_outcome;
-use crate::calls::ends::{answer_of_fault, hand_over, query_of};
+use crate::calls::ends::{answer_of_fault, query_of};
+use crate::calls::made::Made;
 use crate::calls::stream::{WholeSource, scan_source};
-use answers::Answer;
 use order_table::greatest_prime;
 use outcomes::{RunFault, Settings};
 use pipelines::{FreeGate, run_second};
@@ -39,8 +39,8 @@ pub fn run<R: Threads + Wait + Sync, S: Source, K: Sink>(
 {
     let query = query_of(alloc, query_text)?;
     settings.parts = greatest_prime(settings.parts);
-    let answer = answer_source(rt, alloc, source, &query, settings)?;
-    hand_over(answer, sink)
+    let made = answer_source(rt, alloc, source, &query, settings)?;
+    made.hand_over(rt, sink)
 }
 
 /// The answer to a query over all that a source gives: of a short one on this thread alone, else by a first pipeline
@@ -51,7 +51,7 @@ fn answer_source<R: Threads + Wait + Sync, S: Source>(
     source: &mut S,
     query: &Query,
     settings: Settings,
-) -> Result<Answer, RunFault>
+) -> Result<Made, RunFault>
     requires { S.has_failed source.old ≡ false }
     ensures answered { IsAnsweredOrRefused
         (of_stream S.Source settings.limit settings.morsel source.old source.new)
@@ -61,13 +61,14 @@ fn answer_source<R: Threads + Wait + Sync, S: Source>(
     let parts = settings.parts;
     let total = match scan_source(rt, alloc, source, query.as_of, settings) {
         Ok(WholeSource::Short(cut)) => {
-            return Ok(answer_alone(rt, alloc, &cut, query, parts, &FreeGate)?);
+            let answer = answer_alone(rt, alloc, &cut, query, parts, &FreeGate)?;
+            return Ok(Made::alone(answer));
         }
         Ok(WholeSource::Long(total)) => total,
-        Err(fault) => return answer_of_fault(fault, settings.limit),
+        Err(fault) => return answer_of_fault(fault, settings.limit).map(Made::alone),
     };
     let link = PlanLink::new(query, parts);
     let outcome = run_second(rt, alloc, total, &link, settings.crew, &FreeGate)?;
-    let answer = answer_of_outcome(rt, alloc, query, outcome, settings.crew.workers)?;
-    Ok(answer)
+    let made = answer_of_outcome(rt, alloc, query, outcome, settings.crew.workers)?;
+    Ok(made)
 }

@@ -9,7 +9,8 @@ ghost use Rattle.runs.specs.Steps.{IsOutcomeOf};
 use crate::calls::alone::run_blocks_alone;
 use crate::calls::answer::answer_of_outcome;
 use crate::calls::block_link::{BlockLink, found_or_fault};
-use crate::calls::ends::{answer_of_fault, hand_over, query_of};
+use crate::calls::ends::{answer_of_fault, query_of};
+use crate::calls::made::Made;
 use answers::Answer;
 use block_scan::{
     BlockSource, Division, Knowledge, NewWatch, SourceFault, Watch, WatchName, Watched,
@@ -58,8 +59,8 @@ pub fn run_blocks<R: Threads + Wait + Sync, S: BlockSource + Send + Sync, K: Sin
     let Ok(source) = Arc::new(alloc, source) else {
         return Err(RunFault::OutOfMemory);
     };
-    let answer = answer_blocks(rt, alloc, &source, division, &query, settings, &FreeGate)?;
-    hand_over(answer, sink)
+    let made = answer_in_blocks(rt, alloc, &source, division, &query, settings, &FreeGate)?;
+    made.hand_over(rt, sink)
 }
 
 /// Answers a query over all that a source gives at places, by two pipelines as `answer` does: the first has a task for
@@ -78,6 +79,23 @@ pub fn answer_blocks<G: Gate, R: Threads + Wait + Sync, S: BlockSource + Send + 
     ensures { IsAnsweredOrRefused (of_blocks S.BlockSource.own settings.limit (arc_value source.now))
         query.now settings.limit result }
 {
+    let made = answer_in_blocks(rt, alloc, source, division, query, settings, gate)?;
+    Ok(made.into_answer())
+}
+
+/// The answer to a query over all that a source gives at places, and what it was made of.
+fn answer_in_blocks<G: Gate, R: Threads + Wait + Sync, S: BlockSource + Send + Sync>(
+    rt: &R,
+    alloc: Global,
+    source: &Arc<S, Global>,
+    division: Division,
+    query: &Query,
+    settings: Settings,
+    gate: &G,
+) -> Result<Made, RunFault>
+    ensures { IsAnsweredOrRefused (of_blocks S.BlockSource.own settings.limit (arc_value source.now))
+        query.now settings.limit result }
+{
     let Ok(source) = Arc::try_clone(source) else {
         return Err(RunFault::OutOfMemory);
     };
@@ -87,10 +105,10 @@ pub fn answer_blocks<G: Gate, R: Threads + Wait + Sync, S: BlockSource + Send + 
     );
     let outcome = match outcome {
         Ok(outcome) => outcome,
-        Err(fault) => return answer_of_fault(fault, settings.limit),
+        Err(fault) => return answer_of_fault(fault, settings.limit).map(Made::alone),
     };
-    let answer = answer_of_outcome(rt, alloc, query, outcome, settings.crew.workers)?;
-    Ok(answer)
+    let made = answer_of_outcome(rt, alloc, query, outcome, settings.crew.workers)?;
+    Ok(made)
 }
 
 /// What both pipelines give over the blocks of a source that is watched, or why it gives no rows.

@@ -12,4 +12,4 @@ pub returns : goal.returns
 returns g c =
     let (runs, whole, of) = c.in-Ok.ensures.outcome in
     let told = c.answer_of_outcome.ensures runs of in
-    (concat runs, whole, tt, IfOk-at_ok (λ answer. IsAnswer (concat runs) c.args.query.now (told_by answer)) c.in_ok-answer.was told)
+    (concat runs, whole, tt, rw c.into_answer.ensures (IfOk-at_ok (λ answer. IsAnswer (concat runs) c.args.query.now (told_by answer)) c.in_ok-made.was told))

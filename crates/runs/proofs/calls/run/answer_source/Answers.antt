@@ -27,7 +27,12 @@ returns-clause-answered g c =
       concat runs,
       whole,
       may,
-      IfOk-at_ok (λ answer. IsAnswer (concat runs) c.args.query.now (told_by answer)) c.in_ok-answer.was (c.answer_of_outcome.ensures runs
+      IfOk-at_ok (λ answer. IsAnswer (concat runs) c.args.query.now (told_by answer)) c.in_ok-made.was (c.answer_of_outcome.ensures runs
           (given_of _ c.in_ok-outcome.ensures.outcome c.new-link.ensures c.args.settings.parts_in_range.0
           (λ first is. rw is (subst (λ (m : Meaning). IsScanOf 0 0 m.as_of c.args.settings.parts runs c.in-Ok-Long.total) c.query.view_is of)))),
     )
+
+pub returns-in-Ok-Short-clause-answered : goal.returns-in-Ok-Short-clause-answered
+returns-in-Ok-Short-clause-answered g c =
+    let (whole, may) = rw c.in-Ok-Short.field-0-is at c.in-Ok-Short.ensures.scanned in
+    (concat c.in-Ok-Short.cut, whole, may, rw c.alone.ensures c.in_ok-answer-in-Ok-Short.ensures)

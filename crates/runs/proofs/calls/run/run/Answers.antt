@@ -6,4 +6,4 @@ pub returns-clause-ran : goal.returns-clause-ran
 returns-clause-ran g c =
     let settings = c.args.settings in
     ran (of_stream g.S.Source settings.limit settings.morsel c.args.source.now c.answer_source.new.source) _
-    c.in_ok-query.ensures.query c.in_ok-answer.ensures.answered g.K.Sink _ _ _ c.hand_over.result c.hand_over.ensures.handed
+    c.in_ok-query.ensures.query c.in_ok-made.ensures.answered g.K.Sink _ _ _ c.hand_over.result c.hand_over.ensures.handed

@@ -1,4 +1,4 @@
-use Rattle.runs.proofs.calls.run_blocks.answer_blocks.Given as goal
+use Rattle.runs.proofs.calls.run_blocks.answer_in_blocks.Given as goal
 
 -- the name is that of the watch that is handed over
 abbrev pub ghosts-outcome_of_named : goal.ghosts-outcome_of_named
