@@ -4,23 +4,15 @@ Each says of a case's query, day and answer, as they stand there, that `IsAnswer
 there has the layout of messages; the bytes of one message of each type are compared with those that itch.py makes. Where two
 cases of a heading have one comment, their theorems have one name, and the prover refuses them.
 """
-import collections
-import re
+import collections, re
 
 import itch
 from rattle import TOP
 
 CASES = TOP / "crates/answer_cases/stdin"
 FOLDER = TOP / "crates/proved_cases/proofs"
-# The headings of the cases that are written, and the file of each.
-PARTS = {
-    "Sales": "Sales",
-    "Faults of days": "Faults",
-    "Bars": "Bars",
-    "What is asked for": "Selections",
-    "As of a moment": "Moments",
-    "Places decide": "Places",
-}
+# The files of the first headings, whose cases are written, in their order.
+FILES = "Sales Faults Bars Selections Moments Places".split()
 IMPORTS = [
     ("Rattle.std.proofs.Common", "◌≡◌ [] ◌++◌ refl"),
     ("Rattle.std.specs.Prelude", "codes"),
@@ -30,9 +22,8 @@ IMPORTS = [
 ]
 # Of each form its name in proofs/Days.antt and its fields, the time that it has if none is given, and what itch.py makes of it.
 EARLY, LATE = "09:30:00", "09:30:01.000000005"
-BLANK = " ", " ", 0x2020_2020, " ", " ", b"  ", " ", " ", " ", " ", " ", 0x2020_2020, " "
 FORMS = {
-    "R": ("named stock", "00:00:00", lambda where, name: itch.message("R", *where, name, *BLANK)),
+    "R": ("named stock", "00:00:00", lambda where, name: itch.named_alone(where[0], name, where[1])),
     "A": ("order reference price", EARLY, lambda where, *it: itch.order(it[0], *where, it[1])),
     "F": ("attributed reference price", EARLY, lambda where, *it: itch.attributed(it[0], *where, it[1])),
     "U": ("replaced reference reference price", EARLY, lambda where, *it: itch.replaced(*it, *where)),
@@ -43,20 +34,12 @@ FORMS = {
     "P": ("trade shares price number", LATE, lambda where, *it: itch.trade(it[2], *where, it[1], it[0])),
     "Q": ("cross volume price number", LATE, lambda where, *it: itch.cross(it[2], *where, it[1], it[0])),
 }
-
-
 ESCAPES = str.maketrans({"\n": "\\n", "\0": "\\0", '"': '\\"', "\\": "\\\\"})
-
 Case = collections.namedtuple("Case", "comment words query answer")
 
 
 def quoted(text):
     return f'"{text.translate(ESCAPES)}"'
-
-
-def nanoseconds(time):
-    hours, minutes, seconds, part = re.fullmatch(r"(\d+):(\d+):(\d+)\.?(\d*)", time).groups()
-    return ((int(hours) * 60 + int(minutes)) * 60 + int(seconds)) * itch.SECOND + int(part or 0)
 
 
 def part_of(word):
@@ -73,7 +56,7 @@ def part_of(word):
     values = [it if kind in ("stock", "printable") else int(it) for kind, it in zip(kinds, fields)]
     given = [f"({kind} {quoted(it) if isinstance(it, str) else it})" for kind, it in zip(kinds, values)]
     fields = [it.encode("latin-1").ljust(8) for it in values] if letter == "R" else values
-    made = make((int(locate), nanoseconds(time or usual)), *fields)
+    made = make((int(locate), itch.at(time or usual)), *fields)
     return " ".join([name, f"(at {locate} {quoted(time or usual)})", *given]), made
 
 
@@ -119,15 +102,13 @@ def cases_of(part):
 def written():
     """The text of each file by its path."""
     files, first = {}, {}
-    for part in re.split(r"(?m)^# == ", CASES.read_text())[1:]:
+    for file, part in zip(FILES, re.split(r"(?m)^# == ", CASES.read_text())[1:]):
         title, _, rest = part.partition("\n")
-        file = next((file for heading, file in PARTS.items() if title.startswith(heading)), None)
-        cases = cases_of(rest) if file else []
-        for part, made in (part_of(word) for case in cases for word in case.words):
+        cases = cases_of(rest)
+        for said, made in (part_of(word) for case in cases for word in case.words):
             if made:
-                first.setdefault(part.split()[0], (part, made))
-        if file:
-            files[file] = file_of(title, [theorem_of(case) for case in cases])
+                first.setdefault(said.split()[0], (said, made))
+        files[file] = file_of(title, [theorem_of(case) for case in cases])
     messages = [bytes_theorem(name, *it) for name, it in first.items()]
     files["Messages"] = file_of("A message of each type, as check/itch.py makes it", messages)
     return {FOLDER / f"{name}.antt": text for name, text in files.items()}

@@ -79,7 +79,7 @@ class OfProgram(Case):
         ):
             ran, report = self.counted(program(), *words.split(), "sales", input=DAY, preload={"NAME": name}, cwd=self.folder)
             self.gives(ran, 0, SALE)
-            self.assertEqual((report.opened, {it.kind for it in report.of("read", "pread")}), ([opened], {kind}), words)
+            self.assertEqual((len(report.of("open")), {it.kind for it in report.of("read", "pread")}), (opened, {kind}), words)
 
     def test_what_is_no_day(self):
         """Folders, which can be opened, a file of the system whose readings fail, one without a length, and one that is too long."""
@@ -99,7 +99,7 @@ class OfProgram(Case):
         for way, error in itertools.product(WAYS, (5, 4, 11)):
             for reading in itertools.count(1):
                 ran, report = self.over(way, self.day, GIVES=1, TAKES=7, FAILS=reading, ERROR=error)
-                if report.failed == [0]:
+                if all(call.count >= 0 for call in report.calls):
                     break
                 self.assertIn(ran, (failed, sales if way == SEVERAL else failed), f"{way}, reading {reading}, {error}")
             self.assertEqual((ran, reading > len(DAY)), (sales, True), way)

@@ -2,7 +2,8 @@
 shows stands in the file where it says; what else it prints, and its faults; and that its memory doesn't grow with the file."""
 import re, sys
 
-from itch import OPEN, SECOND, attributed, broken, cross, executed, executed_at, frame, message, named, order, replaced, trade
+from itch import OPEN, SECOND, attributed, broken, cross, executed, executed_at, frame, message, named, named_alone
+from itch import order, replaced, trade
 from run import EXAMPLE, TOP, Case, on_terminal, program, run
 
 TOOL, TEXTS = TOP / "bin/trace_sales", TOP / "check/test_trace.txt"
@@ -18,7 +19,7 @@ def after(seconds, nanoseconds=0):
 EDGES = [
     frame(b""), message("S", 0, after(-1), "O"), named(1, "AB", 0), named(3, "OLD", 0),
     message("R", 5, 0, "A,B C", "Q", "N", 1, "N", "C", b"Z ", "T", "N", "N", "1", "N", 0, "N"),
-    message("R", 6, 0, "LONGNAME", " ", " ", 0x20202020, " ", " ", b"  ", " ", " ", " ", " ", " ", 0x20202020, " "),
+    named_alone(6, "LONGNAME"),
     broken(113, 1, after(-1)),
     order(1, 1, after(-1), 1_000_000), attributed(3, 1, after(-1), 4_294_967_295),
     order(7, 1, after(-1)), replaced(7, 8, 4_105_100, 1, after(-1)),
