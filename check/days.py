@@ -4,7 +4,7 @@ its first message to its last: the six system events, the stock directory, order
 each sort and one without shares, broken trades, and messages that are skipped."""
 import collections, pathlib
 
-from itch import OPEN, SECOND, at, message, named_alone
+from itch import OPEN, SECOND, message, named_alone
 
 DATA = pathlib.Path(__file__).resolve().parent.parent / "data"
 CENT = 100
@@ -15,6 +15,13 @@ NOBODY = Security(0, "")
 MSFT, AAPL, NEWCO = Security(7, "MSFT", lot=40), Security(13, "AAPL"), Security(21, "NEWCO", first="Y")
 CLASS_B, PREFERRED = Security(34, "BRK.B", "N", 40), Security(35, "BAC-L", "N", 10, "F")
 IDLE, TEST = Security(40, "IDLE"), Security(51, "ZVZZT", test="T")
+
+
+def at(clock):
+    """Nanoseconds since midnight of a time as `09:30:00` or `09:30:00.25`."""
+    whole, _, part = clock.partition(".")
+    hours, minutes, seconds = map(int, whole.split(":"))
+    return ((hours * 60 + minutes) * 60 + seconds) * SECOND + int(part.ljust(9, "0"))
 
 
 class Day:

@@ -58,13 +58,6 @@ class OfProgram(Case):
             ran = self.shell(f'program=$0; itch_bars() {{ "$program" "$@"; }}\n{it}')
             self.assertEqual((ran.status, ran.errors, ran.out.count(b"\n") > 1), (0, b"", True), it)
 
-    def test_memory_runs_out(self):
-        """A source has no end, and all its rows are to be kept."""
-        self.file("days", *[trade(9)] * 100_000)
-        for file, query in itertools.product(("-", "/dev/stdin"), ("sales", "bars 1 s")):
-            endless = f'ulimit -v 400000; while cat days; do :; done 2>&- | "$0" {file} "{query}"'
-            self.gives(self.shell(endless), 3, "", "fault: out of memory\n")
-
     # ---- files
 
     def test_which_file_is_opened_and_how_it_is_read(self):

@@ -109,14 +109,6 @@ class OfThreads(Case):
         for by_name, crew in itertools.product((False, True), ((1, 1), (3, 1), (4, 3))):
             self.stream(file, by_name, *crew)
 
-    def test_each_is_waited_for(self):
-        """Before the answer is written, whichever begins late."""
-        file, count = self.file("day", day()[: 46 * 60_000]), Threads(2, 2).count
-        for morsel, number in itertools.product(([], ["--morsel", 500_000]), range(1, count + 1)):
-            words = [program(), file, "sales", "--workers", 2, "--gatherers", 2, *morsel]
-            report = self.counted(*words, preload={"LATE": number})[1]
-            self.assertEqual((report.started, report.begun), (count, [count]), f"{number} is late: {words}")
-
     def test_messages_of_all_lengths(self):
         """A guess knows the longest message and the shortest, which stand beside trades at the opening."""
         between = [message("S", 0, OPEN, "Q"), message("I", 1, OPEN, 100, 100, "O", "MSFT", 1, 1, 1, "C", "L")]
