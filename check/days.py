@@ -4,7 +4,7 @@ its first message to its last: the six system events, the stock directory, order
 each sort and one without shares, broken trades, and messages that are skipped."""
 import collections, pathlib
 
-from itch import OPEN, SECOND, message
+from itch import OPEN, SECOND, message, named_alone
 
 DATA = pathlib.Path(__file__).resolve().parent.parent / "data"
 CENT = 100
@@ -141,8 +141,7 @@ def whole_day():
 def example():
     day, prices = Day(), {MSFT: 4_105_000, AAPL: 1_893_300, Security(4021, "ZVZZT"): 100_000}
     for it, price in prices.items():
-        # (the directory's fields behind the name are 20 spaces; the last cross finds no shares)
-        day.add("R", it, 0, it.name, " ", " ", 0x20202020, " ", " ", b"  ", " ", " ", " ", " ", " ", 0x20202020, " ")
+        day.messages.append((0, named_alone(it.locate, it.name)))  # (the last cross finds no shares)
         day.add("Q", it, OPEN, 0 if it.locate == 4021 else 25_000, it.name, price, 900 + it.locate, "O")
     for step in range(96):
         it, price = list(prices.items())[step % 3]

@@ -1,26 +1,17 @@
 """Writes cases of crates/answer_cases/stdin as theorems on the definitions, files of crates/proved_cases/proofs.
 
 Each says of a case's query, day and answer, as they stand there, that `IsAnswer` holds, and is proved by computing it. Days.antt
-there has the layout of messages; the bytes of one message of each type are compared with those that itch.py makes. Where two
-cases of a heading have one comment, their theorems have one name, and the prover refuses them.
+there has the layout of messages. Where two cases of a heading have one comment, their theorems have one name, and the prover
+refuses them.
 """
-import collections
-import re
+import collections, re
 
-import itch
 from rattle import TOP
 
 CASES = TOP / "crates/answer_cases/stdin"
 FOLDER = TOP / "crates/proved_cases/proofs"
-# The headings of the cases that are written, and the file of each.
-PARTS = {
-    "Sales": "Sales",
-    "Faults of days": "Faults",
-    "Bars": "Bars",
-    "What is asked for": "Selections",
-    "As of a moment": "Moments",
-    "Places decide": "Places",
-}
+# The files of the first headings, whose cases are written, in their order.
+FILES = "Sales Faults Bars Selections Moments Places".split()
 IMPORTS = [
     ("Rattle.std.proofs.Common", "◌≡◌ [] ◌++◌ refl"),
     ("Rattle.std.specs.Prelude", "codes"),
@@ -28,25 +19,20 @@ IMPORTS = [
     ("Rattle.proved_cases.proofs.Days", "at hex number price printable reference shares stock volume"),
     ("Rattle.proved_cases.proofs.Told", "Prints Reports on_days printed reported"),
 ]
-# Of each form its name in proofs/Days.antt and its fields, the time that it has if none is given, and what itch.py makes of it.
+# Of each form its name in proofs/Days.antt and its fields, and the time that it has if none is given.
 EARLY, LATE = "09:30:00", "09:30:01.000000005"
-BLANK = " ", " ", 0x2020_2020, " ", " ", b"  ", " ", " ", " ", " ", " ", 0x2020_2020, " "
 FORMS = {
-    "R": ("named stock", "00:00:00", lambda where, name: itch.message("R", *where, name, *BLANK)),
-    "A": ("order reference price", EARLY, lambda where, *it: itch.order(it[0], *where, it[1])),
-    "F": ("attributed reference price", EARLY, lambda where, *it: itch.attributed(it[0], *where, it[1])),
-    "U": ("replaced reference reference price", EARLY, lambda where, *it: itch.replaced(*it, *where)),
-    "B": ("broken number", EARLY, lambda where, number: itch.broken(number, *where)),
-    "E": ("executed reference shares number", LATE, lambda where, *it: itch.executed(it[0], it[2], *where, it[1])),
-    "C": ("executed_at reference shares number printable price", LATE,
-          lambda where, *it: itch.executed_at(it[0], it[2], it[4], *where, it[1], it[3])),
-    "P": ("trade shares price number", LATE, lambda where, *it: itch.trade(it[2], *where, it[1], it[0])),
-    "Q": ("cross volume price number", LATE, lambda where, *it: itch.cross(it[2], *where, it[1], it[0])),
+    "R": ("named stock", "00:00:00"),
+    "A": ("order reference price", EARLY),
+    "F": ("attributed reference price", EARLY),
+    "U": ("replaced reference reference price", EARLY),
+    "B": ("broken number", EARLY),
+    "E": ("executed reference shares number", LATE),
+    "C": ("executed_at reference shares number printable price", LATE),
+    "P": ("trade shares price number", LATE),
+    "Q": ("cross volume price number", LATE),
 }
-
-
 ESCAPES = str.maketrans({"\n": "\\n", "\0": "\\0", '"': '\\"', "\\": "\\\\"})
-
 Case = collections.namedtuple("Case", "comment words query answer")
 
 
@@ -54,27 +40,19 @@ def quoted(text):
     return f'"{text.translate(ESCAPES)}"'
 
 
-def nanoseconds(time):
-    hours, minutes, seconds, part = re.fullmatch(r"(\d+):(\d+):(\d+)\.?(\d*)", time).groups()
-    return ((int(hours) * 60 + int(minutes)) * 60 + int(seconds)) * itch.SECOND + int(part or 0)
-
-
 def part_of(word):
-    """What stands in a theorem for a word of a day, and the bytes that itch.py makes of it, if it is a form."""
+    """What stands in a theorem for a word of a day: a form, or bytes as digits, perhaps some times over."""
     form = re.fullmatch(r"([A-Z])\(([^()]*)\)(?:@([\d:.]+))?(?:#(\d+))?", word)
     if not form:
         digits, _, times = word.partition("*")
-        return f"hex {quoted(digits * int(times or 1))}", None
+        return f"hex {quoted(digits * int(times or 1))}"
     letter, fields, time, locate = form.groups()
-    said, usual, make = FORMS[letter]
+    said, usual = FORMS[letter]
     name, *kinds = said.split()
     fields = [re.sub(r"\\x(..)", lambda it: chr(int(it[1], 16)), field) for field in fields.split(",")]
     locate = fields.pop(0) if letter == "R" else locate or "7"
-    values = [it if kind in ("stock", "printable") else int(it) for kind, it in zip(kinds, fields)]
-    given = [f"({kind} {quoted(it) if isinstance(it, str) else it})" for kind, it in zip(kinds, values)]
-    fields = [it.encode("latin-1").ljust(8) for it in values] if letter == "R" else values
-    made = make((int(locate), nanoseconds(time or usual)), *fields)
-    return " ".join([name, f"(at {locate} {quoted(time or usual)})", *given]), made
+    given = [f"({kind} {quoted(it) if kind in ('stock', 'printable') else int(it)})" for kind, it in zip(kinds, fields)]
+    return " ".join([name, f"(at {locate} {quoted(time or usual)})", *given])
 
 
 def joined(parts):
@@ -88,15 +66,11 @@ def theorem_of(case):
     return "\n".join([
         f"-- {case.comment}",
         f"{name} : {word} (codes {quoted(case.query)})",
-        joined([part_of(it)[0] for it in case.words]),
+        joined([part_of(it) for it in case.words]),
         joined([f"codes {quoted(line)}" for line in case.answer.splitlines(keepends=True)]),
         "unfolding on_days",
         f"{name} = {proof} refl",
     ])
-
-
-def bytes_theorem(name, part, made):
-    return f"bytes_of_{name} : {part}\n    ≡ hex {quoted(made.hex())}\nbytes_of_{name} = refl"
 
 
 def file_of(title, theorems):
@@ -110,7 +84,7 @@ def file_of(title, theorems):
 
 
 def cases_of(part):
-    """The cases under a heading: a comment of one line, a day, a query, perhaps ways to answer it, and the answer."""
+    """The cases of a part: a comment of one line, a day, a query, perhaps ways to answer it, and the answer."""
     form = r'# (.*)\nday ?(.*)\nquery "([^"\\]*)"\n(?:.*\n)*?----\n((?:.*\n)*)'
     found = [re.fullmatch(form, f"{case}\n").groups() for case in part.strip("\n").split("\n\n")]
     return [Case(comment, day.split(), query, answer) for comment, day, query, answer in found]
@@ -118,16 +92,6 @@ def cases_of(part):
 
 def written():
     """The text of each file by its path."""
-    files, first = {}, {}
-    for part in re.split(r"(?m)^# == ", CASES.read_text())[1:]:
-        title, _, rest = part.partition("\n")
-        file = next((file for heading, file in PARTS.items() if title.startswith(heading)), None)
-        cases = cases_of(rest) if file else []
-        for part, made in (part_of(word) for case in cases for word in case.words):
-            if made:
-                first.setdefault(part.split()[0], (part, made))
-        if file:
-            files[file] = file_of(title, [theorem_of(case) for case in cases])
-    messages = [bytes_theorem(name, *it) for name, it in first.items()]
-    files["Messages"] = file_of("A message of each type, as check/itch.py makes it", messages)
-    return {FOLDER / f"{name}.antt": text for name, text in files.items()}
+    parts = [part.split("\n", 1) for part in re.split(r"(?m)^# == ", CASES.read_text())[1:]]
+    texts = (file_of(title, [theorem_of(case) for case in cases_of(cases)]) for title, cases in parts)
+    return {FOLDER / f"{name}.antt": text for name, text in zip(FILES, texts)}

@@ -149,11 +149,6 @@ class NoClause(unittest.TestCase):
     def test_public_functions_that_say_nothing_of_refusals_are_listed(self):
         self.compare("No clause on what a refusal leaves", is_silent_on_refusals)
 
-    def test_all_functions_are_read(self):
-        for crate in PRODUCT:
-            heads = [re.findall(r"(?m)^ *(?:pub(?:\([\w: ]+\))? )?(?:const )?fn \w", path.read_text()) for path in sources(crate)]
-            self.assertEqual(sum(map(len, heads)), len(functions_of(crate)), crate)
-
     def test_each_edit_applies_and_has_the_name_of_a_function(self):
         for crate in PRODUCT:
             names = {it.name for it in functions_of(crate)}
@@ -191,11 +186,13 @@ class Trusted(unittest.TestCase):
 IN_CRATES = [path for path in (TOP / "crates").glob("*/*/**/*") if path.suffix in (".rt", ".antt") and "out" not in path.parts]
 TEXTS = {path: path.read_text() for path in IN_CRATES}
 OTHERS = [*(TOP / "fuzz").glob("*.rs"), TOP / "crates.txt"]
-KNOWN = {word for text in [*TEXTS.values(), *(it.read_text() for it in OTHERS)] for word in re.findall(r"\w+", text)}
+CODE = [code_of(text) if path.suffix == ".rt" else re.sub(r"--.*", "", text) for path, text in TEXTS.items()]
+KNOWN = {word for text in CODE + [it.read_text() for it in OTHERS] for word in re.findall(r"\w+", text)}
 KNOWN |= {edit.stem for crate in crates() for edit in edits_of(crate)} | {path.stem for path in TEXTS}
-READMES = [*(TOP / "crates").glob("*/README.md")]
-PAGES = [*TOP.glob("*.md"), *(TOP / "docs").glob("*.md"), *TOP.glob("*/README.md"), *READMES]
-OF_CODE = [TOP / "docs" / f"{name}.md" for name in ("PROOFS", "ARCHITECTURE", "GLOSSARY", "NO_CLAUSE")] + READMES
+# what each crate is for, and what of it isn't proved, stands at the head of its first file
+HEADS = {path: "\n".join(re.findall(r"(?m)^//! ?(.*)", text)) for path, text in TEXTS.items() if path.name in ("lib.rt", "main.rt")}
+PAGES = HEADS | {path: path.read_text() for path in [*TOP.glob("*.md"), *TOP.glob("*/*.md")]}
+OF_CODE = [*HEADS, *(TOP / "docs" / f"{name}.md" for name in ("PROOFS", "ARCHITECTURE", "GLOSSARY", "NO_CLAUSE"))]
 ROOTS = ("crates", "docs", "bin", ".ci", "check", "fuzz", "bench", "data", "man")
 
 
@@ -212,14 +209,15 @@ def rows_below(page, heading):
 
 class Pages(unittest.TestCase):
     def test_names_are_there(self):
-        self.assertEqual(sorted(crates()), sorted(page.parent.name for page in READMES), "each crate has a README")
-        words = [(str(page), word) for page in OF_CODE for word in words_in(page.read_text())]
+        self.assertEqual(sorted(crates()), sorted(page.parent.parent.name for page, text in HEADS.items() if text), "crates with a head")
+        words = [(str(page), word) for page in OF_CODE for word in words_in(PAGES[page])]
         names = [it for it in words if re.fullmatch(r"\w+(::\w+)*", it[1])]
         self.assertEqual([], [it for it in names if {*it[1].split("::")} - KNOWN], "the code has no such names")
 
     def test_paths_and_sections_are_there(self):
-        for page in (page for page in PAGES if page.stem != "CHANGELOG"):
-            text = page.read_text()
+        for page, text in PAGES.items():
+            if page.stem == "CHANGELOG":
+                continue
             paths = [path for word in words_in(text) for path in word.split() if path.split("/")[0] in ROOTS and "/" in path]
             missing = [path for path in paths if not re.search(r"NAME|CRATE|/out/|\.\.$", path) and not (TOP / path).exists()]
             self.assertEqual([], missing, f"{page} names these")

@@ -7,8 +7,7 @@ tools it needs; a command that calls it is left out where one of these isn't ins
 """
 import os, pathlib, re, shlex, shutil, subprocess
 
-from itch import frame, frames_of
-from run import EXAMPLE, LONGEST, TOP, Case, Ran, program, run
+from run import EXAMPLE, LONGEST, TOP, Case, program, run
 
 DOCUMENTS = ["README.md", "docs/GUIDE.md", "docs/AUDIT.md"]
 FOLDER = "/tmp/itch_guide"  # which the guide's first commands make
@@ -95,28 +94,16 @@ class Documents(Case):
 
 
 class Claims(Case):
-    def ask(self, day, query="sales"):
-        return run(program(), self.file("day", day), query)
-
     def test_bits(self):
         """README's numbers: each 101st bit of the example is changed, one at a time."""
         day, sales, found = EXAMPLE.read_bytes(), run(program(), EXAMPLE, "sales"), {"fault": 0, "same": 0, "other": 0}
         for at in range(0, 8 * len(day), 101):
-            ran = self.ask(day[: at // 8] + bytes([day[at // 8] ^ 1 << at % 8]) + day[at // 8 + 1 :])
+            changed = self.file("day", day[: at // 8] + bytes([day[at // 8] ^ 1 << at % 8]) + day[at // 8 + 1 :])
+            ran = run(program(), changed, "sales")
             found["fault" if ran.status else "same" if ran == sales else "other"] += 1
         text = " ".join(text_of("README.md").split()).replace("*", "")
         told = re.search(r"(\d+) of the (\d+) files gave a fault, (\d+) the same answer, and (\d+) another answer", text)
         self.assertEqual([int(it) for it in told.groups()], [found["fault"], sum(found.values()), found["same"], found["other"]])
-
-    def test_other_files(self):
-        """A small file of another sort is at fault at place 0; another framing, no file and half a day are not at fault."""
-        for day in [b"\x1f\x8b\x08" + bytes(99), b"\xd4\xc3\xb2\xa1\2\0\4\0" + EXAMPLE.read_bytes(), b"time,symbol\n" * 99]:
-            self.gives(self.ask(day), 1, errors="fault: place 0: message runs past the end\n")
-        day = (TOP / "data/whole_day.itch").read_bytes()
-        soup = b"".join(frame(b"S" + it[2:]) for it in frames_of(day))
-        header, half = Ran(0, b"time,symbol,kind,price,shares,number\n", b""), self.ask(day[:12733])
-        self.assertEqual([self.ask(soup), self.ask(b"")], [header, header])
-        self.assertEqual((half.status, half.errors, half.out.count(b"\n") > 100, half == self.ask(day)), (0, b"", True, False))
 
     def test_slips(self):
         """Each query of the guide's table of slips gives the fault of its row."""

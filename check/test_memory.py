@@ -67,12 +67,6 @@ class OfMemory(Case):
             with self.subTest(f"{shape:15}{way:9}{workers:2}" + "".join(f"{it:11}" for it in found)):
                 self.assertTrue(all(it <= 1.3 * int(figure) for it, figure in zip(found, figures)), f"more than 1.3 of {figures}")
 
-    def test_one_remainder(self):
-        """References that are all the same modulo 256 lie in all partitions, whose number is a prime, and each partition takes room."""
-        day = self.file("day", *orders(150_000, scattered))
-        few, more = (self.took(day, "bars 1 m", 1, words=["--partitions", count])[2] for count in (1, 64))
-        self.assertGreater(more, 10 * few)
-
     def test_large_morsel(self):
         """A morsel takes as much room as there are bytes, however many it could have."""
         took = self.took(self.file("day", *trades(90_000)), "sales where kind in Q", 1, "stream", words=["--morsel", 1 << 30])

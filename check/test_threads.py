@@ -155,10 +155,12 @@ class OfThreads(Case):
         self.assertEqual((ran.status, report.alone), (0, [1]))
 
     def test_partitions(self):
-        """Each partition is a task, which costs two to ten allocations, though no row is there, wherever one begins."""
-        # (so long that room is taken for 16 rows or more of each partition; primes are taken as they are)
+        """Each partition is a task, which costs two to ten allocations, though no row is there, wherever one begins; and their
+        number is the greatest prime up to the one that is given."""
+        # (so long that room is taken for 16 rows or more of each partition)
         empty = self.file("empty", bytes(262_144))
         for words, given in (([empty], b""), ([empty, "--morsel", 262_144], b""), (["-"], empty)):
             words = [program(), *words, "sales", "--workers", 1, "--partitions"]
-            few, some, more = (self.counted(*words, count, input=given)[1].heap.allocations for count in (2, 67, 131))
-            self.assertTrue(2 * 65 <= some - few < 10 * 65 and 2 * 64 <= more - some < 10 * 64, f"{words}: {few} {some} {more}")
+            few, some, same, more = (self.counted(*words, count, input=given)[1].heap.allocations for count in (2, 67, 70, 131))
+            self.assertTrue(2 * 65 <= some - few < 10 * 65 and 2 * 64 <= more - same < 10 * 64, f"{words}: {few} {some} {more}")
+            self.assertEqual(some, same, f"{words}: 70 isn't taken as 67, a prime")

@@ -2,7 +2,7 @@
 shows stands in the file where it says; what else it prints, and its faults; and that its memory doesn't grow with the file."""
 import re, sys
 
-from itch import OPEN, SECOND, attributed, broken, cross, executed, executed_at, frame, message, named, order, replaced, trade
+from itch import OPEN, SECOND, broken, cross, executed, executed_at, frame, message, named, named_alone, order, replaced, trade
 from run import EXAMPLE, TOP, Case, on_terminal, program, run
 
 TOOL, TEXTS = TOP / "bin/trace_sales", TOP / "check/test_trace.txt"
@@ -18,9 +18,9 @@ def after(seconds, nanoseconds=0):
 EDGES = [
     frame(b""), message("S", 0, after(-1), "O"), named(1, "AB", 0), named(3, "OLD", 0),
     message("R", 5, 0, "A,B C", "Q", "N", 1, "N", "C", b"Z ", "T", "N", "N", "1", "N", 0, "N"),
-    message("R", 6, 0, "LONGNAME", " ", " ", 0x20202020, " ", " ", b"  ", " ", " ", " ", " ", " ", 0x20202020, " "),
+    named_alone(6, "LONGNAME"),
     broken(113, 1, after(-1)),
-    order(1, 1, after(-1), 1_000_000), attributed(3, 1, after(-1), 4_294_967_295),
+    order(1, 1, after(-1), 1_000_000), order(3, 1, after(-1), 4_294_967_295, 100, "MSFT", "NSDQ"),
     order(7, 1, after(-1)), replaced(7, 8, 4_105_100, 1, after(-1)),
     executed(1, 100, 1, after(0, -1)), executed(1, 101, 1, after(0)), executed(1, 102, 2, after(0, 1)),
     replaced(1, 2, 1_000_100, 1, after(1)),
@@ -183,7 +183,7 @@ class Trace(Case):
         """With 30 megabytes of what isn't asked for below it, a day is traced in the same memory."""
         few = [AB, GIVEN, SALE, broken(2), trade(2, price=5), named(2, "XY")]
         others = [
-            order(it, 1, price=7) + attributed(2**60 + it, 2) + executed(it, it, 2) + trade(it, 1, after(60)) + cross(it, 2)
+            order(it, 1, price=7) + order(2**60 + it, 2, OPEN, 7, 100, "MSFT", "NSDQ") + executed(it, it, 2) + trade(it, 1, after(60)) + cross(it, 2)
             + named(2, f"X{it}") + message("S", 0, OPEN, "S")
             for it in range(10, 120_000)
         ]  # fmt: skip

@@ -1,4 +1,10 @@
-//! What the answer to a query over a day file is, for each program that answers one.
+//! The definition of the answer to a query over a day file (`IsAnswer`), below every program that answers one, and the
+//! texts of sales and of bars, which threads make in ranges. Three laws: a file and a query have at most one answer
+//! (`one_answer`), the counted messages and their places decide it (`counted_messages_decide`), and a moment past all
+//! messages changes nothing (`moment_past_all`).
+//!
+//! Not proved: that `IsAnswer` is what a user means, or agrees with the exchange's own figures. The crate
+//! `proved_cases` computes what it says of small days.
 #![tactic(auto)]
 
 mod answer;

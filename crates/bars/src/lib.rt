@@ -1,7 +1,11 @@
-//! Bars: what the sales of one locate were in each interval of the day, with exact averages.
+//! Bars: the first, high, low and last price of one locate in one interval of the day, the volume, the notional, the
+//! number of trades and the exact average (`Bar`). A `BarTable` has one bar for each locate and interval with sales,
+//! whatever their order, and tables of two lists of sales merge into the table of both. A `BucketBars` holds its bars
+//! as bars, or as the sales that they are of if these are fewer than sixteen a bar; contracts see bars either way.
+//! That no sum wraps is an invariant of the types.
 //!
-//! A table has a bar for each locate and interval in which there was a sale. Tables of two lists of
-//! sales merge into the table of both lists together, whatever the order of the sales.
+//! Not proved: which form a bucket takes, which thread writes which range of locates, and whether it joins them in a
+//! grid or by sorted keys. The text is the same.
 #![tactic(auto)]
 
 mod average;

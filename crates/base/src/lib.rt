@@ -1,5 +1,7 @@
-//! What all layers share: the definitions and lemmas on lists that no layer is about, in `specs/` and
-//! `proofs/`; the earlier of two things; the limits of the product; and the refusal of a growth.
+//! What all layers share: definitions and lemmas on lists, and on tests of equality, that belong to no layer; the
+//! earlier of two things that stand at places (`earlier`); the limits of the product (`limits`); and the refusal of a
+//! growth (`OutOfMemory`). Beside each limit a `prove!` says its number once more, so a wrong one is refused while the
+//! crate is read.
 #![tactic(auto)]
 
 pub mod limits;

@@ -1,5 +1,12 @@
-//! A file that several threads read and scan side by side. Each reads a block of it through one
-//! small buffer and keeps what the messages of the block give, not its bytes.
+//! The scan of a file that several threads read side by side, at offsets. `BlockWork` reads a block through one small
+//! buffer and keeps what its messages give, not its bytes; `Attempts::join` chains the pieces of all blocks to the scan
+//! of the whole file. A block may begin within a message, so `guess` looks for a frame boundary. Nothing rests on the
+//! guess: a piece that doesn't begin where the one before it ends is read again from there. A block that is read twice
+//! may fail once, and the piece that came second is dropped; so a `Watch` notes each failure, and tells whoever knows
+//! of one.
+//!
+//! Not proved: that whoever reads does so under a watch, and asks it; how often a byte is read, and that the byte at
+//! the limit is asked for first; what a `File` holds, of which std names no bytes.
 #![tactic(auto)]
 
 mod attempt;

@@ -1,7 +1,6 @@
-//! The match numbers of broken trades, by which `keep` of `probe` removes those trades.
-//!
-//! A break removes every trade with its match number, wherever it stands in the file, so all that
-//! is kept of the breaks is the set of their numbers.
+//! The match numbers that broken trade messages name (`Breaks`). A break removes every trade of its number, wherever in
+//! the file it stands, so the numbers are all that is kept. The crate drops no trade itself; `keep` of `probe` does. A
+//! union that is refused memory leaves the set as it was.
 #![tactic(auto)]
 
 mod breaks;

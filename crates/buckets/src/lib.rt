@@ -1,8 +1,10 @@
-//! Buckets: of all rows of a day those of one partition, and what is found in them.
+//! Buckets: of all rows of a day those of one partition, and what is found in them (`BucketWork`, the work of the
+//! second pipeline). An execution and the orders of its reference are in one partition, so each bucket prices its own
+//! executions, drops what is broken or not selected, and lists the rest. What it finds is that list, or a repeated or
+//! an unknown reference; a total keeps the one of least place of each sort.
 //!
-//! An execution and the orders of its reference are in one partition, so each bucket prices its
-//! own executions. What is found in it is a fault, or what a query lists of its sales; what is found
-//! in all buckets is kept bucket by bucket, and merged by whoever takes the total.
+//! Not proved: whether orders are searched where they lie, which `RisingOrders` allows if references rise, or copied to
+//! a table, and how many of them the filter lets through. What is found is the same.
 #![tactic(auto)]
 
 mod bucket;

@@ -1,7 +1,11 @@
-//! A day file of TotalView-ITCH messages: its frames, and cuts of it into morsels of whole frames.
+//! A day file of TotalView-ITCH messages: its frames, how it ends, and its cut into morsels.
 //!
-//! In a day file each message stands after its length, two bytes, the high one first, which does
-//! not count itself. A length with its body is a frame, and so is a length of 0 alone.
+//! A frame is a message behind its length: two bytes, the high one first, which don't count themselves; a length of 0
+//! alone is a frame, too. A morsel is the shortest run of frames that reaches the target length. `Frames` walks over
+//! bytes that are there; a `Cutter` is fed a stream in pieces, gives away the morsels that it has so far, and ends with
+//! the cut or the refusal that `cut` gives of all bytes at once. A piece that is refused memory can be fed again.
+//! `specs/Sources` says what is known of a source that was read, in order or at places, and `SourceFault` why it gives
+//! no day. Changed bytes within a message are no fault: frames have no checksum.
 #![tactic(auto)]
 
 mod cutter;

@@ -1,6 +1,13 @@
-//! All that answers a query over a whole day file: by threads (`runs`), and, here, by one thread with all rows at once
-//! (`plain`), and by two lists of events, on one thread, as threads answer it in whatever order they finish:
-//! rehearsals. Laws say that the order decides nothing.
+//! All ways to answer a query over a whole day file: on threads (`runs`), and here on one thread and by rehearsal. The
+//! program doesn't stand on this crate.
+//!
+//! `plain`: the answer by one thread, with all rows of the day in one partition. `src/answering.rt` is the shortest way
+//! from bytes to an answer and the best file to read first. Its clause is `IsAnswer` and names no table, row, morsel or
+//! thread. A truncated file comes before a wrong length, that before a repeated reference, and that before an unknown
+//! one.
+//!
+//! `rehearse` takes a cut and two lists of events, which say in what order pieces arrive, are repeated, lost and
+//! merged, and gives on one thread the answer that threads would give, or the first task that is missing.
 #![tactic(auto)]
 
 mod answering;

@@ -1,9 +1,12 @@
-//! Pieces of work, gathered in any order into one total.
+//! Joins the pieces of a work, which come in any order, repeated or not, into the total of all its inputs.
 //!
-//! A task is run on one input, and gives a piece. A gathering takes pieces as they come, repeated or not, and is merged
-//! with others over the same inputs. Once each task is covered it gives the total of all inputs, in order. It refuses a
-//! piece of other work, a gathering over other inputs, and a total if a task is missing or memory runs out. A link
-//! makes the inputs of the next pipeline of a total.
+//! A task is run on one input, and gives a piece. A `Gathering` keeps the total of its first tasks up to a gap, and the
+//! pieces behind it; it refuses a piece of other work, a gathering over other inputs, and a total if a task is missing
+//! or memory runs out. Merging is commutative, associative and idempotent (`merge_is_a_join`), so several threads may
+//! gather. A `Link` makes the inputs of a second pipeline of a total, or halts.
+//!
+//! Not proved: that a piece is added once, that a refused addition is tried again, and that a task is run once; that a
+//! link succeeds if there is memory.
 #![tactic(auto)]
 
 mod gather;

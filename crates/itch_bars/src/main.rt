@@ -1,4 +1,8 @@
-//! Answers a query over a day file of Nasdaq TotalView-ITCH 5.0.
+//! The program, which answers a query over a day file of Nasdaq TotalView-ITCH 5.0. `main` collects its words, hands
+//! the system's files and the streams to `command_line`, and ends with the status that it is given.
+//!
+//! Not proved: that the words, the streams and the status are passed on as they are. No clause can say what stands in a
+//! file system or on a terminal; runs of the built program show it.
 #![tactic(auto)]
 
 use command_line::{Counted, CountedSink, Job, WordsFault, command, explain, reading_fault, start};

@@ -1,7 +1,6 @@
-//! What a query means: what is listed and of which sales; and which sales it selects, once the
-//! names of the day's locates are known.
-//!
-//! Times and widths are in seconds.
+//! What a query means: what is listed, and of which sales. `selection` gives the sales it selects once the names of the
+//! day's locates are known: the locates from 0 to 65,535 whose names are listed, the span and the kinds. Without
+//! symbols it never runs out of memory. Times and widths are in seconds.
 #![tactic(auto)]
 
 mod query;

@@ -1,7 +1,8 @@
-//! The rows of one morsel of a day file, in partitions.
+//! The rows of one morsel, in partitions: orders and executions in that of their reference, so that they meet in one
+//! bucket, and sales with a price of their own in that of their place. Breaks and directory rows are few, and stand
+//! together. A message past the moment adds nothing.
 //!
-//! Orders and executions stand in the partition of their reference, sales that have a price of their
-//! own in that of their place; breaks and directory rows are few, and stand together.
+//! Not proved: when a partition takes memory, and that one without rows gives it back.
 #![tactic(auto)]
 
 mod partition;

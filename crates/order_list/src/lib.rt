@@ -1,12 +1,13 @@
-//! Order rows in little memory, and which of them are needed.
+//! Order rows in little memory, and which of them are needed. A row takes 12 bytes as long as places and references lie
+//! close together, as in a morsel of a day, and 20 where they don't; contracts see one list of rows. Rows whose
+//! references rise are searched where they lie (`RisingRows`).
 //!
-//! As long as places and references lie close together, as in a morsel of a day, a row takes 12 bytes. Rows whose
-//! references rise are searched where they lie.
+//! Of others a table needs those alone whose references executions have, or that may repeat one, and most orders of a
+//! day are never executed. A bitmap (`OrderFilter`) finds these without a sort: a semi-join with bits that references
+//! share, so that some rows are kept for nothing and none is lost.
 //!
-//! A table of orders that lie in no order needs those alone whose references executions have, and those that may repeat
-//! one: most orders of a day are never executed, and hardly any repeats a reference. A bitmap filter finds these
-//! without a sort: a semi-join of orders with executions, with bits that references share, so that some rows are kept
-//! for nothing and none is lost.
+//! Not proved: how many bytes a row takes, and how many rows are kept for nothing. A filter that keeps all meets each
+//! clause.
 #![tactic(auto)]
 
 mod bits;

@@ -1,8 +1,9 @@
-//! The order rows of a day file, and the table that prices an execution by the first row of its order reference.
+//! The order rows of a day file, and the table that prices an execution: for each order reference the row of least
+//! place, whatever the order in which rows come. A row stands at its place, the byte offset of its message in the file.
 //!
-//! Rows come in any order. A row stands at its place, the byte offset of its message in the file, and "first" goes by
-//! place. A table has the rows in the order of their references, so that the first row of each is found by a binary
-//! search, and building one tells of the first row that repeats a reference.
+//! A table has the rows by reference and place, reports the repeated one of least place, and finds a reference by an
+//! interpolation search (`first_of`), which gives the same row wherever it begins. `partition` is the partition of a
+//! reference, `greatest_prime` the number of partitions. `PricesExecutions` is what any such table promises.
 #![tactic(auto)]
 
 mod partitions;

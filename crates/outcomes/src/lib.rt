@@ -1,4 +1,6 @@
-//! How a run of a query may end without an answer, and the settings that it is given.
+//! How a run may end without an answer (`DayFault`, `QueryFault`, `RunFault`), and the settings that it is given
+//! (`Settings`, `Crew`). The numbers of settings are in their ranges by their types, so no function tests them. The
+//! texts of faults, which `thiserror` derives, have no clause.
 #![tactic(auto)]
 
 mod crew;

@@ -1,9 +1,13 @@
-//! Pipelines of work on threads: one (`run_pipeline`), or two, of which the second works on what a link makes
-//! of the first one's total (`run_pair`; `run_alone`, on the caller's thread and without any handle).
+//! Pipelines of work on threads: one (`run_pipeline`), or two, of which the second works on what a link makes of the
+//! first one's total (`run_pair`), and each of the two alone (`run_first`, `run_second`). `run_alone` runs both on the
+//! caller's thread, needs no handle and is proved to return.
 //!
-//! Workers claim tasks of a dispatcher, run them and send the pieces to gatherers, of which the
-//! caller's thread is the first. The caller runs itself what no worker brought. Neither the crew nor the
-//! schedule of its threads changes a total or an answer.
+//! Workers claim tasks of a dispatcher, run them and send the pieces to gatherers, of which the caller's thread is the
+//! first; the caller runs what no worker brought. The outcome is that of both works on their whole lists of inputs,
+//! whatever the threads do. Inputs are compared by their numbers, which is proved to be enough (`KnownInput`).
+//!
+//! Not proved: that calls with threads return, that threads start and work at once, and that a slow task is given
+//! again. What starts threads and makes channels has no clause, since the total is the same without them.
 #![tactic(auto)]
 
 mod alone;

@@ -1,8 +1,8 @@
 //! Prices the executions of a day, and keeps the sales that a query asks for.
 //!
-//! An execution probes the table of orders by its reference, and becomes a sale at the price of the
-//! first order that gave it. Of all sales those stay that have shares, that the query's selection
-//! admits, and whose match number no break has.
+//! An execution probes the table of orders by its reference, and becomes a sale at the price of the first order that
+//! gave it, if that stands before it (`price_all`, `price_into`). Those sales stay (`keep`) that have shares, that no
+//! break names and that the selection admits: by locate, kind, and a span with its start and without its end.
 #![tactic(auto)]
 
 mod keeping;

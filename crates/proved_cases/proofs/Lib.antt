@@ -2,7 +2,6 @@ mod Bars
 mod Computed
 mod Days
 mod Faults
-mod Messages
 mod Moments
 mod Places
 mod Sales

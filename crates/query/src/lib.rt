@@ -1,8 +1,9 @@
-//! The query language: a text is read as a query. What a query means, and which sales it selects,
-//! is in the crate `meaning`, which this one exports too.
+//! The query language: `parse` reads a text as a query, or gives the first fault from the left, with its offset in
+//! bytes. What a query means is in the crate `meaning`, which this one exports too. Times and widths are in seconds.
 //!
-//! The grammar is in specs/Grammar, the first fault of a text in specs/Faults. Offsets are in
-//! bytes from the text's start, times and widths in seconds.
+//! The grammar is `specs/Grammar`, the faults are `specs/Faults`. That these are what a reader means by the first fault
+//! has to be believed; the law `fault_of_first_wrong_word` of `canonical_query` says the same by the grammar, both
+//! ways. `parse` runs out of memory only if the text lists symbols.
 #![tactic(auto)]
 
 mod parsing;

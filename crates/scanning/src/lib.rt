@@ -1,5 +1,11 @@
-//! The first step of a query in morsels: what the counted messages of each morsel give, in
-//! partitions, and the least wrong length. Morsels are scanned in any order, on any thread.
+//! The work of the first pipeline (`ScanWork`): of a morsel the rows of its counted messages, in partitions, and its
+//! wrong length of least place. Neighbouring morsels can be one input (`ScanInput`, `AreJoined`), which is seen as one
+//! morsel: so their lists of rows are as long as a block's. An `OpenScan` takes in frames as they are read, in morsels
+//! and in blocks; a `ScanTotal` shares the rows of its inputs and copies none. Inputs add up only if they are morsels
+//! of one cut that follow each other (`AreConsecutive`).
+//!
+//! Not proved: that the capacity that a scan takes at once is enough, or needed; that as many morsels are one input as
+//! may be; and that a scan that was refused memory has all frames before the refused one. None changes an answer.
 #![tactic(auto)]
 
 mod cut_inputs;

@@ -1,7 +1,8 @@
-//! Pipelines of work on one thread, by schedules: lists of events that happen to the gatherings, in order.
+//! Two pipelines on one thread, by schedules: lists of events that happen to the gatherings, in order. `rehearse_pair`
+//! gives one outcome, that of threads, for any two schedules by which each task arrived somewhere, and otherwise the
+//! first task that is missing. The program doesn't stand on this crate.
 //!
-//! `rehearse_pair` gives what two pipelines on threads give, for any two schedules by which each task
-//! arrived somewhere, or the first task that is missing.
+//! Not proved: that an arrival runs its task once, and that nothing else runs.
 #![tactic(auto)]
 
 mod event;

@@ -1,4 +1,8 @@
-//! Devices that take bytes, and how a whole text is written to one.
+//! What takes bytes (`Sink`; `CountedSink` over any writer), and how a text is written to it whole and flushed
+//! (`deliver`, `deliver_pieces`). A delivery that fails says how many first bytes were taken. An error of the writer,
+//! an interruption too, is a failure, and so is a write of no byte of a slice that isn't empty.
+//!
+//! Not proved: that a writer is called once a call and never after its error.
 #![tactic(auto)]
 
 mod counted_sink;

@@ -1,4 +1,9 @@
-//! Sources of bytes, and a day file in memory, which is read from one.
+//! What gives bytes in order (`Source`; `Counted` over any reader), and a day file in memory (`DayFile`), which
+//! `read_day` reads up to a limit: a source is too long only if it gave a byte more. An error of the reader, an
+//! interruption too, is a failure.
+//!
+//! Not proved: that a reader isn't called again after an error; what a real file or pipe holds, of which std names no
+//! bytes.
 #![tactic(auto)]
 
 mod counted;

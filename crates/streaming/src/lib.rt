@@ -1,4 +1,8 @@
-//! A day file that is cut into morsels, batch by batch, while it is read from a source of bytes.
+//! Cuts a stream into morsels while it is read, batch by batch (`BatchReader`), so that no more than a batch has to be
+//! kept. The batches, joined, are the cut of all that the source gave, and a refusal is that of all its bytes.
+//! `specs/Readings` says what is known of a source that is read in order.
+//!
+//! Not proved: how many bytes a batch has.
 #![tactic(auto)]
 
 mod batch;

@@ -1,7 +1,7 @@
-//! The tests of what answers a query: of the calls' devices, of the threads that there are and what they run, and of
-//! refused memory. The answers to days, by every crew and by rehearsals over days whose pieces arrive in any order, are
-//! repeated, lost and merged, are those of the stored run of `answer_cases`. And of what the stored run of
-//! `answer_cases` can't see of the program's words, statuses and lines.
+//! Tests of `plain`, `run`, `run_blocks`, `rehearse` and the command line, where no clause speaks: that they succeed
+//! once there is memory, and with each allocation refused in turn; which threads there are and what each runs, while a
+//! gate holds or counts runs; devices that fail at some call. Answers to days, by every crew and by rehearsals, are
+//! cases of `answer_cases`. What is shown here and proved nowhere, `docs/PROOFS.md` lists.
 #![tactic(auto)]
 
 #[cfg(test)]

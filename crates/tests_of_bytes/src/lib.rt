@@ -1,5 +1,6 @@
-//! The tests of how bytes are read and scanned: of the crates `itch_messages`, `day_file` and `streaming`, of the scans
-//! that a rehearsal's gatherers are given, and of reading and scanning at once.
+//! Tests of how bytes are read, where no clause speaks: bodies byte by byte, frames and ends, cuts and batches, with
+//! each allocation refused in turn; readers that fail or give few bytes a call; and blocks whose pieces arrive in any
+//! order, which read no byte twice without need. What is shown here and proved nowhere, `docs/PROOFS.md` lists.
 #![tactic(auto)]
 
 #[cfg(test)]

@@ -1,5 +1,6 @@
-//! Tests of what `gathering` and `dispatcher` give their callers; and of `pipelines` and `schedules`, of what their
-//! contracts don't say: which runs are made, on which threads, in which order, and what comes if memory is refused.
+//! Tests of `gathering`, `dispatcher`, `pipelines` and `schedules`, where no clause speaks: which runs are made, on
+//! which threads, in which order and when; that a piece is added once and a slow task given again; when a gate is
+//! called; what comes of refused memory. What is shown here and proved nowhere, `docs/PROOFS.md` lists.
 #![tactic(auto)]
 
 #[cfg(test)]

@@ -1,6 +1,6 @@
-//! Tests of the crates of rows: the table of orders, the lists of them, the broken trades, the sales that are
-//! priced and kept; of those of texts: names, listings, tables of bars and the texts of all of them; and of `query`,
-//! `meaning` and `canonical_query`: that each call which takes memory succeeds if there is memory.
+//! Tests of the crates of rows, texts and queries, where no clause speaks: that each call succeeds once there is memory
+//! and leaves what stood if it is refused; how many bytes a list takes, which rows are searched where they lie, and how
+//! few orders are kept for nothing. What is shown here and proved nowhere, `docs/PROOFS.md` lists.
 #![tactic(auto)]
 
 #[cfg(test)]

@@ -1,12 +1,13 @@
-//! What the tests of several crates share.
-//!
-//! Of bytes: sources, readers and writers that give or take few bytes a call and fail at some call, bytes in memory as a
-//! file that is read at places, and day files that are made of one form for each frame, which may be written as text.
+//! What the tests of several crates share. Of bytes: sources, readers and writers that give or take few bytes a call
+//! and fail at some call; bytes as a file that is read at places (`in_memory`); and day files that are made of one
+//! `Form` for each frame, which may be written as text. That `Trickle` keeps the laws of `Source` is proved, as of
+//! every source.
 //!
 //! Of pipelines: a work whose inputs are numbers and whose total is their sum. All inputs of a test, their values and
-//! what else the test makes share a `Watch`. It counts runs and growths, refuses the growths that a test names, and lets
-//! two runs wait for one another. Of the gates one holds runs until it hears what they wait for, one counts runs. And
-//! there is a port that keeps what it is sent.
+//! what else the test makes share a `Watch`. It counts runs and growths, refuses the growths that a test names, and
+//! lets two runs wait for one another. Of the gates `Warden` holds runs until it hears what they wait for, and
+//! `Counter` counts them. And there is a port that keeps what it is sent. They count by atomics, whose values no
+//! contract can name.
 #![tactic(auto)]
 
 mod counter;

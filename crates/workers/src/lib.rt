@@ -1,5 +1,8 @@
-//! What a worker of a pipeline does: it claims tasks, runs them and sends their pieces to a port; and the runs of tasks
-//! on the thread that has the gathering. A gate hears of each run.
+//! What a worker of a pipeline does (`work`): it claims tasks of a dispatcher, runs those that aren't marked, sends
+//! their pieces to a `Port`, and marks what the port took. `run_missing` runs on the gathering's thread what no worker
+//! brought. A `Gate` hears of each run, and nothing depends on it.
+//!
+//! Not proved: that a worker sends anything. `sent` speaks of ports that tell what they took, and a channel doesn't.
 #![tactic(auto)]
 
 mod caller_runs;
