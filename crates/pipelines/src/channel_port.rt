@@ -3,8 +3,6 @@ ghost use Rattle.std.specs.Prelude.{[]};
 
 use crossbeam_channel::Sender;
 use std::sync::Wait;
-use std::thread::Parker;
-use std::time::Duration;
 use workers::Port;
 
 /// Sends into a channel. It refuses a message if the receiver is gone or there is no memory, and tells nothing.
@@ -30,10 +28,5 @@ impl<M: Drop, R: Wait> Port<M> for ChannelPort<'_, M, R> {
         self.to
             .send(self.rt, message)
             .map_err(|refused| refused.into_inner())
-    }
-
-    /// It sleeps a microsecond more each time, so that waiting takes hardly any processor time: nobody wakes it.
-    fn pause(&self, before: u64) {
-        Parker::new().park_timeout(self.rt, Duration::from_micros(before));
     }
 }

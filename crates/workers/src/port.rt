@@ -1,8 +1,6 @@
 //! Where a worker's pieces go.
 ghost use Rattle.std.specs.Prelude.{◌≡◌, ◌++◌, ◌∷◌, [], List, MatchResult, IfErr};
 
-use std::thread::yield_now;
-
 /// Takes messages from one thread, as the pieces that a worker makes.
 /// It is generic over its message: an implementation over a work that only an associated type names gets no proof.
 pub trait Port<M> {
@@ -18,10 +16,4 @@ pub trait Port<M> {
         ensures taken { Tells → MatchResult result
             (λ _. taken self.new ≡ taken self.old ++ message ∷ [])
             (λ _. taken self.new ≡ taken self.old) };
-
-    /// What a worker does while another one may be at a task that both were given: it lets some time pass, and the more
-    /// the more often it did before.
-    fn pause(&self, _before: u64) {
-        yield_now()
-    }
 }

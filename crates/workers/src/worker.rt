@@ -11,13 +11,14 @@ use dispatcher::{Claim, Dispatcher, Seat};
 use gathering::{Inputs, Piece, Work};
 use std::alloc::Global;
 use std::sync::Arc;
+use std::thread::yield_now;
 
 /// How often a worker looks for the mark of a task that it is given again, for each other worker that may be at work,
-/// and at most: where processors are few, they take turns. Most runs have ended by then. If one hasn't, the task is run
-/// a second time, so that nothing waits for ever.
-const LOOKS_A_WORKER: u64 = 64;
+/// and at most: where processors are few, these take turns. Most runs have ended by then. If one hasn't, the task is
+/// run a second time, so that nothing waits for ever.
+const LOOKS_A_WORKER: u64 = 1 << 10;
 
-const MOST_LOOKS: u64 = 256;
+const MOST_LOOKS: u64 = LOOKS_A_WORKER * MOST_SEATS as u64;
 
 /// Claims until no task is left, and runs each task that is not marked yet: it calls the gate,
 /// makes the task's piece, sends it, and marks the task once the port took it.
@@ -48,7 +49,7 @@ pub fn work<W: Work, P: Port<Piece<W>>, G: Gate>(
     let mut refused = 0;
     while let Claim::Task { claim, task } = dispatcher.claim(seat) {
         let round = if claim < tasks { 0 } else { 1 };
-        if !is_done(dispatcher, seat, port, task, round) {
+        if !is_done(dispatcher, seat, task, round) {
             gate.before(pipeline, task, round);
             match serve(alloc, inputs, port, task) {
                 Some(()) => dispatcher.mark(seat, task),
@@ -60,13 +61,7 @@ pub fn work<W: Work, P: Port<Piece<W>>, G: Gate>(
 }
 
 /// Whether the task is marked. In the second round it is looked at for a while: mostly its first run is about to end.
-fn is_done<M, P: Port<M>>(
-    dispatcher: &Dispatcher,
-    seat: &mut Seat,
-    port: &P,
-    task: u32,
-    round: u8,
-) -> bool
+fn is_done(dispatcher: &Dispatcher, seat: &mut Seat, task: u32, round: u8) -> bool
     requires own { IsSeatOf dispatcher.now seat.old }
     requires task { task < tasks_of dispatcher.now }
     ensures same { IsSameSeat seat.old seat.new }
@@ -84,7 +79,7 @@ fn is_done<M, P: Port<M>>(
         if look >= LOOKS_A_WORKER * others_at_work(dispatcher, seat) {
             return false;
         }
-        port.pause(look);
+        yield_now();
     }
     dispatcher.is_marked(seat, task)
 }
