@@ -19,12 +19,13 @@ use std::mem;
 /// The most bytes that one call asks of a source.
 const PIECE: usize = 65_536;
 
-/// The C library heeds no vector of 32 MiB or more that is let go.
-const MOST_HEEDED: u64 = 31 << 20;
+/// How many bytes more than the open morsel takes are asked for, so that the end of its last frame is among them.
+const BEHIND: u64 = 4_096;
 
 /// Reads a source of at most `limit` bytes to its end, and cuts what it gives into batches of morsels, which are,
 /// joined, the morsels of the whole: each is the shortest run of frames that has at least `target` bytes, or the rest.
-/// Besides a batch it holds no more than a morsel that is not full yet, and a piece of at most 65,536 bytes.
+/// Besides a batch it holds no more than a morsel that is not full yet, a piece of at most 65,536 bytes, and the
+/// vectors of batches that were given back.
 #[derive(Drop)]
 pub struct BatchReader {
     alloc: Global,
@@ -59,7 +60,6 @@ impl BatchReader {
         ensures same { IfOk result (λ reader. (reader.limit ≡ limit) × (reader.target ≡ target)) }
         ensures none { IfOk result (λ reader. HasRead reader [] []) }
     {
-        keep_what_is_freed(alloc, target);
         Ok(BatchReader {
             alloc,
             limit,
@@ -110,6 +110,14 @@ impl BatchReader {
         last_batch(cutter, self.first, self.start)
     }
 
+    /// Takes a batch that isn't needed any more: the next morsels stand in the vectors of those of its morsels that
+    /// nobody else holds.
+    pub fn reuse(&mut self, batch: Batch)
+        ensures { self.new ≡ self.old }
+    {
+        self.cutter.reuse(batch.cut);
+    }
+
     // Feeds the cutter what one call of the source gives, and says whether it gave any byte.
     fn feed<S: Source>(&mut self, source: &mut S) -> Result<bool, SourceFault>
         requires source { S.has_failed source.old ≡ false }
@@ -125,7 +133,9 @@ impl BatchReader {
         ensures failed { IsErrOf result SourceFault.ReadFailed ↔ (S.has_failed source.new ≡ true) }
     {
         let left = self.limit - self.length();
-        let taken = feed_next(source, &mut self.cutter, &mut self.piece, left)?;
+        let open = self.cutter.length() - self.cutter.cut_so_far().length();
+        let most = asked(self.target, open, self.piece.len());
+        let taken = feed_next(source, &mut self.cutter, &mut self.piece, most, left)?;
         Ok(taken > 0)
     }
 
@@ -157,25 +167,34 @@ impl BatchReader {
     }
 }
 
-// Has the C library keep the memory of morsels for the next ones. By itself it maps each vector of more than 128 KiB
-// anew, whose pages are then touched for the first time; once a longer vector was let go, it maps none that is shorter.
-fn keep_what_is_freed(alloc: Global, target: u64) {
-    let longest = target.saturating_add(3 * PIECE as u64);
-    let longer = longest.saturating_mul(2).min(MOST_HEEDED);
-    let _ = Vec::<u8>::with_capacity(alloc, longer as usize);
+// How many of the bytes that there is room for a call asks of a source, if so many wait to be cut: where morsels are
+// longer than that, little more than the open one still takes, so that little is copied into the vector of the next.
+fn asked(target: u64, open: u64, room: usize) -> usize
+    requires target { 0 < target }
+    requires room { 0 < room }
+    ensures some { 0 < result }
+    ensures within { result ≤ room }
+{
+    if target < room as u64 {
+        return room;
+    }
+    let lacks = target - open % target;
+    lacks.saturating_add(BEHIND).min(room as u64) as usize
 }
 
-// Feeds the cutter what one call of the source gives, at most what has room in `piece`, and says how many bytes those
-// are. No more than `left` and one more are asked for.
+// Feeds the cutter what one call of the source gives, at most the bytes that are wanted, for which `piece` has room, and
+// says how many those are. No more than `left` and one more are asked for.
 #[tactic(auto, using(sources::proofs::Given::some_given))]
 fn feed_next<S: Source>(
     source: &mut S,
     cutter: &mut Cutter,
     piece: &mut [u8],
+    wanted: usize,
     left: u64,
 ) -> Result<usize, SourceFault>
     requires source { S.has_failed source.old ≡ false }
-    requires room { 0 < length piece.old }
+    requires some { 0 < wanted }
+    requires room { wanted ≤ length piece.old }
     requires left { fed_length cutter.old + left ≤ LONGEST_FILE }
     ensures fed { IfOk result (λ count. (taken : List ℕ) × (length taken ≡ count) × S.Gave source.old source.new taken
         × ((fed : List ℕ) → HasFed cutter.old fed → HasFed cutter.new (fed ++ taken))) }
@@ -189,7 +208,7 @@ fn feed_next<S: Source>(
         → IsSourceFault (of_stream S.Source limit target before source.new) fault) }
     ensures failed { IsErrOf result SourceFault.ReadFailed ↔ (S.has_failed source.new ≡ true) }
 {
-    let most = (left + 1).min(piece.len() as u64) as usize;
+    let most = (left + 1).min(wanted as u64) as usize;
     let taken = source.take(&mut piece[..most])?;
     if taken as u64 > left {
         return Err(SourceFault::TooLong);

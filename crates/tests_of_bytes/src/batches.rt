@@ -38,7 +38,7 @@ struct Way {
     batch: u64,
 }
 
-/// Reads all batches of a source.
+/// Reads all batches of a source, and gives each back to the reader once it is added.
 fn read_batches<S: Source>(alloc: Global, source: &mut S, way: Way) -> Result<Joined, SourceFault> {
     let mut reader = BatchReader::new(
         alloc,
@@ -60,6 +60,7 @@ fn read_batches<S: Source>(alloc: Global, source: &mut S, way: Way) -> Result<Jo
         if batch.is_last {
             break;
         }
+        reader.reuse(batch);
     }
     Ok(joined)
 }

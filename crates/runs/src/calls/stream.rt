@@ -60,6 +60,7 @@ pub(crate) fn scan_source<R: Threads + Wait + Sync, S: Source>(
     let parts = settings.parts;
     while !batch.is_last {
         let (scans, next) = scan_ahead(rt, alloc, &batch, as_of, parts, crew, &mut reader, source);
+        reader.reuse(batch);
         batch = next?;
         take_in(&mut total, scans)?;
     }
