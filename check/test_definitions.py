@@ -18,24 +18,8 @@ PROGRAM = {"command_line": ["start", "perform", "perform_blocks"], "runs": ["run
 DEVICES = ["sources/src/counted.rt", "block_scan/src/file_blocks.rt", "sinks/src/counted_sink.rt", "command_line/src/day_files.rt"]
 # How the second line of a file of specs/ begins, or is, by the first of these kinds that one of its definitions is of.
 SECONDS = {"program": "-- To be believed.", "crate": "-- To be believed of a crate used by itself", "proofs": "-- Derived: "}
-# The headings under which the definitions of each crate stand, in this order.
-SUBJECTS = {
-    "Lists": ["base"],
-    "Bodies (sections 1.2 to 1.5)": ["itch_messages"],
-    "Frames and sources of bytes": ["sources", "day_file", "streaming", "block_scan"],
-    "Orders (sections 1.3, 1.4.5)": ["order_table"],
-    "Trades and sales (sections 1.4.1, 1.4.2, 1.5)": ["row_types", "probe"],
-    "Names, listings and texts (section 1.2.1)": ["time_and_sales"],
-    "Bars": ["bars"],
-    "Queries": ["meaning", "query", "canonical_query"],
-    "Answers": ["day_rows", "answers"],
-    "Runs": ["runs", "sinks", "executor"],
-    "The command line": ["arguments", "command_line"],
-    "Sharing work": ["gathering", "dispatcher", "workers", "pipelines", "schedules"],
-    "Works": ["order_list", "morsel_rows", "scanning", "buckets", "planning"],
-}
 BEGINS, ENDS = "<!-- {}: check/test_definitions.py writes what follows -->", "<!-- to here -->"
-DOCUMENT = TOP / "docs/DEFINITIONS.md"
+DOCUMENT, SUBJECT = TOP / "docs/DEFINITIONS.md", r"(?m)^### .*"
 
 
 def functions():
@@ -92,11 +76,10 @@ def members():
 
 
 def written(text):
-    """The document with its tables as they are to be."""
-    by_subject = [(title, rows_of("program", group)) for title, group in SUBJECTS.items()]
-    of_program = [line for title, rows in by_subject if rows for line in ("", f"### {title}", *rows)]
-    of_crates = rows_of("crate", [crate for group in SUBJECTS.values() for crate in group])
-    for part, lines in (("members", members()), ("program", of_program[1:]), ("crate", of_crates)):
+    """The document with its tables as they are to be. Its headings name the crates whose definitions stand below them."""
+    by_subject = [(head, rows_of("program", words_in(head))) for head in re.findall(SUBJECT, text)]
+    of_program = [line for head, rows in by_subject if rows for line in ("", head, *rows)]
+    for part, lines in (("members", members()), ("program", of_program[1:]), ("crate", rows_of("crate", PRODUCT))):
         before, begin, rest = text.partition(BEGINS.format(part))
         assert ENDS in rest, f"docs/DEFINITIONS.md has no place for the {part}"
         text = "\n".join([before + begin, "", *lines, "", ENDS]) + rest.partition(ENDS)[2]
@@ -127,8 +110,8 @@ class Definitions(unittest.TestCase):
             self.assertEqual([], [other for other in cited_by(key) if is_derived(other)], f"{key}, to be believed, rests on these")
         self.assertEqual([], [key for key in cited if is_derived(key)], "public contracts cite these, which are called derived")
         self.assertEqual([], [row for row in members() if "|  |" in row], "members of public traits without a comment")
-        named = [crate for group in SUBJECTS.values() for crate in group]
-        self.assertEqual(sorted({key[0] for key in definitions()[0]}), sorted(named), "crates with definitions; of a subject")
+        named = [crate for head in re.findall(SUBJECT, DOCUMENT.read_text()) for crate in words_in(head)]
+        self.assertEqual(sorted({key[0] for key in kind if kind[key] == "program"}), sorted(named), "crates that have some; of a heading")
 
 
 # docs/NO_CLAUSE.md
