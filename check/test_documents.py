@@ -41,14 +41,10 @@ def is_there(command, module="sys"):
     return shutil.which(command) and (command != "python3" or run(command, "-c", f"import {module}").status == 0)
 
 
-def text_of(document):
-    return (TOP / document).read_text()
-
-
 def commands_of(document):
     """The commands of a document, in order."""
     found, current = [], None
-    for number, line in enumerate(text_of(document).split("\n"), 1):
+    for number, line in enumerate((TOP / document).read_text().split("\n"), 1):
         if line.startswith("    $ "):
             current = Command(number, line[6:])
             found.append(current)
@@ -101,13 +97,13 @@ class Claims(Case):
             changed = self.file("day", day[: at // 8] + bytes([day[at // 8] ^ 1 << at % 8]) + day[at // 8 + 1 :])
             ran = run(program(), changed, "sales")
             found["fault" if ran.status else "same" if ran == sales else "other"] += 1
-        text = " ".join(text_of("README.md").split()).replace("*", "")
+        text = " ".join((TOP / "README.md").read_text().split()).replace("*", "")
         told = re.search(r"(\d+) of the (\d+) files gave a fault, (\d+) the same answer, and (\d+) another answer", text)
         self.assertEqual([int(it) for it in told.groups()], [found["fault"], sum(found.values()), found["same"], found["other"]])
 
     def test_slips(self):
         """Each query of the guide's table of slips gives the fault of its row."""
-        rows = re.findall(r"^\| `(fault: query .*?)` \| `(.*?)` \|", text_of("docs/GUIDE.md"), re.M)
+        rows = re.findall(r"^\| `(fault: query .*?)` \| `(.*?)` \|", (TOP / "docs/GUIDE.md").read_text(), re.M)
         self.assertEqual(len(rows), 6)
         for fault, query in ((fault, query) for fault, queries in rows for query in queries.split("`, `")):
             ran = run(program(), EXAMPLE, query)
