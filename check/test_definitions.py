@@ -75,26 +75,23 @@ def members():
     return [*table(["Member", "Trait", "In words"], declared), "", *table(["Member", "Of", "Is defined as"], devices)]
 
 
-def written(text):
-    """The document with its tables as they are to be. Its headings name the crates whose definitions stand below them."""
+def written():
+    """The text of each file that is written. The document's headings name the crates whose definitions stand below them."""
+    text = DOCUMENT.read_text()
     by_subject = [(head, rows_of("program", words_in(head))) for head in re.findall(SUBJECT, text)]
     of_program = [line for head, rows in by_subject if rows for line in ("", head, *rows)]
     for part, lines in (("members", members()), ("program", of_program[1:]), ("crate", rows_of("crate", PRODUCT))):
         before, begin, rest = text.partition(BEGINS.format(part))
         assert ENDS in rest, f"docs/DEFINITIONS.md has no place for the {part}"
         text = "\n".join([before + begin, "", *lines, "", ENDS]) + rest.partition(ENDS)[2]
-    return text
+    return {DOCUMENT: text, **proved_cases.written()}
 
 
 class Definitions(unittest.TestCase):
-    def test_the_document_is_what_the_comments_say(self):
-        old = DOCUMENT.read_text()
-        changes = [it for it in difflib.unified_diff(old.split("\n"), written(old).split("\n"), n=0, lineterm="")][2:]
-        self.assertEqual([], changes[:9], "run `python3 check/test_definitions.py write`")
-
-    def test_the_proved_cases_are_the_stored_ones(self):
-        for path, text in proved_cases.written().items():
-            self.assertEqual(text, path.read_text(), "run `python3 check/test_definitions.py write`")
+    def test_the_document_and_the_proved_cases_are_what_is_written(self):
+        for path, text in written().items():
+            changes = [*difflib.unified_diff(path.read_text().split("\n"), text.split("\n"), n=0, lineterm="")][2:]
+            self.assertEqual([], changes[:9], f"{path}: run `python3 check/test_definitions.py write`")
 
     def test_each_file_says_who_has_to_believe_it(self):
         for module, second in definitions()[3].items():
@@ -114,23 +111,16 @@ class Definitions(unittest.TestCase):
         self.assertEqual(sorted({key[0] for key in kind if kind[key] == "program"}), sorted(named), "crates that have some; of a heading")
 
 
-# docs/NO_CLAUSE.md
-
-
 class NoClause(unittest.TestCase):
-    def compare(self, title, wanted):
+    def test_public_functions_that_say_nothing_are_listed(self):
         """The rows under a heading are these functions and no others, each with a reason."""
-        section = (TOP / "docs/NO_CLAUSE.md").read_text().partition(f"\n## {title}\n")[2].partition("\n## ")[0]
-        rows = re.findall(r"(?m)^\| (`[^|]*) \| ([^|]*) \| (\S[^|]*) \|$", section)
-        listed = {(crate, name) for names, group, _ in rows for crate in words_in(group) for name in words_in(names)}
-        code = {(it.crate, it.label) for it in functions() if it.is_public and wanted(it)}
-        self.assertEqual((set(), set()), (code - listed, listed - code), f'docs/NO_CLAUSE.md lacks, or has without need, "{title}"')
-
-    def test_public_functions_without_a_clause_are_listed(self):
-        self.compare("No clause at all", lambda it: not it.ensures)
-
-    def test_public_functions_that_say_nothing_of_refusals_are_listed(self):
-        self.compare("No clause on what a refusal leaves", is_silent_on_refusals)
+        silent = {"No clause at all": lambda it: not it.ensures, "No clause on what a refusal leaves": is_silent_on_refusals}
+        for title, is_silent in silent.items():
+            section = (TOP / "docs/NO_CLAUSE.md").read_text().partition(f"\n## {title}\n")[2].partition("\n## ")[0]
+            rows = re.findall(r"(?m)^\| (`[^|]*) \| ([^|]*) \| (\S[^|]*) \|$", section)
+            listed = {(crate, name) for names, group, _ in rows for crate in words_in(group) for name in words_in(names)}
+            code = {(it.crate, it.label) for it in functions() if it.is_public and is_silent(it)}
+            self.assertEqual((set(), set()), (code - listed, listed - code), f'docs/NO_CLAUSE.md lacks, or has without need, "{title}"')
 
     def test_each_edit_applies_and_has_the_name_of_a_function(self):
         for crate in PRODUCT:
@@ -138,9 +128,6 @@ class NoClause(unittest.TestCase):
             for edit in edits_of(crate):
                 self.assertIsNone(kit().read_edit(str(edit), str(TOP / "crates" / crate))[1], edit)
                 self.assertIn(edit.stem.partition("__")[0], names, edit)
-
-
-# docs/TRUSTED.md
 
 
 class Trusted(unittest.TestCase):
@@ -251,5 +238,5 @@ class Pages(unittest.TestCase):
 
 
 if __name__ == "__main__" and sys.argv[1:] == ["write"]:
-    for path, text in [(DOCUMENT, written(DOCUMENT.read_text())), *proved_cases.written().items()]:
+    for path, text in written().items():
         path.write_text(text)
