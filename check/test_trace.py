@@ -109,8 +109,7 @@ class Trace(Case):
     def test_sales_and_faults_are_those_of_the_program(self):
         edges = self.file("edges", *EDGES)
         asked = [(self.file(name, *frames), "AB") for name, frames in {**FAULTY, **FRAMES}.items()]
-        late = [self.folder / name for name in FAULTY if name.startswith("late")]
-        asked += [(path, "AB", *WHOLE_DAY, moment) for path in late for moment in MOMENTS]
+        asked += [(path, "AB", *WHOLE_DAY, moment) for path, _ in asked if path.name.startswith("late") for moment in MOMENTS]
         asked += [(edges, symbol) for symbol in SYMBOLS]
         asked += [(edges, symbol, *WHOLE_DAY, moment) for symbol in SYMBOLS[:4] for moment in MOMENTS]
         asked += [(edges, symbol, *span) for symbol in SYMBOLS[:4] for span in SPANS]
