@@ -45,70 +45,12 @@ class Builds(Tree):
         ran = [self.ends(self.build("--run", "-", *words, input=long)) for _ in range(2)]
         self.assertEqual([it[:2] for it in ran], [(0, self.answer(shown, long.decode()))] * 2)
         self.assertEqual((ran[1][2], self.noted("ci_input")), ("", ""))
-        self.files({"crates/low/src/lib.rt": "new"})
-        for told in ("the sources have changed, so it is proved", ""):
-            running = self.script("-", "shows")
-            status, out, errors = self.ends(running)
+        for running in (self.script("-", "shows"), self.build("--run", "-", "shows")):
+            status, out, _ = self.ends(running)
             self.assertEqual((status, out.split()[3]), (0, str(running.pid)), "the program isn't the process that was started")
             self.assertEqual(int(out.split()[-1], 16) & 0x1001000, 0, "it ignores signals that Python does")
-            self.tells(errors, told)
         self.assertEqual(self.ends(self.script("day", "fault"))[::2], (1, "fault: as asked\n"))
 
-
-class UpToDate(Tree):
-    def setUp(self):
-        super().setUp()
-        self.assertEqual(self.ends(self.build())[0], 0)
-        self.settle()
-
-    def settle(self):
-        """Has all sums taken, so that the quick look sees nothing changed."""
-        time.sleep(0.1)
-        self.assertEqual(self.ends(self.build("--check")), (0, "", ""))
-
-    def is_seen(self, told, what):
-        """Both looks see it, and say why: that of bin/build, and first the quick one, which runs no program that isn't up to date."""
-        before = self.builds()
-        self.asks("refuses_low")
-        status, _, errors = self.ends(self.script("day", "sales"))
-        self.lets("refuses_low")
-        self.assertEqual((what, status, self.builds() - before), (what, 70, 1) if told else (what, 0, 0))
-        self.tells(errors, told)
-        self.assertEqual((what, *self.ends(self.build("--check"))), (what, int(told != ""), "", ""))
-
-    def test_each_file(self):
-        for told, changes in CHANGES:
-            before = {name: (self.top / name).read_text() if (self.top / name).exists() else None for name in changes}
-            self.files(changes)
-            self.is_seen(told, changes)
-            self.files(before)
-            self.program.chmod(0o755)
-            self.settle()
-
-    def test_times_modes_and_no_kit(self):
-        """Sums decide, and no time that can be set hides a change. If nothing has changed, they aren't taken."""
-        source, path = self.top / "crates/low/src/lib.rt", self.path
-        was = source.stat()
-        source.write_text("LOW")
-        os.utime(source, ns=(was.st_atime_ns, was.st_mtime_ns))
-        self.is_seen(CHANGED, "an edit of the same length and time")
-        source.write_text("low")
-        for it in (source, self.program):
-            os.utime(it, (1, 1))
-            self.is_seen("", "a touched file")
-        for mode, told in ((0o644, ANOTHER), (0o755, "")):
-            self.program.chmod(mode)
-            self.is_seen(told, f"a program of mode {mode:o}")
-        os.utime(source, (1, 1))
-        self.path = self.tools
-        self.is_seen("", "no kit, which could build no other program")
-        self.path = path
-        self.settle()
-        (self.tools / "python3").unlink()
-        self.assertEqual(self.ends(self.script("day", "sales")), (0, self.answer(), ""))
-
-
-class Refusals(Tree):
     def test_what_stops_a_build_is_named_at_once(self):
         self.is_refused(self.script("day", "sales", PATH=self.tools), "there is no program yet, and there is no `rt`", "README.md")
         self.file("kit/KIT-ID", b"kit-9 logic 000\n")
@@ -152,8 +94,6 @@ class Refusals(Tree):
         self.assertEqual(self.ends(self.build("--accept", before)), (0, "", ""))
         self.assertEqual(self.ends(self.script("day", "sales")), (0, "built elsewhere\n", ""))
 
-
-class Ends(Tree):
     def test_one_builds_at_a_time(self):
         first, _ = self.held("start")
         others = [self.script("day", "bars 5 m") for _ in range(3)]
@@ -169,7 +109,7 @@ class Ends(Tree):
 
     def test_a_signal_ends_all_and_leaves_nothing(self):
         for number in (signal.SIGTERM, signal.SIGINT, signal.SIGHUP):
-            running, processes = self.held("start", "try")
+            running, processes = self.held("start", "try", file="day")
             running.send_signal(number)
             status, out, errors = self.ends(running)
             self.assertEqual((status, out, errors.splitlines()[-1]), (-number, "", "itch_bars: stopping"))
@@ -177,7 +117,7 @@ class Ends(Tree):
             self.leaves_nothing()
 
     def test_a_killed_call_leaves_a_folder_that_the_next_one_takes_away(self):
-        running, processes = self.held("start", "try")
+        running, processes = self.held("start", "try", file="day")
         running.kill()
         self.ends(running)
         comes(lambda: not any(is_there(it) for it in processes[::2]), "rt ends with the call")
@@ -198,6 +138,59 @@ class Ends(Tree):
         self.lets("hold_start")
         self.assertEqual(self.ends(running)[:2], (0, self.answer()))
         self.assertEqual(self.ends(self.script(self.day, "sales"))[:2], (0, self.answer(built="newmain")))
+
+
+class UpToDate(Tree):
+    def setUp(self):
+        super().setUp()
+        self.assertEqual(self.ends(self.build())[0], 0)
+        self.settle()
+
+    def settle(self):
+        """Has all sums taken, so that the quick look sees nothing changed."""
+        time.sleep(0.1)
+        self.assertEqual(self.ends(self.build("--check")), (0, "", ""))
+
+    def is_seen(self, told, what):
+        """Both looks see it, and say why: that of bin/build, and first the quick one, which runs no program that isn't up to date."""
+        before = self.builds()
+        self.asks("refuses_low")
+        status, _, errors = self.ends(self.script("day", "sales"))
+        self.lets("refuses_low")
+        self.assertEqual((what, status, self.builds() - before), (what, 70, 1) if told else (what, 0, 0))
+        self.tells(errors, told)
+        self.assertEqual((what, *self.ends(self.build("--check"))), (what, int(told != ""), "", ""))
+
+    def test_each_change(self):
+        for told, changes in CHANGES:
+            before = {name: (self.top / name).read_text() if (self.top / name).exists() else None for name in changes}
+            self.files(changes)
+            self.is_seen(told, changes)
+            self.files(before)
+            self.program.chmod(0o755)
+            self.settle()
+
+    def test_times_modes_and_no_kit(self):
+        """Sums decide, and no time that can be set hides a change. If nothing has changed, they aren't taken."""
+        source, path = self.top / "crates/low/src/lib.rt", self.path
+        was = source.stat()
+        source.write_text("LOW")
+        os.utime(source, ns=(was.st_atime_ns, was.st_mtime_ns))
+        self.is_seen(CHANGED, "an edit of the same length and time")
+        source.write_text("low")
+        for it in (source, self.program):
+            os.utime(it, (1, 1))
+            self.is_seen("", "a touched file")
+        for mode, told in ((0o644, ANOTHER), (0o755, "")):
+            self.program.chmod(mode)
+            self.is_seen(told, f"a program of mode {mode:o}")
+        os.utime(source, (1, 1))
+        self.path = self.tools
+        self.is_seen("", "no kit, which could build no other program")
+        self.path = path
+        self.settle()
+        (self.tools / "python3").unlink()
+        self.assertEqual(self.ends(self.script("day", "sales")), (0, self.answer(), ""))
 
 
 class Tries(Tree):
@@ -225,8 +218,7 @@ class Tries(Tree):
         self.file("here/day", b"a line\n" * 100)
         lines = self.shown("day", "sales")
         self.assertEqual((len(lines), lines[-1]), (21, f"{MARK}(and 82 lines more)"))
-
-    def test_what_does_not_end_well_is_not_shown(self):
+        # What doesn't end well is not shown.
         self.file("stand_in/says", b"checked: fault: an index out of bounds\nrun=fault proved=no\n")
         self.assertEqual((self.shown("day", "sales"), self.status), ([], 0))
 
@@ -241,11 +233,8 @@ class Tries(Tree):
         for name, length in (("long", (16 << 20) + 1), ("just", 16 << 20), ("-", 6)):
             os.truncate(self.file(f"here/{name}"), length)
         for name in ("-", "long", "pipe", "just"):
-            self.asks("hold_start")
-            running = self.build("--run", name, "sales")
-            self.comes_to("start")
+            running, _ = self.held("start", file=name)
             time.sleep(0.5)
             self.assertEqual((name, self.noted("try_words") != ""), (name, name == "just"))
             running.terminate()
             self.ends(running)
-            self.lets("at_start")
