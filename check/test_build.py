@@ -16,8 +16,8 @@ CHANGES += [(told, {"crates.txt": CRATES.replace(old, new)}) for told, old, new 
     (CHANGED, "middle clap", "middle"), (CHANGED, "Threads+Wait", "Threads"), (CHANGED, "low:\n", "low: itoa\n"),
     ("", "beside: low", "beside: middle"), ("", "a comment", "another"), ("", "\n\n", "\n"))]
 CHANGES += [(told, {f"crates/itch_bars/out/{name}": becomes}) for told, name, becomes in (
-    (CHANGED, "built_from", lambda it: it.replace("sources ", "sources 0")), (ANOTHER, "built_from", lambda it: it.partition("program")[0]),
-    (ANOTHER, "built_from", ""), (NONE, "built_from", "\udcff\udcff\n"), (ANOTHER, "itch_bars", lambda it: it + "\n"), (NONE, "itch_bars", None))]
+    (ANOTHER, "itch_bars", lambda it: it + "\n"), (NONE, "itch_bars", None), (ANOTHER, "built_from", ""), (NONE, "built_from", "\udcff"),
+    (CHANGED, "built_from", lambda it: it.replace("sources ", "sources 0")), (ANOTHER, "built_from", lambda it: it.split("program")[0]))]
 CHANGES += [("another kit has built the program (kit-1 logic abc)", {"../kit/KIT-ID": "kit-2 logic abc\n"})]
 
 
