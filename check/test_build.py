@@ -45,7 +45,9 @@ class Builds(Tree):
         ran = [self.ends(self.build("--run", "-", *words, input=long)) for _ in range(2)]
         self.assertEqual([it[:2] for it in ran], [(0, self.answer(shown, long.decode()))] * 2)
         self.assertEqual((ran[1][2], self.noted("ci_input")), ("", ""))
-        for running in (self.script("-", "shows"), self.build("--run", "-", "shows")):
+        for changes in ({}, {"crates/low/src/lib.rt": "new"}):
+            self.files(changes)
+            running = self.script("-", "shows")
             status, out, _ = self.ends(running)
             self.assertEqual((status, out.split()[3]), (0, str(running.pid)), "the program isn't the process that was started")
             self.assertEqual(int(out.split()[-1], 16) & 0x1001000, 0, "it ignores signals that Python does")
