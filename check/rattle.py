@@ -42,8 +42,8 @@ class Function:
     """A function: its lines, the type or trait that it is of, its contract, and its file and crate if these are known. `clauses`
     are kind, name, text."""
 
-    def __init__(self, lines, name, owner, is_public, signature, clauses):
-        self.lines, self.name, self.is_public, self.clauses = lines, name, is_public, clauses
+    def __init__(self, lines, name, owner, is_public, signature, clauses, path, crate):
+        self.lines, self.name, self.is_public, self.clauses, self.path, self.crate = lines, name, is_public, clauses, path, crate
         (self.owner, self.trait), (self.parameters, self.result) = owner, signature
         self.label = f"{self.owner}::{name}" if self.owner else name
         self.ensures = [text for kind, _, text in clauses if kind == "ensures"]
@@ -89,8 +89,8 @@ def owner_of(code, at, indent):
     return (owner, trait), is_public
 
 
-def functions_in(text):
-    """The functions of a source's text."""
+def functions_in(text, path=None, crate=None):
+    """The functions of a source's text, of a file of a crate if these are known."""
     code, found = code_of(text), []
     for head in re.finditer(r"(?m)^( *)(pub )?(?:pub\([\w: ]+\) )?(?:const )?fn (\w+)", code):
         begin = parameters_at(code, head.end())
@@ -112,19 +112,13 @@ def functions_in(text):
         lines = range(code.count("\n", 0, head.start()) + 1, code.count("\n", 0, last) + 2)
         # a program's `main` is its public function
         is_public = bool(head[2]) or in_trait or head[3] == "main"
-        found.append(Function(lines, head[3], owner, is_public, (code[begin:end], result), clauses))
+        found.append(Function(lines, head[3], owner, is_public, (code[begin:end], result), clauses, path, crate))
     return found
 
 
 @functools.lru_cache(maxsize=None)
 def functions_of(crate):
-    """The functions of a crate, each with its file."""
-    found = []
-    for path in sources(crate):
-        for function in functions_in(path.read_text()):
-            function.path, function.crate = path, crate
-            found.append(function)
-    return found
+    return [function for path in sources(crate) for function in functions_in(path.read_text(), path, crate)]
 
 
 def without_success(clause):

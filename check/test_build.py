@@ -5,13 +5,20 @@ from run import comes
 from stand_in import CRATES, LINES, NEEDED, OTHERS, Tree, is_there
 
 MARK, WAITS = "not yet proved: ", "itch_bars: another call is building the program; this one waits for it\n"
-# What changes of the files, and whether the program is outdated by it.
-CHANGES = [*((True, {name: text + " "}) for name, text in NEEDED.items()), *((False, {name: "another"}) for name in OTHERS)]
-CHANGES += [(True, {name: ""}) for name in ("crates/middle/specs/New.antt", "crates/low/src/more/new.rt")]
-CHANGES += [(True, {"crates/low/src/lib.rt": "lo", "crates/low/src/out/deep.rt": "wdeep"})]
-CHANGES += [(is_outdated, {"crates.txt": CRATES.replace(old, new)}) for is_outdated, old, new in (
-    (True, "middle clap", "middle"), (True, "Threads+Wait", "Threads"), (True, "low:\n", "low: itoa\n"),
-    (False, "beside: low", "beside: middle"), (False, "a comment", "another"), (False, "\n\n", "\n"))]
+# What becomes of files, a text, None if it is gone or a function of what it was, and why the program is outdated by it, if it is.
+CHANGED, ANOTHER, NONE = "the sources have changed", "the program isn't the one that was built here", "there is no program yet"
+CHANGES = [*((CHANGED, {name: text + " "}) for name, text in NEEDED.items()), *(("", {name: "another"}) for name in OTHERS)]
+CHANGES += [(CHANGED, it) for it in (
+    {"crates/middle/specs/New.antt": ""}, {"crates/low/src/more/new.rt": ""},
+    {"crates/low/src/lib.rt": "lo", "crates/low/src/out/deep.rt": "wdeep"},
+    {"crates/low/specs/Low.antt": None, "crates/low/specs/High.antt": NEEDED["crates/low/specs/Low.antt"]})]
+CHANGES += [(told, {"crates.txt": CRATES.replace(old, new)}) for told, old, new in (
+    (CHANGED, "middle clap", "middle"), (CHANGED, "Threads+Wait", "Threads"), (CHANGED, "low:\n", "low: itoa\n"),
+    ("", "beside: low", "beside: middle"), ("", "a comment", "another"), ("", "\n\n", "\n"))]
+CHANGES += [(told, {f"crates/itch_bars/out/{name}": becomes}) for told, name, becomes in (
+    (ANOTHER, "itch_bars", lambda it: it + "\n"), (NONE, "itch_bars", None), (ANOTHER, "built_from", ""), (NONE, "built_from", "\udcff"),
+    (CHANGED, "built_from", lambda it: it.replace("sources ", "sources 0")), (ANOTHER, "built_from", lambda it: it.split("program")[0]))]
+CHANGES += [("another kit has built the program (kit-1 logic abc)", {"../kit/KIT-ID": "kit-2 logic abc\n"})]
 
 
 class Builds(Tree):
@@ -38,92 +45,20 @@ class Builds(Tree):
         ran = [self.ends(self.build("--run", "-", *words, input=long)) for _ in range(2)]
         self.assertEqual([it[:2] for it in ran], [(0, self.answer(shown, long.decode()))] * 2)
         self.assertEqual((ran[1][2], self.noted("ci_input")), ("", ""))
-        self.files({"crates/low/src/lib.rt": "new"})
-        for told in ("the sources have changed, so it is proved", ""):
+        for changes in ({}, {"crates/low/src/lib.rt": "new"}):
+            self.files(changes)
             running = self.script("-", "shows")
-            status, out, errors = self.ends(running)
+            status, out, _ = self.ends(running)
             self.assertEqual((status, out.split()[3]), (0, str(running.pid)), "the program isn't the process that was started")
             self.assertEqual(int(out.split()[-1], 16) & 0x1001000, 0, "it ignores signals that Python does")
-            self.tells(errors, told)
         self.assertEqual(self.ends(self.script("day", "fault"))[::2], (1, "fault: as asked\n"))
 
-
-class UpToDate(Tree):
-    def setUp(self):
-        super().setUp()
-        self.assertEqual(self.ends(self.build())[0], 0)
-        self.settle()
-
-    def settle(self):
-        """Has all sums taken, so that the quick look sees nothing changed."""
-        time.sleep(0.1)
-        self.assertTrue(self.is_up_to_date())
-
-    def is_seen(self, is_outdated, why):
-        """Whether both looks see it: that of bin/build, and first the quick one, which runs no program that isn't up to date."""
-        before = self.builds()
-        self.asks("refuses_low")
-        status = self.ends(self.script("day", "sales"))[0]
-        self.lets("refuses_low")
-        self.assertEqual((why, status, self.builds() - before), (why, 70, 1) if is_outdated else (why, 0, 0))
-        self.assertEqual((why, self.is_up_to_date()), (why, not is_outdated))
-
-    def test_each_file_that_the_program_is_built_from(self):
-        before = {**NEEDED, **OTHERS, "crates.txt": CRATES}
-        for is_outdated, texts in CHANGES:
-            self.files(texts)
-            self.is_seen(is_outdated, texts)
-            for name in texts:
-                (self.top / name).write_text(before[name]) if name in before else (self.top / name).unlink()
-            self.settle()
-        low = self.top / "crates/low/specs/Low.antt"
-        for old, new in (("Low", "High"), ("High", "Low")):
-            low.with_name(f"{old}.antt").rename(low.with_name(f"{new}.antt"))
-            self.is_seen(new == "High", "a file that is moved")
-
-    def test_times(self):
-        """Sums decide, and no time that can be set hides a change. If nothing has changed, they aren't taken."""
-        source = self.top / "crates/low/src/lib.rt"
-        was = source.stat()
-        source.write_text("LOW")
-        os.utime(source, ns=(was.st_atime_ns, was.st_mtime_ns))
-        self.is_seen(True, "an edit of the same length and time")
-        source.write_text("low")
-        for it in (source, self.program):
-            os.utime(it, (1, 1))
-            self.is_seen(False, "a touched file")
-        self.settle()
-        (self.tools / "python3").unlink()
-        self.assertEqual(self.ends(self.script("day", "sales")), (0, self.answer(), ""))
-
-    def test_another_program_record_or_kit(self):
-        program, recorded = self.program.read_bytes(), self.record.read_bytes()
-        for other in (recorded.replace(b"sources ", b"sources 0"), b"", b"\xff\xff\n", recorded.split(b"\n")[0] + b"\n"):
-            self.record.write_bytes(other)
-            self.is_seen(True, f"the record {other}")
-        self.record.write_bytes(recorded)
-        self.settle()
-        self.file("kit/KIT-ID", b"kit-2 logic abc\n")
-        self.is_seen(True, "another kit")
-        self.tells(self.ends(self.script("day", "sales"))[2], "another kit has built the program (kit-1 logic abc), so it is")
-        for text, mode, is_outdated in ((program, 0o755, False), (program + b"\n", 0o755, True), (program, 0o644, True)):
-            self.program.write_bytes(text)
-            self.program.chmod(mode)
-            self.is_seen(is_outdated, f"{text} of mode {mode:o}")
-        self.program.unlink()
-        self.is_seen(True, "no program")
-        self.file("top/crates/itch_bars/out/itch_bars", program).chmod(0o755)
-        self.path = self.tools
-        self.is_seen(False, "no kit, which could build no other program")
-
-
-class Refusals(Tree):
     def test_what_stops_a_build_is_named_at_once(self):
         self.is_refused(self.script("day", "sales", PATH=self.tools), "there is no program yet, and there is no `rt`", "README.md")
         self.file("kit/KIT-ID", b"kit-9 logic 000\n")
         self.is_refused(self.script("day", "sales"), "(kit-9 logic 000) can't build it", "in logic abc")
         self.file("kit/KIT-ID", b"kit-1 logic abc\n")
-        self.edit("bin/build", "= 3 << 20,", "= 3 << 60,")
+        self.files({"bin/build": lambda it: it.replace("= 3 << 20,", "= 3 << 60,")})
         self.is_refused(self.script("day", "sales"), f"3 GB below {self.temporary},", "TMPDIR")
         for words in (["--sums"], ["--sum", "x"], ["--accept"], ["--check", "x"], ["day", "sales"]):
             self.is_refused(self.build(*words), "doesn't know these words")
@@ -157,12 +92,10 @@ class Refusals(Tree):
         self.file("top/crates/itch_bars/out/itch_bars", b"#!/bin/sh\necho built elsewhere\n").chmod(0o755)
         self.is_refused(self.build("--accept", before[:-1]), "another sum")
         self.is_refused(self.build("--accept", before, PATH=self.tools), "there is no `rt`")
-        self.assertFalse(self.is_up_to_date())
+        self.assertEqual(self.ends(self.build("--check")), (1, "", ""))
         self.assertEqual(self.ends(self.build("--accept", before)), (0, "", ""))
         self.assertEqual(self.ends(self.script("day", "sales")), (0, "built elsewhere\n", ""))
 
-
-class Ends(Tree):
     def test_one_builds_at_a_time(self):
         first, _ = self.held("start")
         others = [self.script("day", "bars 5 m") for _ in range(3)]
@@ -178,7 +111,7 @@ class Ends(Tree):
 
     def test_a_signal_ends_all_and_leaves_nothing(self):
         for number in (signal.SIGTERM, signal.SIGINT, signal.SIGHUP):
-            running, processes = self.held("start", "try")
+            running, processes = self.held("start", "try", file="day")
             running.send_signal(number)
             status, out, errors = self.ends(running)
             self.assertEqual((status, out, errors.splitlines()[-1]), (-number, "", "itch_bars: stopping"))
@@ -186,7 +119,7 @@ class Ends(Tree):
             self.leaves_nothing()
 
     def test_a_killed_call_leaves_a_folder_that_the_next_one_takes_away(self):
-        running, processes = self.held("start", "try")
+        running, processes = self.held("start", "try", file="day")
         running.kill()
         self.ends(running)
         comes(lambda: not any(is_there(it) for it in processes[::2]), "rt ends with the call")
@@ -207,6 +140,59 @@ class Ends(Tree):
         self.lets("hold_start")
         self.assertEqual(self.ends(running)[:2], (0, self.answer()))
         self.assertEqual(self.ends(self.script(self.day, "sales"))[:2], (0, self.answer(built="newmain")))
+
+
+class UpToDate(Tree):
+    def setUp(self):
+        super().setUp()
+        self.assertEqual(self.ends(self.build())[0], 0)
+        self.settle()
+
+    def settle(self):
+        """Has all sums taken, so that the quick look sees nothing changed."""
+        time.sleep(0.1)
+        self.assertEqual(self.ends(self.build("--check")), (0, "", ""))
+
+    def is_seen(self, told, what):
+        """Both looks see it, and say why: that of bin/build, and first the quick one, which runs no program that isn't up to date."""
+        before = self.builds()
+        self.asks("refuses_low")
+        status, _, errors = self.ends(self.script("day", "sales"))
+        self.lets("refuses_low")
+        self.assertEqual((what, status, self.builds() - before), (what, 70, 1) if told else (what, 0, 0))
+        self.tells(errors, told)
+        self.assertEqual((what, *self.ends(self.build("--check"))), (what, int(told != ""), "", ""))
+
+    def test_each_change(self):
+        for told, changes in CHANGES:
+            before = {name: (self.top / name).read_text() if (self.top / name).exists() else None for name in changes}
+            self.files(changes)
+            self.is_seen(told, changes)
+            self.files(before)
+            self.program.chmod(0o755)
+            self.settle()
+
+    def test_times_modes_and_no_kit(self):
+        """Sums decide, and no time that can be set hides a change. If nothing has changed, they aren't taken."""
+        source, path = self.top / "crates/low/src/lib.rt", self.path
+        was = source.stat()
+        source.write_text("LOW")
+        os.utime(source, ns=(was.st_atime_ns, was.st_mtime_ns))
+        self.is_seen(CHANGED, "an edit of the same length and time")
+        source.write_text("low")
+        for it in (source, self.program):
+            os.utime(it, (1, 1))
+            self.is_seen("", "a touched file")
+        for mode, told in ((0o644, ANOTHER), (0o755, "")):
+            self.program.chmod(mode)
+            self.is_seen(told, f"a program of mode {mode:o}")
+        os.utime(source, (1, 1))
+        self.path = self.tools
+        self.is_seen("", "no kit, which could build no other program")
+        self.path = path
+        self.settle()
+        (self.tools / "python3").unlink()
+        self.assertEqual(self.ends(self.script("day", "sales")), (0, self.answer(), ""))
 
 
 class Tries(Tree):
@@ -234,8 +220,7 @@ class Tries(Tree):
         self.file("here/day", b"a line\n" * 100)
         lines = self.shown("day", "sales")
         self.assertEqual((len(lines), lines[-1]), (21, f"{MARK}(and 82 lines more)"))
-
-    def test_what_does_not_end_well_is_not_shown(self):
+        # What doesn't end well is not shown.
         self.file("stand_in/says", b"checked: fault: an index out of bounds\nrun=fault proved=no\n")
         self.assertEqual((self.shown("day", "sales"), self.status), ([], 0))
 
@@ -250,11 +235,8 @@ class Tries(Tree):
         for name, length in (("long", (16 << 20) + 1), ("just", 16 << 20), ("-", 6)):
             os.truncate(self.file(f"here/{name}"), length)
         for name in ("-", "long", "pipe", "just"):
-            self.asks("hold_start")
-            running = self.build("--run", name, "sales")
-            self.comes_to("start")
+            running, _ = self.held("start", file=name)
             time.sleep(0.5)
             self.assertEqual((name, self.noted("try_words") != ""), (name, name == "just"))
             running.terminate()
             self.ends(running)
-            self.lets("at_start")

@@ -18,24 +18,8 @@ PROGRAM = {"command_line": ["start", "perform", "perform_blocks"], "runs": ["run
 DEVICES = ["sources/src/counted.rt", "block_scan/src/file_blocks.rt", "sinks/src/counted_sink.rt", "command_line/src/day_files.rt"]
 # How the second line of a file of specs/ begins, or is, by the first of these kinds that one of its definitions is of.
 SECONDS = {"program": "-- To be believed.", "crate": "-- To be believed of a crate used by itself", "proofs": "-- Derived: "}
-# The headings under which the definitions of each crate stand, in this order.
-SUBJECTS = {
-    "Lists": ["base"],
-    "Bodies (sections 1.2 to 1.5)": ["itch_messages"],
-    "Frames and sources of bytes": ["sources", "day_file", "streaming", "block_scan"],
-    "Orders (sections 1.3, 1.4.5)": ["order_table"],
-    "Trades and sales (sections 1.4.1, 1.4.2, 1.5)": ["row_types", "probe"],
-    "Names, listings and texts (section 1.2.1)": ["time_and_sales"],
-    "Bars": ["bars"],
-    "Queries": ["meaning", "query", "canonical_query"],
-    "Answers": ["day_rows", "answers"],
-    "Runs": ["runs", "sinks", "executor"],
-    "The command line": ["arguments", "command_line"],
-    "Sharing work": ["gathering", "dispatcher", "workers", "pipelines", "schedules"],
-    "Works": ["order_list", "morsel_rows", "scanning", "buckets", "planning"],
-}
 BEGINS, ENDS = "<!-- {}: check/test_definitions.py writes what follows -->", "<!-- to here -->"
-DOCUMENT = TOP / "docs/DEFINITIONS.md"
+DOCUMENT, SUBJECT = TOP / "docs/DEFINITIONS.md", r"(?m)^### .*"
 
 
 def functions():
@@ -91,27 +75,23 @@ def members():
     return [*table(["Member", "Trait", "In words"], declared), "", *table(["Member", "Of", "Is defined as"], devices)]
 
 
-def written(text):
-    """The document with its tables as they are to be."""
-    by_subject = [(title, rows_of("program", group)) for title, group in SUBJECTS.items()]
-    of_program = [line for title, rows in by_subject if rows for line in ("", f"### {title}", *rows)]
-    of_crates = rows_of("crate", [crate for group in SUBJECTS.values() for crate in group])
-    for part, lines in (("members", members()), ("program", of_program[1:]), ("crate", of_crates)):
+def written():
+    """The text of each file that is written. The document's headings name the crates whose definitions stand below them."""
+    text = DOCUMENT.read_text()
+    by_subject = [(head, rows_of("program", words_in(head))) for head in re.findall(SUBJECT, text)]
+    of_program = [line for head, rows in by_subject if rows for line in ("", head, *rows)]
+    for part, lines in (("members", members()), ("program", of_program[1:]), ("crate", rows_of("crate", PRODUCT))):
         before, begin, rest = text.partition(BEGINS.format(part))
         assert ENDS in rest, f"docs/DEFINITIONS.md has no place for the {part}"
         text = "\n".join([before + begin, "", *lines, "", ENDS]) + rest.partition(ENDS)[2]
-    return text
+    return {DOCUMENT: text, **proved_cases.written()}
 
 
 class Definitions(unittest.TestCase):
-    def test_the_document_is_what_the_comments_say(self):
-        old = DOCUMENT.read_text()
-        changes = [it for it in difflib.unified_diff(old.split("\n"), written(old).split("\n"), n=0, lineterm="")][2:]
-        self.assertEqual([], changes[:9], "run `python3 check/test_definitions.py write`")
-
-    def test_the_proved_cases_are_the_stored_ones(self):
-        for path, text in proved_cases.written().items():
-            self.assertEqual(text, path.read_text(), "run `python3 check/test_definitions.py write`")
+    def test_the_document_and_the_proved_cases_are_what_is_written(self):
+        for path, text in written().items():
+            changes = [*difflib.unified_diff(path.read_text().split("\n"), text.split("\n"), n=0, lineterm="")][2:]
+            self.assertEqual([], changes[:9], f"{path}: run `python3 check/test_definitions.py write`")
 
     def test_each_file_says_who_has_to_believe_it(self):
         for module, second in definitions()[3].items():
@@ -127,27 +107,20 @@ class Definitions(unittest.TestCase):
             self.assertEqual([], [other for other in cited_by(key) if is_derived(other)], f"{key}, to be believed, rests on these")
         self.assertEqual([], [key for key in cited if is_derived(key)], "public contracts cite these, which are called derived")
         self.assertEqual([], [row for row in members() if "|  |" in row], "members of public traits without a comment")
-        named = [crate for group in SUBJECTS.values() for crate in group]
-        self.assertEqual(sorted({key[0] for key in definitions()[0]}), sorted(named), "crates with definitions; of a subject")
-
-
-# docs/NO_CLAUSE.md
+        named = [crate for head in re.findall(SUBJECT, DOCUMENT.read_text()) for crate in words_in(head)]
+        self.assertEqual(sorted({key[0] for key in kind if kind[key] == "program"}), sorted(named), "crates that have some; of a heading")
 
 
 class NoClause(unittest.TestCase):
-    def compare(self, title, wanted):
+    def test_public_functions_that_say_nothing_are_listed(self):
         """The rows under a heading are these functions and no others, each with a reason."""
-        section = (TOP / "docs/NO_CLAUSE.md").read_text().partition(f"\n## {title}\n")[2].partition("\n## ")[0]
-        rows = re.findall(r"(?m)^\| (`[^|]*) \| ([^|]*) \| (\S[^|]*) \|$", section)
-        listed = {(crate, name) for names, group, _ in rows for crate in words_in(group) for name in words_in(names)}
-        code = {(it.crate, it.label) for it in functions() if it.is_public and wanted(it)}
-        self.assertEqual((set(), set()), (code - listed, listed - code), f'docs/NO_CLAUSE.md lacks, or has without need, "{title}"')
-
-    def test_public_functions_without_a_clause_are_listed(self):
-        self.compare("No clause at all", lambda it: not it.ensures)
-
-    def test_public_functions_that_say_nothing_of_refusals_are_listed(self):
-        self.compare("No clause on what a refusal leaves", is_silent_on_refusals)
+        silent = {"No clause at all": lambda it: not it.ensures, "No clause on what a refusal leaves": is_silent_on_refusals}
+        for title, is_silent in silent.items():
+            section = (TOP / "docs/NO_CLAUSE.md").read_text().partition(f"\n## {title}\n")[2].partition("\n## ")[0]
+            rows = re.findall(r"(?m)^\| (`[^|]*) \| ([^|]*) \| (\S[^|]*) \|$", section)
+            listed = {(crate, name) for names, group, _ in rows for crate in words_in(group) for name in words_in(names)}
+            code = {(it.crate, it.label) for it in functions() if it.is_public and is_silent(it)}
+            self.assertEqual((set(), set()), (code - listed, listed - code), f'docs/NO_CLAUSE.md lacks, or has without need, "{title}"')
 
     def test_each_edit_applies_and_has_the_name_of_a_function(self):
         for crate in PRODUCT:
@@ -155,9 +128,6 @@ class NoClause(unittest.TestCase):
             for edit in edits_of(crate):
                 self.assertIsNone(kit().read_edit(str(edit), str(TOP / "crates" / crate))[1], edit)
                 self.assertIn(edit.stem.partition("__")[0], names, edit)
-
-
-# docs/TRUSTED.md
 
 
 class Trusted(unittest.TestCase):
@@ -268,5 +238,5 @@ class Pages(unittest.TestCase):
 
 
 if __name__ == "__main__" and sys.argv[1:] == ["write"]:
-    for path, text in [(DOCUMENT, written(DOCUMENT.read_text())), *proved_cases.written().items()]:
+    for path, text in written().items():
         path.write_text(text)

@@ -5,7 +5,7 @@ below it, up to the next command, are all that it prints on standard output and 
 any lines, or none. One shell types all commands of a document, in a copy of what they need. A recipe says in its second line which
 tools it needs; a command that calls it is left out where one of these isn't installed, and the skip names it.
 """
-import os, pathlib, re, shlex, shutil, subprocess
+import collections, os, pathlib, re, shlex, shutil, subprocess
 
 from run import EXAMPLE, LONGEST, TOP, Case, program, run
 
@@ -15,11 +15,8 @@ RECIPES = sorted(it for it in (TOP / "recipes").iterdir() if it.suffix != ".csv"
 HEAD = re.compile(r"(?:#|--) \w.{20,}[.]\n(?:#|--) Needs: (?P<needs>\w[\w ]*(?:, [\w ]+)*)\n(?:#|--) Call: (?P<call>.+)\n")
 
 
-class Command:
+class Command(collections.namedtuple("Command", "number words shown")):
     """A command with the number of its line, and the lines that are shown of it."""
-
-    def __init__(self, number, words):
-        self.number, self.words, self.shown = number, words, []
 
     def typed(self, folder):
         """What the shell reads of it. What it prints goes to a file that has the line's number."""
@@ -28,7 +25,7 @@ class Command:
     def is_shown(self, printed):
         """Whether the lines that are shown stand for what was printed."""
         pattern = "".join(r"(?:.*\n)*" if it == ".." else re.escape(it) + r"\n" for it in self.shown)
-        return self.shown != [".."] and re.fullmatch(pattern, printed) is not None
+        return self.shown != ("..",) and re.fullmatch(pattern, printed) is not None
 
     def missing(self):
         """The tools that its recipes need and that aren't installed: commands, or python3 with a module."""
@@ -41,31 +38,19 @@ def is_there(command, module="sys"):
     return shutil.which(command) and (command != "python3" or run(command, "-c", f"import {module}").status == 0)
 
 
-def text_of(document):
-    return (TOP / document).read_text()
-
-
 def commands_of(document):
     """The commands of a document, in order."""
-    found, current = [], None
-    for number, line in enumerate(text_of(document).split("\n"), 1):
-        if line.startswith("    $ "):
-            current = Command(number, line[6:])
-            found.append(current)
-        elif current and current.words.endswith("\\"):
-            current.words = current.words[:-1] + line.strip()
-        elif current and line.startswith("    "):
-            current.shown.append(line[4:])
-        elif line:
-            current = None
-    return found
+    text = (TOP / document).read_text()
+    for found in re.finditer(r"(?m)^    \$ ((?:.*\\\n)*.*)\n((?:(?:    (?!\$ ).*)?\n)*)", text):
+        words, shown = re.sub(r"\\\n *", "", found[1]), re.findall(r"(?m)^    (.*)$", found[2])
+        yield Command(text.count("\n", 0, found.start()) + 1, words, tuple(shown))
 
 
 class Documents(Case):
     def test_commands(self):
         """Each command prints what its document shows."""
         for document in DOCUMENTS:
-            self.type_all(document, commands_of(document), self.folder / document)
+            self.type_all(document, [*commands_of(document)], self.folder / document)
 
     def type_all(self, document, commands, folder):
         top = folder / "top"
@@ -101,13 +86,13 @@ class Claims(Case):
             changed = self.file("day", day[: at // 8] + bytes([day[at // 8] ^ 1 << at % 8]) + day[at // 8 + 1 :])
             ran = run(program(), changed, "sales")
             found["fault" if ran.status else "same" if ran == sales else "other"] += 1
-        text = " ".join(text_of("README.md").split()).replace("*", "")
+        text = " ".join((TOP / "README.md").read_text().split()).replace("*", "")
         told = re.search(r"(\d+) of the (\d+) files gave a fault, (\d+) the same answer, and (\d+) another answer", text)
         self.assertEqual([int(it) for it in told.groups()], [found["fault"], sum(found.values()), found["same"], found["other"]])
 
     def test_slips(self):
         """Each query of the guide's table of slips gives the fault of its row."""
-        rows = re.findall(r"^\| `(fault: query .*?)` \| `(.*?)` \|", text_of("docs/GUIDE.md"), re.M)
+        rows = re.findall(r"^\| `(fault: query .*?)` \| `(.*?)` \|", (TOP / "docs/GUIDE.md").read_text(), re.M)
         self.assertEqual(len(rows), 6)
         for fault, query in ((fault, query) for fault, queries in rows for query in queries.split("`, `")):
             ran = run(program(), EXAMPLE, query)

@@ -91,14 +91,14 @@ class OfProgram(Case):
         failed, sales = Ran(4, b"", READING.encode()), Ran(0, SALE.encode(), b"")
         for way, error in itertools.product(WAYS, (5, 4, 11)):
             for reading in itertools.count(1):
-                ran, report = self.over(way, self.day, GIVES=1, TAKES=7, FAILS=reading, ERROR=error)
+                ran, report = self.over(way, self.day, GIVES=1, TAKES=7, AT=reading, ERROR=error)
                 if all(call.count >= 0 for call in report.calls):
                     break
                 self.assertIn(ran, (failed, sales if way == SEVERAL else failed), f"{way}, reading {reading}, {error}")
             self.assertEqual((ran, reading > len(DAY)), (sales, True), way)
         # All of a stream is read before a fault is told: also a reading that fails behind it.
         for day in (DAY[:3], DAY + DAY):
-            self.gives(self.over(INPUT, self.file("faulty", day), GIVES=1, FAILS=len(day) + 1, ERROR=5)[0], 4, "", READING)
+            self.gives(self.over(INPUT, self.file("faulty", day), GIVES=1, AT=len(day) + 1, ERROR=5)[0], 4, "", READING)
 
     def test_files_that_change(self):
         """A file grows, is replaced or shrinks before each of its readings in turn: the answer is that to what it had before or has

@@ -1,5 +1,5 @@
-"""Holds help, the version, the page for `man` and README's table of options against what they are written from by `python3
-check/test_texts.py write`, the code of the words and the limits; and the days of data/ against what days.py makes."""
+"""Holds help, the version and the page for `man`, which `python3 check/test_texts.py write` writes, and README's table of options
+against the code of the words and the limits; and the days of data/ against what days.py makes."""
 import re, shutil, sys, unittest
 
 from days import DATA, DAYS
@@ -54,18 +54,8 @@ def page():
     return begin + text.replace("-", "\\-") + own + f".SH VERSION\nitch_bars {VERSION}, proved in Rattle's logic {LOGIC}\n"
 
 
-def readme():
-    text = README
-    for name, number, most, default, _ in OPTIONS:
-        row = rf"(?m)^(\| `--{name} {number}` \| .* \|) [\d,]+ to [\d,]+ \| [\d,]+ \|$"
-        text, count = re.subn(row, rf"\1 1 to {most:,} | {default:,} |", text)
-        assert count == 1, f"README.md has no row of --{name}"
-    return text
-
-
 def written():
-    version = f"itch_bars {constant('VERSION')}\n"
-    return {"bin/help": help_text(), "bin/version": version, "man/itch_bars.1": page(), "README.md": readme()}
+    return {"bin/help": help_text(), "bin/version": f"itch_bars {constant('VERSION')}\n", "man/itch_bars.1": page()}
 
 
 class Texts(unittest.TestCase):
@@ -73,7 +63,9 @@ class Texts(unittest.TestCase):
         for name, text in written().items():
             self.assertEqual((TOP / name).read_text(), text, "run `python3 check/test_texts.py write`")
         self.assertLessEqual(max(map(len, help_text().split("\n"))), 80)
-        self.assertTrue(all(f" 1 to {most}" in " ".join(text.split()) for _, _, most, _, text in OPTIONS))
+        for name, number, most, default, text in OPTIONS:
+            self.assertIn(f" 1 to {most}", " ".join(text.split()))
+            self.assertRegex(README, rf"(?m)^\| `--{name} {number}` \| .* \| 1 to {most:,} \| {default:,} \|$")
 
     def test_the_page_for_man(self):
         self.assertEqual([it for it in re.findall(r"(?m)^\\fI(\S+)\\fR$", PAGE) if "/out/" not in it and not (TOP / it).exists()], [])

@@ -1,9 +1,9 @@
 """Tests bin/trace_sales: its sales are the program's, over the example and days that are made here, faulty ones too; each byte that it
 shows stands in the file where it says; what else it prints, and its faults; and that its memory doesn't grow with the file."""
-import re, sys
+import os, pty, re, sys
 
 from itch import OPEN, SECOND, broken, cross, executed, executed_at, frame, message, named, named_alone, order, replaced, trade
-from run import EXAMPLE, TOP, Case, on_terminal, program, run
+from run import EXAMPLE, TOP, Case, program, run
 
 TOOL, TEXTS = TOP / "bin/trace_sales", TOP / "check/test_trace.txt"
 WHOLE_DAY = "00:00:00", "24:00:00"
@@ -109,8 +109,7 @@ class Trace(Case):
     def test_sales_and_faults_are_those_of_the_program(self):
         edges = self.file("edges", *EDGES)
         asked = [(self.file(name, *frames), "AB") for name, frames in {**FAULTY, **FRAMES}.items()]
-        late = [self.folder / name for name in FAULTY if name.startswith("late")]
-        asked += [(path, "AB", *WHOLE_DAY, moment) for path in late for moment in MOMENTS]
+        asked += [(path, "AB", *WHOLE_DAY, moment) for path, _ in asked if path.name.startswith("late") for moment in MOMENTS]
         asked += [(edges, symbol) for symbol in SYMBOLS]
         asked += [(edges, symbol, *WHOLE_DAY, moment) for symbol in SYMBOLS[:4] for moment in MOMENTS]
         asked += [(edges, symbol, *span) for symbol in SYMBOLS[:4] for span in SPANS]
@@ -200,6 +199,9 @@ class Trace(Case):
         """A terminal shows after a second how much is read, in a line that is gone at the end; what is no terminal gets none."""
         slow = ["sh", "-c", f"{{ head -c 2 /dev/zero; sleep 2; head -c 2 /dev/zero; }} | {TOOL} - --names"]
         names = "locate,name,place,messages,round_lot,test\n"
-        status, shown = on_terminal(b"never", *slow)
+        process, side = pty.fork()
+        if process == 0:
+            os.execvp(slow[0], slow)
+        status, shown = os.waitpid(process, 0)[1], os.read(side, 4096).decode().replace("\r\n", "\n")
         self.assertRegex(f"{status} {shown}", rf"^0 (0 MB read, reading 1 of 1\x1b\[K\r)+\x1b\[K\r{names}$")
         self.gives(run(*slow), 0, names)
