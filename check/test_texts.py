@@ -1,5 +1,5 @@
-"""Holds help, the version and the page for `man`, which `python3 check/test_texts.py write` writes, and README's table of options
-against the code of the words and the limits; and the days of data/ against what days.py makes."""
+"""Holds help, the version, the page for `man` and README's table of options against what they are written from by `python3
+check/test_texts.py write`, the code of the words and the limits; and the days of data/ against what days.py makes."""
 import re, shutil, sys, unittest
 
 from days import DATA, DAYS
@@ -54,8 +54,16 @@ def page():
     return begin + text.replace("-", "\\-") + own + f".SH VERSION\nitch_bars {VERSION}, proved in Rattle's logic {LOGIC}\n"
 
 
+def readme():
+    text = README
+    for name, number, most, default, _ in OPTIONS:
+        text = re.sub(rf"(?m)^(\| `--{name} {number}` \| .* \|) .* \| .* \|$", rf"\1 1 to {most:,} | {default:,} |", text)
+    return text
+
+
 def written():
-    return {"bin/help": help_text(), "bin/version": f"itch_bars {constant('VERSION')}\n", "man/itch_bars.1": page()}
+    version = f"itch_bars {constant('VERSION')}\n"
+    return {"bin/help": help_text(), "bin/version": version, "man/itch_bars.1": page(), "README.md": readme()}
 
 
 class Texts(unittest.TestCase):
