@@ -44,7 +44,7 @@ fn minutes(alloc: Global, sales: &[Sale]) -> Result<BucketBars, OutOfMemory>
 }
 
 /// Tables of four locates, of which 7 has bars in all three, and 9 in two of them. The bar of the
-/// third is made, since it has three sales. The greatest locate is `last`.
+/// third is made, since it has sixteen sales. The greatest locate is `last`.
 fn tables(alloc: Global, last: u16) -> Result<(BucketBars, BucketBars, BucketBars), OutOfMemory>
     ensures sums { IfOk result (λ three. AllSumsFit (all_bars (three.0 ∷ three.1 ∷ three.2 ∷ []))) }
     ensures starts { IfOk result (λ three.
@@ -65,6 +65,19 @@ fn tables(alloc: Global, last: u16) -> Result<(BucketBars, BucketBars, BucketBar
         sale(6, 7, 10, 22_000),
         sale(5, 7, 0, 15_000),
         sale(7, 7, 12, 20_000),
+        sale(200, 7, 20, 26_000),
+        sale(201, 7, 21, 26_000),
+        sale(202, 7, 22, 26_000),
+        sale(203, 7, 23, 26_000),
+        sale(204, 7, 24, 26_000),
+        sale(205, 7, 25, 26_000),
+        sale(206, 7, 26, 26_000),
+        sale(207, 7, 27, 26_000),
+        sale(208, 7, 28, 26_000),
+        sale(209, 7, 29, 26_000),
+        sale(210, 7, 30, 26_000),
+        sale(211, 7, 31, 26_000),
+        sale(212, 7, 32, 26_000),
     ];
     Ok((
         minutes(alloc, &one)?,
@@ -88,7 +101,7 @@ pub(crate) fn names(alloc: Global) -> Result<Names, OutOfMemory> {
     Names::build(alloc, &rows)
 }
 
-const LINES: &str = "MSFT,09:30:00,1.5000,2.6000,1.5000,2.6000,25,5,2.0600+0/25
+const LINES: &str = "MSFT,09:30:00,1.5000,2.6000,1.5000,2.6000,90,18,2.4500+0/90
 MSFT,09:31:00,2.1000,2.1000,2.1000,2.1000,5,1,2.1000+0/5
 #8,09:30:00,4.0000,4.0000,4.0000,4.0000,5,1,4.0000+0/5
 #9,09:30:00,3.0000,3.1000,3.0000,3.1000,10,2,3.0500+0/10
@@ -116,7 +129,7 @@ pub(crate) fn joined(alloc: Global, pieces: &[Vec<u8>]) -> Result<Vec<u8>, OutOf
 }
 
 #[test]
-fn bars_are_made_of_three_sales_each(rt: HostRuntime) -> Result<(), Fail> {
+fn bars_are_made_of_sixteen_sales_each(rt: HostRuntime) -> Result<(), Fail> {
     let (one, other, third) = tables(rt.alloc(), 12)?;
     let pair = minutes(rt.alloc(), &[sale(6, 7, 10, 22_000), sale(5, 7, 0, 15_000)])?;
     assert!(rt; matches!(pair.form(), Form::Sales { .. }));
