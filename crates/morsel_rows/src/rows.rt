@@ -71,6 +71,19 @@ impl<A: Allocator + Copy> MorselRows<A> {
 /// Room for fewer order rows isn't taken before there are some: a morsel has rows in few of many partitions.
 const LEAST_ROOM: usize = 16;
 
+/// How many bytes a partition takes for an order row that it has room for, and for the trades that a day has with it.
+const BYTES_AN_ORDER: usize = 18;
+
+/// By how much a thread's arena grows at once, in bytes: just below glibc's mmap threshold of 128 KiB, which is also what it
+/// keeps when it is freed.
+const GROWTH: usize = 122_880;
+
+/// Has the C library grow the thread's arena once for several lists. By itself it does so for each list, by a system call
+/// under a lock that all threads of the process share.
+fn grow_arena<A: Allocator>(alloc: A) {
+    let _ = Vec::<u8, A>::with_capacity(alloc, GROWTH);
+}
+
 /// The partitions that take memory at once: if there is to be room for many order rows in each, all, and otherwise
 /// none.
 #[tactic(auto, using(crate::proofs::TakenRows::room_more))]
@@ -85,7 +98,11 @@ fn with_rooms<A: Allocator + Copy>(
         return Ok(Vec::new(alloc));
     }
     let mut partitions = Vec::with_capacity(alloc, parts as usize)?;
-    for _ in 0..parts {
+    let at_once = (GROWTH / orders.saturating_mul(BYTES_AN_ORDER)).max(1) as u32;
+    for number in 0..parts {
+        if number % at_once == 0 {
+            grow_arena(alloc);
+        }
         let partition = Box::new(alloc, Partition::with_room(alloc, orders)?)?;
         partitions.push(Some(partition))?;
     }

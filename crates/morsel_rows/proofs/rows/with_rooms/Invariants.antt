@@ -3,5 +3,5 @@ use Rattle.morsel_rows.specs.Partitions.{no_rows_in}
 use Rattle.morsel_rows.specs.TakenPartitions.{rows_taken_at}
 use Rattle.morsel_rows.proofs.rows.with_rooms.Given as goal
 
-abbrev pub invariant-loop : goal.invariant-loop
-invariant-loop g l = (number : ℕ) → rows_taken_at l.partitions.items number ≡ no_rows_in
+abbrev pub invariant-loop-number : goal.invariant-loop-number
+invariant-loop-number g l = (number : ℕ) → rows_taken_at l.partitions.items number ≡ no_rows_in
