@@ -1,29 +1,19 @@
-//! Tests of how bytes are read, where no clause speaks: bodies byte by byte, frames and ends, cuts and batches, with
-//! each allocation refused in turn; readers that fail or give few bytes a call; and blocks whose pieces arrive in any
-//! order, which read no byte twice without need. What is shown here and proved nowhere, `docs/PROOFS.md` lists.
+//! Tests of how bytes are read, where no clause speaks: bodies byte by byte, frames, cuts and batches, with each
+//! allocation refused in turn; readers and files that fail or give few bytes a call; and morsels that are gathered in
+//! any order. What is shown here and proved nowhere, `docs/PROOFS.md` lists.
 #![tactic(auto)]
 
 #[cfg(test)]
-mod arrivals;
-#[cfg(test)]
 mod batches;
 #[cfg(test)]
-mod block_devices;
-#[cfg(test)]
-mod block_rows;
+mod blocks;
 #[cfg(test)]
 mod bodies;
 #[cfg(test)]
 mod cuts;
 #[cfg(test)]
-mod day_files;
+mod days;
 #[cfg(test)]
 mod devices;
 #[cfg(test)]
-mod digests;
-#[cfg(test)]
-mod refusals;
-#[cfg(test)]
 mod scans;
-#[cfg(test)]
-mod streams;
