@@ -2,4 +2,3 @@ pub mod ProductsOfSales
 pub mod OneBucketMore
 pub mod RowsOfPartitions
 pub mod RisingRows
-pub mod RisingNumbers
