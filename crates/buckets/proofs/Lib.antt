@@ -1,7 +1,4 @@
 pub mod ProductsOfSales
 pub mod OneBucketMore
 pub mod RowsOfPartitions
-pub mod RowsApart
 pub mod RisingRows
-pub mod RisingNumbers
-mod NeededRows

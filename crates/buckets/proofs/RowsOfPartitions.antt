@@ -1,15 +1,24 @@
--- The rows of the partitions of morsels, with those of one morsel more.
-use Rattle.std.proofs.Common.{◌≡◌, ℕ, ◌+◌, ◌<◌, ◌≤◌, List, [], ◌∷◌, ◌++◌, Some, Bor, get_or, length, map, take, sym, ap, ap₂, ◌∙◌}
+-- The rows of the partitions of morsels, with those of one morsel more. By place, no place stands twice in a list of them or in what is kept of their trades,
+-- and those are few.
+use Rattle.std.proofs.Common.{◌≡◌, ℕ, ◌+◌, ◌<◌, ◌≤◌, List, [], ◌∷◌, ◌++◌, Some, Bor, get_or, length, map, take, sym, ap, ap₂, ◌∙◌, Bool, nat_eq, arith}
 use Rattle.std.specs.Arc.{arc_value}
-use Rattle.std.specs.List.{slice_get}
+use Rattle.std.specs.List.{slice_get, IsDistinct}
 use Rattle.std.specs.declared.alloc.Global.{Global}
 use Rattle.std.specs.declared.sync.Arc.{Arc}
-use Rattle.std.proofs.lemmas.List.{append-nil, get_or_past, take_more, map_push}
+use Rattle.std.proofs.lemmas.List.{append-nil, get_or_past, take_more, map_push, length-append}
 use Rattle.std.proofs.lemmas.Option.{get_or_from_slice_get}
 use Rattle.base.proofs.Lists.{flat_map_push}
 use Rattle.morsel_rows.specs.SameRows.{is_same_partition, partition_equiv}
-use Rattle.morsel_rows.specs.Partitions.{MorselRowsView, PartitionView, joined_partitions, no_rows_in, partition_at}
+use Rattle.morsel_rows.specs.Partitions.{MorselRowsView, PartitionView, joined_partitions, no_rows_in, partition_at, AreRowsByPlace}
 use Rattle.buckets.specs.BucketRows.{rows_at, rows_of_partitions}
+use Rattle.base.specs.declared.limits.TheConstants.{TRADE_LIMIT}
+use Rattle.row_types.specs.declared.order.OrderRow.{OrderRow}
+use Rattle.probe.specs.Pricing.{priced}
+use Rattle.row_types.specs.declared.trade.Sale.{Sale}
+use Rattle.probe.proofs.KeptSales.{length-kept, length-priced}
+use Rattle.time_and_sales.specs.Lent.{AreApart}
+use Rattle.day_rows.proofs.RowsByPlace.{kept_apart, orders_distinct}
+use Rattle.buckets.specs.FoundRows.{sales_in, trades_in}
 
 -- rows, and others after them
 with_rows : PartitionView → PartitionView → PartitionView
@@ -83,3 +92,20 @@ module _ (number i : ℕ) (morsels : List (Arc MorselRowsView Global)) (d : Arc 
       ∙ ap (with_rows (joined_partitions (rows_at number (take i morsels))))
       (get_or_from_slice_get (arc_value (get_or morsels i d)).partitions number partition no_rows_in there ∙ empty)
       ∙ joined_none (joined_partitions (rows_at number (take i morsels))))
+
+module _ (rows : PartitionView) (are : AreRowsByPlace rows) where
+  pub orders_apart : IsDistinct nat_eq (map (λ (row : OrderRow). row.place) rows.orders)
+  orders_apart = rw are.orders (orders_distinct are.messages are.by_place)
+
+  pub sales_apart : (breaks : List ℕ) (selection : Sale → Bool) → AreApart (sales_in breaks selection rows)
+  sales_apart breaks selection = rw (are.orders, are.executions, are.own_priced) (kept_apart breaks selection are.messages are.by_place)
+
+  pub few_sales : (breaks : List ℕ) (selection : Sale → Bool) → length (sales_in breaks selection rows) < TRADE_LIMIT
+  few_sales breaks selection =
+      omega (
+        arith,
+        length-kept breaks selection (trades_in rows),
+        length-append (priced rows.orders rows.executions) rows.own_priced,
+        length-priced rows.orders rows.executions,
+        are.few,
+      )

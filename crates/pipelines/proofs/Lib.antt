@@ -1,3 +1,2 @@
 -- Lemmas that several proofs share, those of crates above among them.
 pub mod OneOutcome
-pub mod ByNumber

@@ -111,12 +111,25 @@ pub(crate) fn numbered<W: Work, K: Known<W::Input>>(
     let all = inputs.all();
     let mut items = Vec::with_capacity(alloc, all.len())?;
     for number in 0..all.len() {
-        let known = KnownInput {
-            number: number as u32,
-            input: Arc::try_clone(&all[number])?,
-            list: PhantomData,
-        };
-        items.push(Arc::new(alloc, known)?)?;
+        items.push(numbered_input::<W, K>(alloc, number as u32, &all[number])?)?;
     }
     Ok(Arc::new(alloc, Inputs::of(items))?)
+}
+
+/// The input of this number.
+fn numbered_input<W: Work, K: Known<W::Input>>(
+    alloc: Global,
+    number: u32,
+    input: &Arc<W::Input, Global>,
+) -> Result<Arc<KnownInput<W, K>, Global>, OutOfMemory>
+    requires { slice_get K.inputs number ≡ Some (arc_value input.now) }
+    ensures { IfOk result (λ known. arc_value known ≡ number) }
+{
+    let input = Arc::try_clone(input)?;
+    let known = KnownInput {
+        number,
+        input,
+        list: PhantomData,
+    };
+    Ok(Arc::new(alloc, known)?)
 }

@@ -12,7 +12,7 @@ use gathering::{Inputs, Piece, Work};
 use std::alloc::Global;
 use std::sync::{Arc, Wait};
 use std::thread::{Scope, Threads};
-use workers::{Gate, work};
+use workers::{Gate, Port, work};
 
 impl<'s, G: Gate, R: Threads + Wait + Sync> Pipeline<'s, G, R> {
     /// Starts the crew's workers, each with a seat of its own. One that can't be started is done without. The caller's
@@ -42,7 +42,7 @@ impl<'s, G: Gate, R: Threads + Wait + Sync> Pipeline<'s, G, R> {
         scope: &Scope<'s, E>,
         inputs: &Arc<Inputs<W>, Global>,
         dispatcher: &Arc<Dispatcher, Global>,
-        mut seat: Seat,
+        seat: Seat,
         to: &Sender<Piece<W>>,
     ) -> Option<()>
         requires tasks { tasks_of (arc_value dispatcher.now) ≡ length (arc_value inputs.now) }
@@ -53,14 +53,36 @@ impl<'s, G: Gate, R: Threads + Wait + Sync> Pipeline<'s, G, R> {
         let inputs = Arc::try_clone(inputs).ok()?;
         let to = to.clone().ok()?;
         let (alloc, number, gate) = (self.alloc, self.number, self.gate);
-        let mut port = ChannelPort::new(self.rt, to);
+        let port = ChannelPort::new(self.rt, to);
         let run = move || -> u32
             requires { (tasks_of (arc_value dispatcher) ≡ length (arc_value inputs))
                 × IsSeatOf (arc_value dispatcher) seat × IsUnused seat }
-        {
-            let (tasks, inputs) = (&*dispatcher, &*inputs);
-            work(alloc, tasks, &mut seat, inputs, &mut port, number, gate)
-        };
+        { work_through(alloc, dispatcher, seat, inputs, port, number, gate) };
         scope.spawn(run).is_ok().then_some(())
     }
+}
+
+/// What a worker's thread does, with all that it was given.
+fn work_through<W: Work, P: Port<Piece<W>> + Drop, G: Gate>(
+    alloc: Global,
+    dispatcher: Arc<Dispatcher, Global>,
+    mut seat: Seat,
+    inputs: Arc<Inputs<W>, Global>,
+    mut port: P,
+    number: u8,
+    gate: &G,
+) -> u32
+    requires tasks { tasks_of (arc_value dispatcher) ≡ length (arc_value inputs) }
+    requires own { IsSeatOf (arc_value dispatcher) seat }
+    requires unused { IsUnused seat }
+{
+    work(
+        alloc,
+        &dispatcher,
+        &mut seat,
+        &inputs,
+        &mut port,
+        number,
+        gate,
+    )
 }

@@ -39,14 +39,20 @@ fn start_gatherer<'s, E, W: Work + 's, R: Threads + Wait + Sync>(
     inputs: &Arc<Inputs<W>, Global>,
 ) -> Option<Gatherer<W>> {
     let inputs = Arc::try_clone(inputs).ok()?;
-    let mut gathering = Gathering::new(alloc, inputs).ok()?;
+    let gathering = Gathering::new(alloc, inputs).ok()?;
     let (to, from) = crossbeam_channel::unbounded::<Piece<W>, Global>(alloc).ok()?;
-    let gather = move || {
-        gather_all(rt, &mut gathering, &from);
-        gathering
-    };
-    let thread = scope.spawn(gather).ok()?;
+    let thread = scope.spawn(move || gathered(rt, gathering, from)).ok()?;
     Some(Gatherer { to, thread })
+}
+
+/// The gathering, with what came until no worker was left.
+fn gathered<W: Work, R: Wait>(
+    rt: &R,
+    mut gathering: Gathering<W>,
+    from: Receiver<Piece<W>>,
+) -> Gathering<W> {
+    gather_all(rt, &mut gathering, &from);
+    gathering
 }
 
 /// The channel that a worker sends into: that of its number modulo the gatherers.
@@ -72,7 +78,7 @@ pub fn gather_until_covered<W: Work, R: Wait>(
 )
     ensures { gathering.new.inputs ≡ gathering.old.inputs }
 {
-    let mut missing = (0..tasks).filter(|task| !gathering.covers(*task)).count();
+    let mut missing = count_missing(gathering, tasks);
     for _ in rt.forever() {
         if missing == 0 {
             break;
@@ -84,6 +90,15 @@ pub fn gather_until_covered<W: Work, R: Wait>(
             missing -= 1;
         }
     }
+}
+
+/// How many of so many first tasks are missing.
+fn count_missing<W: Work>(gathering: &Gathering<W>, tasks: u32) -> u32 {
+    let mut missing = 0u32;
+    for task in 0..tasks {
+        missing = missing.saturating_add(u32::from(!gathering.covers(task)));
+    }
+    missing
 }
 
 /// Files what comes, until no worker is left. A piece of other work is dropped.

@@ -10,7 +10,7 @@ use gathering::{Inputs, Link, Linked, OutOfMemory, Work};
 use outcomes::Crew;
 use std::alloc::Global;
 use std::sync::{Arc, Wait};
-use std::thread::{self, Threads};
+use std::thread::{self, Scope, Threads};
 use workers::Gate;
 
 /// Runs the first pipeline, links its total, and runs the second pipeline, each as `run_pipeline` does. It waits for
@@ -25,24 +25,35 @@ pub fn run_pair<A: Work, B: Work, L: Link<A, B>, G: Gate, R: Threads + Wait + Sy
 ) -> Result<Outcome<B::Total, L::Kept, L::Stop>, OutOfMemory>
     ensures { IfOk result (IsOutcome (A.IsTotalOf (arc_value inputs)) (L.Links link.now) B.IsTotalOf) }
 {
+    let first = &Pipeline {
+        rt,
+        alloc,
+        crew,
+        gate,
+        number: 1,
+    };
+    let inputs = &*inputs;
     thread::scope(
         thread::scope_env(),
         rt,
         move |scope| -> Result<Outcome<B::Total, L::Kept, L::Stop>, OutOfMemory>
             ensures { IfOk result
-                (IsOutcome (A.IsTotalOf (arc_value inputs)) (L.Links link.entry.now) B.IsTotalOf) }
-        {
-            let first = Pipeline {
-                rt,
-                alloc,
-                crew,
-                gate,
-                number: 1,
-            };
-            let total = first.total_in(scope, &inputs)?;
-            run_second(rt, alloc, total, link, crew, gate)
-        },
+                (IsOutcome (A.IsTotalOf inputs.entry.now) (L.Links link.entry.now) B.IsTotalOf) }
+        { pair_in(scope, first, inputs, link) },
     )
+}
+
+/// Runs both pipelines, of which this is the first, and whose workers the scope waits for.
+fn pair_in<'s, E, A: Work + 's, B: Work, L: Link<A, B>, G: Gate, R: Threads + Wait + Sync>(
+    scope: &Scope<'s, E>,
+    first: &Pipeline<'s, G, R>,
+    inputs: &Inputs<A>,
+    link: &L,
+) -> Result<Outcome<B::Total, L::Kept, L::Stop>, OutOfMemory>
+    ensures { IfOk result (IsOutcome (A.IsTotalOf inputs.now) (L.Links link.now) B.IsTotalOf) }
+{
+    let total = first.total_in(scope, inputs)?;
+    run_second(first.rt, first.alloc, total, link, first.crew, first.gate)
 }
 
 /// Runs the first pipeline alone, as `run_pair` does, and gives the total of all inputs.

@@ -1,6 +1,7 @@
 //! One pipeline on threads.
 ghost use Rattle.std.specs.Prelude.{◌≡◌, ◌<◌, length, IfOk, OnOk};
 ghost use Rattle.std.specs.Arc.{arc_value};
+ghost use Rattle.gathering.specs.Views.{IsComplete};
 
 use crate::by_number::{Known, numbered};
 use crate::gatherers::{gather_all, gather_until_covered, merge_all, start_gatherers};
@@ -109,11 +110,7 @@ impl<'s, G: Gate, R: Threads + Wait + Sync> Pipeline<'s, G, R> {
     {
         run_missing(self.alloc, &mut gathering, inputs, self.number, self.gate)?;
         self.gate.done(self.number);
-        match gathering.total() {
-            Ok(total) => Ok(total),
-            Err(TotalRefused::Memory { gathering: _ }) => Err(AllocError),
-            Err(TotalRefused::Missing { gathering: _ }) => unreachable!(),
-        }
+        total_of(gathering)
     }
 
     /// Gathers what the crew's workers bring.
@@ -140,5 +137,18 @@ impl<'s, G: Gate, R: Threads + Wait + Sync> Pipeline<'s, G, R> {
             gather_all(self.rt, gathering, &from);
             merge_all(self.rt, gathering, others);
         }
+    }
+}
+
+/// The total of a gathering in which no task is missing.
+fn total_of<W: Work>(gathering: Gathering<W>) -> Result<W::Total, OutOfMemory>
+    requires { IsComplete gathering }
+    ensures total { IfOk result (λ total. W.IsTotalOf gathering.inputs total) }
+    ensures admissible { OnOk result (W.IsAdmissible gathering.inputs) }
+{
+    match gathering.total() {
+        Ok(total) => Ok(total),
+        Err(TotalRefused::Memory { gathering: _ }) => Err(AllocError),
+        Err(TotalRefused::Missing { gathering: _ }) => unreachable!(),
     }
 }

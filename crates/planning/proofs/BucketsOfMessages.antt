@@ -34,8 +34,7 @@ use Rattle.buckets.specs.FoundRows.{FoundView, sales_in}
 use Rattle.buckets.specs.Products.{product_of}
 use Rattle.planning.specs.AllBuckets.{AreProductsOf, Product, found_in}
 use Rattle.buckets.specs.Plans.{rising, selection_of}
-use Rattle.buckets.proofs.RisingNumbers.{rising_among}
-use Rattle.planning.proofs.Selecting.{selection_agrees}
+use Rattle.planning.proofs.PlannedLists.{rising_among, selection_agrees}
 
 -- ---- faults
 

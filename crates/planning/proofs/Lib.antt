@@ -1,7 +1,6 @@
 pub mod MorselsOfCuts
 pub mod LinkedBuckets
-pub mod Gathered
+pub mod PlannedLists
 pub mod AnswerOfBuckets
 pub mod BucketsOfMessages
 pub mod ProductsJoined
-pub mod Selecting

@@ -66,7 +66,7 @@ pub(crate) fn plan(
 }
 
 /// The buckets of a plan, in order: one of each partition.
-#[tactic(auto, using(crate::proofs::Gathered::numbering))]
+#[tactic(auto, using(crate::proofs::PlannedLists::numbering))]
 pub(crate) fn buckets_of(
     alloc: Global,
     plan: &Arc<Plan, Global>,

@@ -8,7 +8,7 @@ use Rattle.pipelines.proofs.by_number.numbered.Goals as goal
 pub loop-number-preserved : goal.loop-number-preserved
 loop-number-preserved g c =
     let n = c.loop-number.number in
-    rw (c.in_ok-push.ensures.items, map_push, c.loop-number.invariant, c.in_ok-new.ensures.ok, add-one, range_more 0 n n (omega arith))
+    rw (c.in_ok-push.ensures.items, map_push, c.loop-number.invariant, c.in_ok-numbered_input.ensures, add-one, range_more 0 n n (omega arith))
 
 pub of-requires-clause-admissible : goal.of-requires-clause-admissible
 of-requires-clause-admissible g c κs within =

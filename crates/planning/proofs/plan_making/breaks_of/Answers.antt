@@ -1,9 +1,8 @@
 use Rattle.std.proofs.Common.{ap, ◌∙◌}
 use Rattle.std.specs.Arc.{arc_value}
 use Rattle.buckets.specs.Plans.{rising}
-use Rattle.buckets.proofs.RisingNumbers.{rising_is}
 use Rattle.morsel_rows.specs.Partitions.{MorselRowsView}
-use Rattle.planning.proofs.Gathered.{gathered_all, gathered_more}
+use Rattle.planning.proofs.PlannedLists.{gathered_all, gathered_more, rising_is}
 use Rattle.planning.proofs.plan_making.breaks_of.Goals as goal
 
 pub loop-morsel-preserved : goal.loop-morsel-preserved

@@ -1,7 +1,7 @@
 use Rattle.std.proofs.Common.{◌∙◌}
 use Rattle.std.specs.Arc.{arc_value}
 use Rattle.morsel_rows.specs.Partitions.{MorselRowsView}
-use Rattle.planning.proofs.Gathered.{gathered_all, gathered_more}
+use Rattle.planning.proofs.PlannedLists.{gathered_all, gathered_more}
 use Rattle.planning.proofs.plan_making.directory_of.Goals as goal
 
 pub loop-morsel-preserved : goal.loop-morsel-preserved

@@ -7,7 +7,7 @@ use Rattle.time_and_sales.specs.Lent.{AreApart}
 use Rattle.morsel_rows.specs.Partitions.{AreRowsByPlace, PartitionView}
 use Rattle.buckets.specs.BucketRows.{rows_of_partitions}
 use Rattle.buckets.specs.FoundRows.{sales_in, trades_in}
-use Rattle.buckets.proofs.RowsApart.{few_sales, sales_apart}
+use Rattle.buckets.proofs.RowsOfPartitions.{few_sales, sales_apart}
 use Rattle.buckets.proofs.bucket_work.BucketWorkWork.run.Goals.{After-what}
 use Rattle.buckets.proofs.bucket_work.BucketWorkWork.run.Goals as goal
 
