@@ -1,5 +1,4 @@
 pub mod MeaningOrFault
 pub mod CutAtSeparator
-pub mod SymbolLists
+pub mod ValueLists
 pub mod WordByWord
-pub mod KindLists

@@ -213,7 +213,7 @@ impl<A: Allocator + Clone> QueryBuilder<A> {
     }
 
     /// Reads `in` and a list of kinds.
-    #[tactic(auto, using(crate::proofs::KindLists::reading_kinds), unfolding(crate::specs::Faults::step))]
+    #[tactic(auto, using(crate::proofs::ValueLists::reading_kinds), unfolding(crate::specs::Faults::step))]
     fn read_kinds(&mut self, words: &mut Words<'_>) -> Result<(), QueryFault>
         ensures ok { OnOk result (read_from (kind_list self.old) words.old
             ≡ read_from (linked (codes "and") self.new) words.new) }

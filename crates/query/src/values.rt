@@ -107,7 +107,7 @@ pub(crate) fn time_of(bytes: &[u8]) -> Option<u32>
 }
 
 /// The symbols of a list with a comma between each two, if it is one.
-#[tactic(auto, using(crate::proofs::SymbolLists::lists), unfolding(crate::specs::Values::symbols_of))]
+#[tactic(auto, using(crate::proofs::ValueLists::lists), unfolding(crate::specs::Values::symbols_of))]
 pub(crate) fn symbols_of<A: Allocator + Clone>(
     alloc: &A,
     bytes: &[u8],

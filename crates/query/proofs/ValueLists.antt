@@ -1,12 +1,22 @@
--- A list of kinds has a kind.
-use Rattle.std.proofs.Common.{◌≡◌, ℕ, Bool, true, false, cond, List, [], ◌∷◌, Some, subst, arith, eqb}
+-- Lists of symbols and of kinds: each has a part, and of kinds a kind.
+use Rattle.std.proofs.Common.{◌≡◌, ◌==◌, ℕ, true, List, length, nat_lt, arith, append-nil, lt-ltb, Bool, false, cond, [], ◌∷◌, Some, subst, eqb}
+use Rattle.std.proofs.lemmas.List.Folds.{list_all-append}
+use Rattle.std.proofs.lemmas.List.Splits.{length-slice_split}
+use Rattle.query.specs.Words.{split_by}
 use Rattle.std.specs.List.{list_all, onto_first}
 use Rattle.std.proofs.lemmas.Bool.{and_parts}
 use Rattle.std.proofs.lemmas.Option.{cond_some}
-use Rattle.query.specs.Words.{split_by}
 use Rattle.query.specs.Values.{is_kind, letters_of, kinds_of}
 use Rattle.meaning.specs.Meaning.{Kinds, has_some}
 use Rattle.query.proofs.WordByWord.{reading}
+
+-- a text has a part
+pub has_part : (separator : ℕ) (text : List ℕ) → nat_lt 0 (length (split_by separator text)) ≡ true
+has_part separator text = lt-ltb _ _ (omega (arith, length-slice_split (λ byte. byte == separator) text))
+
+pub ruleset lists = (has_part, list_all-append, append-nil)
+
+-- ---- a list of kinds has a kind
 
 -- a kind's first byte is a letter
 first_letter : (byte : ℕ) (bytes part : List ℕ) → is_kind (byte ∷ part) ≡ true → has_some (letters_of (byte ∷ bytes)) ≡ true
