@@ -1,5 +1,2 @@
-mod EachOnce
-mod OneOutcome
-mod OneRehearsal
-mod Rehearsed
+mod RehearsalLaws
 pub mod Steps

@@ -1,4 +1,4 @@
-use Rattle.executor.proofs.EachOnce.{all_arrived}
+use Rattle.executor.proofs.RehearsalLaws.{all_arrived}
 use Rattle.executor.proofs.rehearsal_laws.all_arrived_answers.Goals as goal
 
 pub returns : goal.returns

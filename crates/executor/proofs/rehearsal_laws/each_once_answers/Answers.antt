@@ -1,4 +1,4 @@
-use Rattle.executor.proofs.EachOnce.{once_in_order}
+use Rattle.executor.proofs.RehearsalLaws.{once_in_order}
 use Rattle.executor.proofs.rehearsal_laws.each_once_answers.Goals as goal
 
 pub returns : goal.returns

@@ -2,8 +2,7 @@ use Rattle.std.proofs.Common.{subst}
 use Rattle.answers.proofs.OneAnswer.{answers_are_one}
 use Rattle.answers.specs.Answers.{IsAnswer}
 use Rattle.block_scan.proofs.KnownFiles.{known_whole}
-use Rattle.executor.proofs.EachOnce.{all_arrived}
-use Rattle.executor.proofs.OneRehearsal.{finished_tells}
+use Rattle.executor.proofs.RehearsalLaws.{all_arrived, finished_tells}
 use Rattle.executor.specs.Rehearsals.{IsFinished}
 use Rattle.executor.proofs.rehearsal_laws.schedules_and_threads_agree.Goals as goal
 
