@@ -1,5 +1,5 @@
-//! Day files in frames and in morsels: cut by a target, at places, and while they come. What comes is the right cut, the
-//! right fault, or want of memory.
+//! Day files in frames and in morsels: cut by a target, at places, and while they come. What comes is the right cut, or
+//! the right fault, or want of memory.
 use crate::days::named;
 use day_file::{
     Cut, CutFault, Cutter, DayFile, LONGEST_FILE, check, cut, cut_at, frames, one_cut, one_reading,

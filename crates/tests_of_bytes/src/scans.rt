@@ -3,7 +3,7 @@ use crate::days::{broken_earlier, named};
 use day_file::cut_at;
 use day_rows::Row;
 use gathering::{Filed, Gathering, Inputs, Piece, Work};
-use morsel_rows::{MorselRows, OrderList, Partition};
+use morsel_rows::{MorselRows, Partition};
 use row_types::{DirectoryRow, Execution, OrderRow};
 use scanning::{OutOfMemory, ScanTotal, ScanWork, batch_inputs, scan_inputs};
 use std::alloc::Global;
@@ -79,23 +79,11 @@ type Placed = (Option<u32>, Row);
 
 type Found = Vec<Placed>;
 
-/// Adds the orders of one partition.
-fn find_orders(
-    alloc: Global,
-    found: &mut Found,
-    number: u32,
-    orders: &OrderList,
-) -> Result<(), OutOfMemory> {
-    let mut rows = Vec::new(alloc);
-    orders.append_to(&mut rows)?;
-    for row in &rows {
-        found.push((Some(number), Row::Order(*row)))?;
+/// Adds the rows of one partition.
+fn find_in(found: &mut Found, number: u32, partition: &Partition) -> Result<(), OutOfMemory> {
+    for row in partition.orders().iter() {
+        found.push((Some(number), Row::Order(row)))?;
     }
-    Ok(())
-}
-
-/// Adds what was traded of one partition.
-fn find_trades(found: &mut Found, number: u32, partition: &Partition) -> Result<(), OutOfMemory> {
     for row in partition.executions() {
         found.push((Some(number), Row::Execution(*row)))?;
     }
@@ -106,7 +94,7 @@ fn find_trades(found: &mut Found, number: u32, partition: &Partition) -> Result<
 }
 
 /// Adds the rows of one morsel.
-fn find(alloc: Global, found: &mut Found, morsel: &MorselRows) -> Result<(), OutOfMemory> {
+fn find(found: &mut Found, morsel: &MorselRows) -> Result<(), OutOfMemory> {
     for row in morsel.directory() {
         found.push((None, Row::Directory(*row)))?;
     }
@@ -115,8 +103,7 @@ fn find(alloc: Global, found: &mut Found, morsel: &MorselRows) -> Result<(), Out
     }
     for number in 0..64 {
         if let Some(partition) = morsel.partition(number) {
-            find_orders(alloc, found, number, partition.orders())?;
-            find_trades(found, number, partition)?;
+            find_in(found, number, partition)?;
         }
     }
     Ok(())
@@ -126,7 +113,7 @@ fn find(alloc: Global, found: &mut Found, morsel: &MorselRows) -> Result<(), Out
 fn rows_of(alloc: Global, total: ScanTotal) -> Result<Found, OutOfMemory> {
     let mut found = Vec::new(alloc);
     for morsel in total.into_rows() {
-        find(alloc, &mut found, &morsel)?;
+        find(&mut found, &morsel)?;
     }
     Ok(found)
 }
@@ -273,27 +260,15 @@ fn named_scans(alloc: Global) -> Result<Scans, Fail> {
 /// is another, and there is no fourth.
 static STRANGERS: [(u32, Answered); 4] = [(2, Err(2)), (0, NEW), (3, Err(3)), (1, NEW)];
 
+/// Nor are gatherings over two cuts merged.
 #[test]
 fn a_morsel_of_another_cut_is_a_stranger_unless_it_is_the_same(
     rt: HostRuntime,
 ) -> Result<(), Fail> {
     let scans = broken_scans(rt.alloc())?;
-    let mut gathering = Gathering::new(rt.alloc(), named_scans(rt.alloc())?)?;
-    assert!(rt; are_filed(rt.alloc(), &mut gathering, &scans, &STRANGERS)?);
-    Ok(())
-}
-
-/// A gathering that has the first of these scans.
-fn begun(alloc: Global, scans: &Scans) -> Result<Gathering<ScanWork>, Fail> {
-    let mut gathering = Gathering::new(alloc, Arc::try_clone(scans)?)?;
-    let _ = filed(alloc, &mut gathering, scans, 0)?;
-    Ok(gathering)
-}
-
-#[test]
-fn gatherings_over_two_cuts_are_not_merged(rt: HostRuntime) -> Result<(), Fail> {
-    let mut own = begun(rt.alloc(), &broken_scans(rt.alloc())?)?;
-    let other = begun(rt.alloc(), &named_scans(rt.alloc())?)?;
-    assert!(rt; missing_when_refused(&mut own, other) == Some((Some(1), Some(1))));
+    let mut other = Gathering::new(rt.alloc(), named_scans(rt.alloc())?)?;
+    assert!(rt; are_filed(rt.alloc(), &mut other, &scans, &STRANGERS)?);
+    let mut own = Gathering::new(rt.alloc(), scans)?;
+    assert!(rt; missing_when_refused(&mut own, other) == Some((Some(0), Some(2))));
     Ok(())
 }
