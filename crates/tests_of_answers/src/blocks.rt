@@ -1,10 +1,10 @@
 //! Days that are read at places, by several threads at once.
 ghost use Rattle.std.specs.Prelude.{◌≡◌, ◌≤◌, length};
 
-use crate::answering::HEADER;
+use crate::answering::{HEADER, settings_of};
 use executor::{
-    BlockSource, CountedSink, Crew, DeviceFailed, Division, FileBlocks, FreeGate, Gate,
-    OutOfMemory, Query, QueryFault, ReadsAt, RunFault, Settings, answer_blocks, parse, run_blocks,
+    BlockSource, CountedSink, DeviceFailed, Division, FileBlocks, FreeGate, Gate, OutOfMemory,
+    QueryFault, ReadsAt, RunFault, answer_blocks, parse, run_blocks,
 };
 use std::alloc::Global;
 use std::sync::atomic::{AtomicBool, AtomicU64, Ordering};
@@ -26,15 +26,7 @@ fn told_by_blocks<R: Threads + Wait + Sync, S: BlockSource + Send + Sync>(
 ) -> (Result<(), RunFault>, bool) {
     let mut written = Vec::new(alloc);
     let mut sink = CountedSink::of(&mut written);
-    let settings = Settings {
-        crew: Crew {
-            workers: workers.clamp(1, 64),
-            gatherers: 1,
-        },
-        morsel: 1,
-        parts: 3,
-        limit: u64::from(limit),
-    };
+    let settings = settings_of(workers, 1, limit);
     let told = run_blocks(rt, alloc, source, length, query, settings, &mut sink);
     let want = if told.is_ok() { text } else { "" };
     (told, written.as_slice() == want.as_bytes())
@@ -79,9 +71,14 @@ const TOO_LONG: Result<(), RunFault> = Err(RunFault::TooLong { limit: 70 });
 /// What is told where the device fails.
 const FAILED: Result<(), RunFault> = Err(RunFault::ReadFailed);
 
+/// What is told of a query that begins with no word.
+const UNKNOWN: Result<(), RunFault> = Err(RunFault::Query(QueryFault::UnknownWord { at: 0 }));
+
 /// The limit, between which places the device fails, the query, and what is told of 71 bytes. One that is too
 /// long is refused before anything else of it is read.
-const FRAIL: [(u32, u64, u64, &str, Result<(), RunFault>); 8] = [
+type FrailRow = (u32, u64, u64, &'static str, Result<(), RunFault>);
+
+const FRAIL: [FrailRow; 8] = [
     (71, 0, 0, "sales", Ok(())),
     (70, 0, 0, "sales", TOO_LONG),
     (70, 0, 70, "sales", TOO_LONG),
@@ -89,27 +86,30 @@ const FRAIL: [(u32, u64, u64, &str, Result<(), RunFault>); 8] = [
     (71, 71, u64::MAX, "sales", FAILED),
     (71, 70, u64::MAX, "sales", FAILED),
     (71, 0, u64::MAX, "sales", FAILED),
-    (
-        71,
-        0,
-        u64::MAX,
-        "sale",
-        Err(RunFault::Query(QueryFault::UnknownWord { at: 0 })),
-    ),
+    (71, 0, u64::MAX, "sale", UNKNOWN),
 ];
+
+/// Whether this is told of such a device, and its sink has a whole text or nothing.
+fn is_told_of_frail<R: Threads + Wait + Sync>(
+    rt: &R,
+    alloc: Global,
+    bytes: &[u8],
+    row: &FrailRow,
+) -> bool {
+    let (limit, fails_from, fails_to, query, want) = row;
+    let source = FileBlocks::of(Frail {
+        bytes,
+        fails_from: *fails_from,
+        fails_to: *fails_to,
+    });
+    told_by_blocks(rt, alloc, source, 71, query, *limit, 3, UNNAMED_TEXT) == (*want, true)
+}
 
 #[test]
 fn a_device_that_fails_or_is_too_long_leaves_the_sink_alone(rt: HostRuntime) -> Result<(), Fail> {
-    let alloc = rt.alloc();
-    let bytes = Day::of(alloc, &UNNAMED)?.bytes;
-    for (limit, fails_from, fails_to, query, want) in &FRAIL {
-        let source = FileBlocks::of(Frail {
-            bytes: bytes.as_slice(),
-            fails_from: *fails_from,
-            fails_to: *fails_to,
-        });
-        let (told, wrote) = told_by_blocks(&rt, alloc, source, 71, query, *limit, 3, UNNAMED_TEXT);
-        assert!(rt; told == *want && wrote, "{limit} {fails_from} {fails_to}");
+    let bytes = Day::of(rt.alloc(), &UNNAMED)?.bytes;
+    for row in &FRAIL {
+        assert!(rt; is_told_of_frail(&rt, rt.alloc(), bytes.as_slice(), row));
     }
     Ok(())
 }
@@ -118,13 +118,12 @@ fn a_device_that_fails_or_is_too_long_leaves_the_sink_alone(rt: HostRuntime) -> 
 /// allocation of the process refused in turn, and without some threads.
 #[test]
 fn blocks_answer_or_want_memory(rt: HostRuntime) -> Result<(), Fail> {
-    let alloc = rt.alloc();
-    let bytes = Day::of(alloc, &BROKEN_EARLIER)?.bytes;
+    let bytes = Day::of(rt.alloc(), &BROKEN_EARLIER)?.bytes;
     for length in [3 * HALF, 0] {
         let source = in_memory(bytes.as_slice());
-        let (told, wrote) = told_by_blocks(&rt, alloc, source, length, "sales", 1_000, 2, HEADER);
-        assert!(rt; wrote, "{length}");
-        told?;
+        let told = told_by_blocks(&rt, rt.alloc(), source, length, "sales", 1_000, 2, HEADER);
+        assert!(rt; told.1);
+        told.0?;
     }
     Ok(())
 }
@@ -202,8 +201,8 @@ fn is_told_by_meeting<R: Threads + Wait + Sync>(
 ) -> bool {
     let source = FileBlocks::of(meeting);
     let most = u32::MAX;
-    let (told, wrote) = told_by_blocks(rt, alloc, source, 2 * HALF, NONE, most, workers, HEADER);
-    told == Ok(()) && wrote
+    let told = told_by_blocks(rt, alloc, source, 2 * HALF, NONE, most, workers, HEADER);
+    told == (Ok(()), true) && !meeting.gave_up.load(Ordering::SeqCst)
 }
 
 #[test]
@@ -211,7 +210,6 @@ fn two_threads_read_at_once(rt: HostRuntime) -> Result<(), Fail> {
     let bytes = long_day(rt.alloc())?;
     let meeting = Meeting::of(bytes.as_slice(), true);
     assert!(rt; is_told_by_meeting(&rt, rt.alloc(), &meeting, 2));
-    assert!(rt; !meeting.gave_up.load(Ordering::SeqCst));
     Ok(())
 }
 
@@ -222,8 +220,7 @@ fn no_byte_is_read_twice_but_for_guesses(rt: HostRuntime) -> Result<(), Fail> {
     let bytes = long_day(rt.alloc())?;
     let meeting = Meeting::of(bytes.as_slice(), false);
     assert!(rt; is_told_by_meeting(&rt, rt.alloc(), &meeting, 1));
-    let count = meeting.count.load(Ordering::SeqCst);
-    assert!(rt; count <= bytes.len() as u64 + 8_192, "{count}");
+    assert!(rt; meeting.count.load(Ordering::SeqCst) <= bytes.len() as u64 + 8_192);
     Ok(())
 }
 
@@ -248,53 +245,54 @@ impl<'a> ReadsAt for Failing<'a> {
     }
 }
 
-/// Whether one worker reports, by four blocks, that this reading fails.
-fn is_reported<R: Threads + Wait + Sync>(
+/// What `workers` workers tell of all sales by blocks of a source.
+fn told_of_sales<R: Threads + Wait + Sync, S: BlockSource + Send + Sync, G: Gate>(
     rt: &R,
     alloc: Global,
-    bytes: &[u8],
-    query: &Query,
-    bad: u64,
-) -> bool {
-    let failing = Failing {
+    source: S,
+    division: Division,
+    workers: u32,
+    gate: &G,
+) -> Result<(), RunFault> {
+    let Ok(source) = Arc::new(alloc, source) else {
+        return Err(RunFault::OutOfMemory);
+    };
+    let Ok(query) = parse(alloc, "sales") else {
+        return Err(RunFault::OutOfMemory);
+    };
+    let settings = settings_of(workers, 1, 1_000);
+    match answer_blocks(rt, alloc, &source, division, &query, settings, gate) {
+        Ok(_) => Ok(()),
+        Err(fault) => Err(fault),
+    }
+}
+
+/// Whether one worker reports, by four blocks, that this reading fails.
+fn is_reported<R: Threads + Wait + Sync>(rt: &R, alloc: Global, bytes: &[u8], bad: u64) -> bool {
+    let source = FileBlocks::of(Failing {
         bytes,
         bad,
         readings: AtomicU64::new(0),
-    };
-    let Ok(source) = Arc::new(alloc, FileBlocks::of(failing)) else {
-        return false;
-    };
-    let division = Division {
+    });
+    let four = Division {
         bytes: 34,
         blocks: 4,
     };
-    let settings = Settings {
-        crew: Crew {
-            workers: 1,
-            gatherers: 1,
-        },
-        morsel: 1,
-        parts: 3,
-        limit: 1_000,
-    };
-    let told = answer_blocks(rt, alloc, &source, division, query, settings, &FreeGate);
-    matches!(told, Err(RunFault::ReadFailed))
+    told_of_sales(rt, alloc, source, four, 1, &FreeGate) == FAILED
 }
 
 /// The byte at the limit is asked for, each block but the first is guessed at, and each is read once or more.
 #[test]
 fn each_reading_that_fails_is_reported(rt: HostRuntime) -> Result<(), Fail> {
-    let alloc = rt.alloc();
-    let bytes = Day::of(alloc, &BROKEN_EARLIER)?.bytes;
-    let query = parse(alloc, "sales")?;
+    let bytes = Day::of(rt.alloc(), &BROKEN_EARLIER)?.bytes;
     let mut failed = 0;
     for bad in 0..100 {
-        if is_reported(&rt, alloc, bytes.as_slice(), &query, bad) {
+        if is_reported(&rt, rt.alloc(), bytes.as_slice(), bad) {
             assert!(rt; failed == bad);
             failed += 1;
         }
     }
-    assert!(rt; failed >= 8 && failed < 100, "{failed}");
+    assert!(rt; failed >= 8 && failed < 100);
     Ok(())
 }
 
@@ -334,44 +332,21 @@ impl<'a> Gate for FailsLate<'a> {
     }
 }
 
-/// What two workers tell of all sales by two blocks of this file, which is the gate of their runs too.
-fn told_late<R: Threads + Wait + Sync>(
-    rt: &R,
-    alloc: Global,
-    late: &FailsLate<'_>,
-    query: &Query,
-) -> Result<(), RunFault> {
-    let Ok(source) = Arc::new(alloc, FileBlocks::of(late)) else {
-        return Err(RunFault::OutOfMemory);
-    };
-    let division = Division {
-        bytes: 67,
-        blocks: 2,
-    };
-    let settings = Settings {
-        crew: Crew {
-            workers: 2,
-            gatherers: 1,
-        },
-        morsel: 1,
-        parts: 3,
-        limit: 1_000,
-    };
-    answer_blocks(rt, alloc, &source, division, query, settings, late).map(drop)
-}
-
-/// The first block's other run, which failed nowhere, has given the answer by then.
+/// The first block's other run, which failed nowhere, has given the answer by then. The file is the gate of the runs,
+/// too.
 #[test]
 fn a_reading_of_a_run_that_came_too_late_is_reported(rt: HostRuntime) -> Result<(), Fail> {
-    let alloc = rt.alloc();
-    let bytes = Day::of(alloc, &BROKEN_EARLIER)?.bytes;
-    let query = parse(alloc, "sales")?;
+    let bytes = Day::of(rt.alloc(), &BROKEN_EARLIER)?.bytes;
     let late = FailsLate {
         bytes: bytes.as_slice(),
         is_done: AtomicBool::new(false),
         gave_up: AtomicBool::new(false),
     };
-    assert!(rt; told_late(&rt, alloc, &late, &query) == Err(RunFault::ReadFailed));
-    assert!(rt; !late.gave_up.load(Ordering::SeqCst));
+    let two = Division {
+        bytes: 67,
+        blocks: 2,
+    };
+    let told = told_of_sales(&rt, rt.alloc(), FileBlocks::of(&late), two, 2, &late);
+    assert!(rt; told == FAILED && !late.gave_up.load(Ordering::SeqCst));
     Ok(())
 }

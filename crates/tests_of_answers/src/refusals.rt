@@ -1,32 +1,30 @@
 //! `plain` in heaps that have room for more and more, and `plain` and `run` with each allocation of the process
 //! refused in turn: what comes is the right answer, or want of memory.
-use crate::asking::{asked, settings_of, told_by_plain};
-use crate::devices::Kept;
+use crate::answering::{is_told, settings_of};
 use executor::{
-    Answer, Counted, CountedSink, DayFault, DayFile, LONGEST_FILE, OutOfMemory, RunFault, Text,
-    plain, run,
+    Counted, CountedSink, DayFault, DayFile, LONGEST_FILE, OutOfMemory, RunFault, parse, plain, run,
 };
 use linked_list_allocator::LocalHeap;
-use std::alloc::AllocError;
-use std::process::Abort;
+use std::alloc::{AllocError, Global};
+use std::io::{self, Write};
+use std::sync::Wait;
 use std::test::Fail;
-use tests_support::{Day, Form, MSFT, NAMED, NAMED_TEXT, UNNAMED, UNNAMED_TEXT};
+use std::thread::Threads;
+use tests_support::{Day, Form, MSFT, NAMED, NAMED_TEXT, UNNAMED, UNNAMED_TEXT, file_of};
 
 const QUERY: &str = "sales where symbol in MSFT";
 
-/// The text that `plain` answers, with all that it keeps in this heap.
-fn told_within<'a>(
-    rt: &impl Abort,
-    heap: &'a LocalHeap,
-    bytes: &[u8],
-) -> Result<Text<&'a LocalHeap>, OutOfMemory> {
+/// Whether `plain`, with all that it keeps in this heap, answers all sales of `NAMED`.
+fn is_told_within(alloc: Global, heap: &LocalHeap, bytes: &[u8]) -> Result<bool, OutOfMemory> {
     let bytes = Vec::from_slice(heap, bytes)?;
-    assert!(rt; bytes.len() as u64 <= LONGEST_FILE);
-    let query = asked(rt, heap, QUERY)?;
-    match plain(heap, &DayFile::of_bytes(bytes), &query)? {
-        Answer::Printed(text) => Ok(text),
-        Answer::Faulty(_) => Text::of(Vec::new(heap)),
+    let Ok(query) = parse(heap, QUERY) else {
+        return Err(AllocError);
+    };
+    if bytes.len() as u64 > LONGEST_FILE {
+        return Ok(false);
     }
+    let answer = plain(heap, &DayFile::of_bytes(bytes), &query)?;
+    is_told(alloc, &answer, Ok(NAMED_TEXT))
 }
 
 #[test]
@@ -35,11 +33,8 @@ fn a_refused_growth_is_told_by_plain(rt: HostRuntime) -> Result<(), Fail> {
     let mut refused = 0u32;
     for step in 0..400u32 {
         let heap = LocalHeap::new(rt.alloc(), step as usize * 16)?;
-        match told_within(&rt, &heap, bytes.as_slice()) {
-            Ok(text) => {
-                let text = text.joined(rt.alloc())?;
-                assert!(rt; text.as_slice() == NAMED_TEXT.as_bytes(), "at {step}");
-            }
+        match is_told_within(rt.alloc(), &heap, bytes.as_slice()) {
+            Ok(is_told) => assert!(rt; is_told),
             Err(OutOfMemory) => refused = step,
         }
     }
@@ -95,16 +90,64 @@ const ASKED: [AskedRow; 3] = [
     ),
 ];
 
+/// Whether `plain` answers so.
+fn is_told_by_plain(alloc: Global, asked: &AskedRow) -> Result<bool, Fail> {
+    let (query, forms, want) = asked;
+    let file = file_of(Day::of(alloc, forms)?.bytes)?;
+    let query = parse(alloc, query)?;
+    let answer = plain(alloc, &file, &query)?;
+    Ok(is_told(alloc, &answer, *want)?)
+}
+
 /// Run also with each allocation of the process refused in turn.
 #[test]
 fn plain_or_want_of_memory(rt: HostRuntime) -> Result<(), Fail> {
-    for (text, forms, want) in ASKED {
-        let bytes = Day::of(rt.alloc(), forms)?.bytes;
-        let told = told_by_plain(&rt, rt.alloc(), text, bytes)?;
-        let told = told.as_ref().map(|text| text.as_slice());
-        assert!(rt; told == want.as_ref().map(|text| text.as_bytes()), "{text}");
+    for asked in &ASKED {
+        assert!(rt; is_told_by_plain(rt.alloc(), asked)?);
     }
     Ok(())
+}
+
+/// A writer that takes at most `step` bytes a call and `room` in all, of this text alone.
+#[derive(Drop)]
+struct Expecting<'a> {
+    rest: &'a [u8],
+    step: usize,
+    room: usize,
+}
+
+impl<'a> Write for Expecting<'a> {
+    fn write(&mut self, buf: &[u8]) -> io::Result<usize> {
+        let count = buf.len().min(self.step).min(self.room).min(self.rest.len());
+        let (next, rest) = self.rest.split_at(count);
+        if next != &buf[..count] {
+            return Err(io::Error::from(io::ErrorKind::InvalidData));
+        }
+        self.rest = rest;
+        self.room -= count;
+        Ok(count)
+    }
+
+    fn flush(&mut self) -> io::Result<()> {
+        Ok(())
+    }
+}
+
+/// What a run over these bytes tells if its writer has room for this many bytes, and how many it has room for then.
+fn told_by_run<R: Threads + Wait + Sync>(
+    rt: &R,
+    alloc: Global,
+    bytes: &[u8],
+    step: usize,
+    room: usize,
+) -> (Result<(), RunFault>, usize) {
+    let mut source = Counted::of(bytes);
+    let rest = UNNAMED_TEXT.as_bytes();
+    let mut writer = Expecting { rest, step, room };
+    let mut sink = CountedSink::of(&mut writer);
+    let settings = settings_of(2, u16::MAX, 4 << 20);
+    let told = run(rt, alloc, &mut source, "sales", settings, &mut sink);
+    (told, writer.room)
 }
 
 /// Run also with each allocation of the process refused in turn, and without some threads, which are started for a
@@ -115,28 +158,13 @@ fn run_or_want_of_memory(rt: HostRuntime) -> Result<(), Fail> {
     bytes.resize((2 << 20) + 71, 0)?;
     for (step, room, want) in [
         (100, 10, Err(RunFault::WriteFailed { written: 10 })),
-        (2, 100, Ok(())),
+        (2, 75, Ok(())),
     ] {
-        let mut source = Counted::of(bytes.as_slice());
-        let mut writer = Kept::of(step, room);
-        let mut sink = CountedSink::of(&mut writer);
-        let told = run(
-            &rt,
-            rt.alloc(),
-            &mut source,
-            "sales",
-            settings_of(2, u16::MAX, 4 << 20),
-            &mut sink,
-        );
-        if told == Err(RunFault::OutOfMemory) {
-            assert!(rt; writer.taken().is_empty(), "{step} {room}");
+        let told = told_by_run(&rt, rt.alloc(), bytes.as_slice(), step, room);
+        if told == (Err(RunFault::OutOfMemory), room) {
             return Err(Fail::from(AllocError));
         }
-        let text = UNNAMED_TEXT.as_bytes();
-        assert!(rt;
-            told == want && Some(writer.taken()) == text.get(..text.len().min(room)),
-            "{step} {room}"
-        );
+        assert!(rt; told == (want, 0));
     }
     Ok(())
 }
