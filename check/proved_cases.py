@@ -56,18 +56,15 @@ def part_of(word):
 
 
 def joined(parts):
-    """Lists of bytes, as many on a line as have room there."""
-    lines = parts[:1] or ["[]"]
-    for part in parts[1:]:
-        has_room = len(lines[-1]) + len(part) < 150
-        lines[-1:] = [f"{lines[-1]} ++ {part}"] if has_room else [lines[-1], f"++ {part}"]
-    return "    (" + "\n    ".join(lines) + ")"
+    """Lists of bytes, a line each."""
+    return "    (" + "\n    ++ ".join(parts or ["[]"]) + ")"
 
 
 def theorem_of(case):
     word, proof = ("Reports", "reported") if case.answer.startswith("fault: ") else ("Prints", "printed")
     name = re.sub(r"\W+", "_", case.comment.lower().replace("'", "")).strip("_")
     return "\n".join([
+        f"-- {case.comment}",
         f"{name} : {word} (codes {quoted(case.query)})",
         joined([part_of(it) for it in case.words]),
         joined([f"codes {quoted(line)}" for line in case.answer.splitlines(keepends=True)]),
