@@ -10,8 +10,6 @@ mod breaks;
 #[cfg(test)]
 mod by_threads;
 #[cfg(test)]
-mod far;
-#[cfg(test)]
 mod lines;
 #[cfg(test)]
 mod listings;
@@ -30,9 +28,9 @@ mod rising;
 #[cfg(test)]
 mod room;
 #[cfg(test)]
-mod rows;
+mod rooms;
 #[cfg(test)]
-mod sale_ranges;
+mod rows;
 #[cfg(test)]
 mod sales;
 #[cfg(test)]

@@ -1,20 +1,25 @@
-//! Listings are merged by place, or refused and as they were.
-ghost use Rattle.std.specs.Prelude.{◌≡◌, ◌++◌, IfOk};
+//! Listings: merged by place, or refused and as they were, and their lines, which threads make by ranges.
+ghost use Rattle.std.specs.Prelude.{◌≡◌, ◌<◌, ◌++◌, All, IfOk, [], ◌∷◌};
+ghost use Rattle.base.specs.declared.limits.TheConstants.{TIME_LIMIT};
 ghost use Rattle.time_and_sales.specs.Lent.{AreApart, all_sales};
 
+use crate::bar_ranges::{is_made, names};
+use crate::rooms::{Came, enough_for};
 use linked_list_allocator::LocalHeap;
 use probe::{Kind, Sale};
-use std::alloc::Allocator;
+use std::alloc::{Allocator, Global};
 use std::test::Fail;
-use time_and_sales::{Listing, OutOfMemory};
+use std::thread::Threads;
+use time_and_sales::{Listing, OutOfMemory, lines_in_ranges};
 
-fn sale(place: u64) -> Sale
-    ensures { result.place ≡ place }
+fn sale(place: u64, locate: u16) -> Sale
+    ensures place { result.place ≡ place }
+    ensures time { result.time < TIME_LIMIT }
 {
     Sale {
         place,
         time: 34_201_000_000_005,
-        locate: 7,
+        locate,
         kind: Kind::E,
         price: 4_105_000,
         shares: 40,
@@ -22,41 +27,28 @@ fn sale(place: u64) -> Sale
     }
 }
 
+/// Two sales, and one whose place lies between theirs.
 fn sales_apart() -> ([Sale; 2], [Sale; 1])
     ensures one { AreApart result.0 }
     ensures other { AreApart result.1 }
     ensures both { AreApart (result.0 ++ result.1) }
     ensures turned { AreApart (result.1 ++ result.0) }
+    ensures times { All (λ sale. sale.time < TIME_LIMIT) (result.0 ++ result.1) }
 {
-    ([sale(133), sale(41)], [sale(87)])
+    ([sale(133, 7), sale(41, 9)], [sale(87, 2)])
 }
 
-type TwoListings<'a> = (Listing<&'a LocalHeap>, Listing<&'a LocalHeap>);
-
-fn listings<'a>(heap: &'a LocalHeap) -> Result<TwoListings<'a>, OutOfMemory>
+/// The listings of these.
+fn listings<A: Allocator + Copy>(alloc: A) -> Result<(Listing<A>, Listing<A>), OutOfMemory>
     ensures both { IfOk result (λ two. AreApart (two.0 ++ two.1)) }
     ensures turned { IfOk result (λ two. AreApart (two.1 ++ two.0)) }
+    ensures all { IfOk result (λ two. AreApart (all_sales (two.0 ∷ two.1 ∷ []))) }
+    ensures times { IfOk result (λ two. All (λ sale. sale.time < TIME_LIMIT) (all_sales (two.0 ∷ two.1 ∷ []))) }
 {
     let (one, other) = sales_apart();
-    let one = Listing::of_sales(Vec::from_slice(heap, &one)?);
-    let other = Listing::of_sales(Vec::from_slice(heap, &other)?);
+    let one = Listing::of_sales(Vec::from_slice(alloc, &one)?);
+    let other = Listing::of_sales(Vec::from_slice(alloc, &other)?);
     Ok((one, other))
-}
-
-fn in_one_vector<'a>(
-    heap: &'a LocalHeap,
-) -> Result<Vec<Listing<&'a LocalHeap>, &'a LocalHeap>, OutOfMemory>
-    ensures { IfOk result (λ both. AreApart (all_sales both.items)) }
-{
-    let (one, other) = listings(heap)?;
-    let mut both = Vec::new(heap);
-    both.push(one)?;
-    both.push(other)?;
-    Ok(both)
-}
-
-fn merged_none(heap: &LocalHeap) -> Result<Listing<&LocalHeap>, OutOfMemory> {
-    Listing::merge_all(heap, Vec::new(heap))
 }
 
 fn stands_at<A: Allocator>(listing: &Listing<A>, places: &[u64]) -> bool {
@@ -67,9 +59,8 @@ fn stands_at<A: Allocator>(listing: &Listing<A>, places: &[u64]) -> bool {
         .eq(places.iter().copied())
 }
 
-/// Whether a listing took in another, and whether its sales are as they should be then; refused if there is no memory
-/// for the two.
-fn united(heap: &LocalHeap) -> Result<(bool, bool), OutOfMemory> {
+/// What comes of a listing that takes in another.
+fn united(_: Global, heap: &LocalHeap) -> Result<Came, OutOfMemory> {
     let (mut one, other) = listings(heap)?;
     let is_united = one.unite(&other).is_ok();
     let is_right = if is_united {
@@ -77,76 +68,73 @@ fn united(heap: &LocalHeap) -> Result<(bool, bool), OutOfMemory> {
     } else {
         stands_at(&one, &[41, 133])
     };
-    Ok((is_united, is_right))
+    Ok(Came::of(is_united, is_right))
 }
 
 #[test]
 fn listings_take_in_others_or_stay(rt: HostRuntime) -> Result<(), Fail> {
-    let (mut was_refused, mut finished) = (false, false);
-    for step in 1..100 {
-        let heap = LocalHeap::new(rt.alloc(), 16 * step)?;
-        let Ok((is_united, is_right)) = united(&heap) else {
-            continue;
-        };
-        assert!(rt; is_right, "{step}");
-        finished = is_united;
-        if finished {
-            break;
-        }
-        was_refused = true;
-    }
-    assert!(rt; was_refused && finished);
+    assert!(rt; enough_for(rt.alloc(), united)? > 0);
     Ok(())
 }
 
-/// The sales of the second listing that takes in the first, in one vector.
-fn united_the_other_way(heap: &LocalHeap) -> Result<usize, OutOfMemory> {
-    let (one, mut other) = listings(heap)?;
-    other.unite(&one)?;
-    let is_right = stands_at(&other, &[41, 87, 133]);
-    let sales = other.into_vec();
-    Ok(if is_right { sales.len() } else { 0 })
+/// Whether the second listing takes in the first.
+fn is_united_turned(alloc: Global) -> Result<bool, OutOfMemory> {
+    let (one, mut other) = listings(alloc)?;
+    let is_united = other.unite(&one).is_ok();
+    Ok(is_united && stands_at(&other, &[41, 87, 133]) && other.into_vec().len() == 3)
 }
 
 #[test]
 fn either_listing_takes_in_the_other(rt: HostRuntime) -> Result<(), Fail> {
-    let heap = LocalHeap::new(rt.alloc(), 1 << 12)?;
-    assert!(rt; united_the_other_way(&heap)? == 3);
-    assert!(rt; Listing::empty(&heap).items().is_empty());
+    assert!(rt; is_united_turned(rt.alloc())?);
     Ok(())
 }
 
-/// Whether many listings were merged in memory of the heap, and are as they should be; None if that was refused.
-fn merged_in(heap: &LocalHeap) -> Result<Option<bool>, OutOfMemory> {
-    let both = in_one_vector(heap)?;
-    match Listing::merge_all(heap, both) {
-        Ok(all) => Ok(Some(stands_at(&all, &[41, 87, 133]))),
-        Err(_) => Ok(None),
-    }
+#[test]
+fn an_empty_listing_has_no_sales(rt: HostRuntime) {
+    assert!(rt; Listing::empty(rt.alloc()).items().is_empty());
+}
+
+/// What comes of merging the two.
+fn merged(_: Global, heap: &LocalHeap) -> Result<Came, OutOfMemory> {
+    let (one, other) = listings(heap)?;
+    let both = vec![in heap; one, other]?;
+    Ok(match Listing::merge_all(heap, both) {
+        Ok(all) => Came::of(true, stands_at(&all, &[41, 87, 133])),
+        Err(_) => Came::Refused,
+    })
 }
 
 #[test]
 fn many_listings_are_merged_or_refused(rt: HostRuntime) -> Result<(), Fail> {
-    let (mut was_refused, mut finished) = (false, false);
-    for step in 1..200 {
-        let heap = LocalHeap::new(rt.alloc(), 16 * step)?;
-        match merged_in(&heap) {
-            Ok(Some(is_right)) => {
-                assert!(rt; is_right);
-                finished = true;
-                break;
-            }
-            Ok(None) => was_refused = true,
-            Err(_) => {}
-        }
-    }
-    assert!(rt; was_refused && finished);
+    assert!(rt; enough_for(rt.alloc(), merged)? > 0);
     Ok(())
 }
 
 #[test]
 fn no_listings_have_no_sales(rt: HostRuntime) -> Result<(), Fail> {
-    let heap = LocalHeap::new(rt.alloc(), 1 << 12)?;
-    assert!(rt; merged_none(&heap)?.items().is_empty());
+    let all = Listing::merge_all(rt.alloc(), Vec::new(rt.alloc()))?;
+    assert!(rt; all.items().is_empty());
+    Ok(())
+}
+
+const LINES: &str = "09:30:01.000000005,#9,E,410.5000,40,9
+09:30:01.000000005,ZVZZT,E,410.5000,40,9
+09:30:01.000000005,MSFT,E,410.5000,40,9
+";
+
+/// Whether threads make the lines of the two by `ranges` ranges, in as many pieces.
+fn are_lines(rt: &(impl Threads + Sync), alloc: Global, ranges: u32) -> Result<bool, OutOfMemory> {
+    let names = names(alloc)?;
+    let (one, other) = listings(alloc)?;
+    let made = lines_in_ranges(rt, alloc, &[&one, &other], &names, ranges);
+    Ok(is_made(made, LINES, ranges))
+}
+
+#[test]
+fn lines_of_sales_in_ranges_are_those_of_one_listing(rt: HostRuntime) -> Result<(), Fail> {
+    for ranges in [1, 2, 3, 5, 100] {
+        assert!(rt; are_lines(&rt, rt.alloc(), ranges)?);
+    }
     Ok(())
 }

@@ -13,17 +13,15 @@ enum Shape {
     OfOnePartition,
 }
 
-impl Shape {
-    fn all() -> [Shape; 5] {
-        [
-            Shape::Rising,
-            Shape::FarApart,
-            Shape::InNoOrder,
-            Shape::Falling,
-            Shape::OfOnePartition,
-        ]
-    }
+const SHAPES: [Shape; 5] = [
+    Shape::Rising,
+    Shape::FarApart,
+    Shape::InNoOrder,
+    Shape::Falling,
+    Shape::OfOnePartition,
+];
 
+impl Shape {
     /// The reference of this number.
     fn reference(self, number: u64) -> u64 {
         match self {
@@ -73,26 +71,11 @@ fn needs_executed(filter: &OrderFilter, shape: Shape) -> bool {
 /// Each executed reference is, and few others are; all may be if the filter has too little room.
 #[test]
 fn executed_references_are_needed(rt: HostRuntime) -> Result<(), Fail> {
-    for shape in Shape::all() {
+    for shape in SHAPES {
         for (room, most) in [(1_000, 225), (100, 1_000), (0, 1_000)] {
             let filter = filter_of(rt.alloc(), room, shape)?;
-            assert!(rt; needs_executed(&filter, shape), "{room}");
-            let needed = count_needed(&filter, shape);
-            assert!(rt; needed <= most, "{needed} {room}");
-        }
-    }
-    Ok(())
-}
-
-/// A reference that two orders have is needed, whichever it is.
-#[test]
-fn repeated_references_are_needed(rt: HostRuntime) -> Result<(), Fail> {
-    for shape in Shape::all() {
-        let mut filter = filter_of(rt.alloc(), 1_000, shape)?;
-        for number in 0..1_000u64 {
-            let order_no = shape.reference(number);
-            filter.add_order(order_no);
-            assert!(rt; filter.needs(order_no), "{number}");
+            assert!(rt; needs_executed(&filter, shape));
+            assert!(rt; count_needed(&filter, shape) <= most);
         }
     }
     Ok(())

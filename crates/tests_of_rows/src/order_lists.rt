@@ -1,5 +1,6 @@
 //! Lists of order rows: lean and wide ones, and the memory that they take.
-use crate::rows::{bounds_of, list_of, order, place_of, push_each, rises};
+use crate::rooms::{Came, enough_for};
+use crate::rows::{order, push_each};
 use linked_list_allocator::LocalHeap;
 use morsel_rows::{OrderList, OutOfMemory};
 use order_table::OrderRow;
@@ -9,9 +10,8 @@ use std::test::Fail;
 /// Farther than a place or a reference may be from that of the first row.
 const FAR: u64 = 1 << 33;
 
-/// References and places of lists: of no rows, of lean ones, and of some that aren't near the first row.
-const LISTS: [&[(u64, u64)]; 9] = [
-    &[],
+/// References and places of lists: of lean rows, and of some that aren't near the first row.
+const LISTS: [&[(u64, u64)]; 8] = [
     &[(3, 100), (4, 140), (2, 180)],
     &[(3, 100), (FAR, 140), (4, 180)],
     &[(3, 100), (FAR, 140), (4, 100 + FAR), (5, 180), (6, 220)],
@@ -38,117 +38,6 @@ const LISTS: [&[(u64, u64)]; 9] = [
     ],
 ];
 
-/// Whether these are the rows of these references, each at the place beside it.
-fn are_rows(out: &[OrderRow], rows: &[(u64, u64)]) -> bool {
-    for (row, (order_no, place)) in out.iter().zip(rows) {
-        if *row != order(*order_no, *place) {
-            return false;
-        }
-    }
-    out.len() == rows.len()
-}
-
-/// Whether the list has these rows.
-fn has<A: Allocator>(
-    alloc: Global,
-    list: &OrderList<A>,
-    rows: &[(u64, u64)],
-) -> Result<bool, OutOfMemory> {
-    let mut out = Vec::new(alloc);
-    list.append_to(&mut out)?;
-    Ok(list.len() == rows.len() && are_rows(out.as_slice(), rows))
-}
-
-#[test]
-fn a_list_gives_back_the_rows_that_were_pushed(rt: HostRuntime) -> Result<(), Fail> {
-    for rows in LISTS {
-        let list = list_of(rt.alloc(), rows)?;
-        assert!(rt; has(rt.alloc(), &list, rows)?, "{rows:?}");
-    }
-    Ok(())
-}
-
-/// Whether lists of these rows are equal.
-fn are_equal(alloc: Global, one: &[(u64, u64)], other: &[(u64, u64)]) -> Result<bool, OutOfMemory> {
-    let one = list_of(alloc, one)?;
-    let other = list_of(alloc, other)?;
-    Ok(one == other)
-}
-
-/// A list of these rows and one more.
-fn longer_of(alloc: Global, rows: &[(u64, u64)]) -> Result<OrderList, OutOfMemory> {
-    let mut list = list_of(alloc, rows)?;
-    list.push(order(9, 300))?;
-    Ok(list)
-}
-
-/// Whether a list of these rows is equal to one that has a row more.
-fn is_equal_to_longer(alloc: Global, rows: &[(u64, u64)]) -> Result<bool, OutOfMemory> {
-    let list = list_of(alloc, rows)?;
-    let longer = longer_of(alloc, rows)?;
-    Ok(list == longer)
-}
-
-/// Whether the list of this number is equal to itself alone.
-fn is_equal_to_itself_alone(alloc: Global, number: usize) -> Result<bool, OutOfMemory> {
-    for other in 0..LISTS.len() {
-        if are_equal(alloc, LISTS[number % LISTS.len()], LISTS[other])? != (number == other) {
-            return Ok(false);
-        }
-    }
-    Ok(true)
-}
-
-#[test]
-fn lists_are_equal_if_their_rows_are(rt: HostRuntime) -> Result<(), Fail> {
-    for number in 0..LISTS.len() {
-        assert!(rt; is_equal_to_itself_alone(rt.alloc(), number)?, "{number}");
-        assert!(rt; !is_equal_to_longer(rt.alloc(), LISTS[number])?, "{number}");
-    }
-    Ok(())
-}
-
-/// How many bytes of the heap nine rows take for which there was room: one of the first reference, and eight of the
-/// other.
-fn used_by_nine(heap: &LocalHeap, first: u64, other: u64) -> Result<usize, OutOfMemory> {
-    let mut list = OrderList::with_room(heap, 9)?;
-    list.push(order(first, 100))?;
-    push_each(&mut list, 8, (other, 140), (0, 1))?;
-    Ok(heap.used())
-}
-
-/// How many bytes nine such rows take.
-fn bytes_of_nine(alloc: Global, first: u64, other: u64) -> Result<usize, OutOfMemory> {
-    let heap = LocalHeap::new(alloc, 4_096)?;
-    used_by_nine(&heap, first, other)
-}
-
-/// The first references of lists, and the lowest that is near each.
-const NEAR: [(u64, u64); 6] = [
-    (0, 0),
-    (5, 0),
-    (1 << 31, 0),
-    ((1 << 31) + 1, 1),
-    (FAR, FAR - (1 << 31)),
-    (u64::MAX, u64::MAX - u32::MAX as u64),
-];
-
-/// A row takes 12 bytes if it is near the first one, and otherwise 20.
-#[test]
-fn rows_near_the_first_take_twelve_bytes(rt: HostRuntime) -> Result<(), Fail> {
-    for (first, lowest) in NEAR {
-        for near in [first, lowest, lowest.wrapping_add(u32::MAX as u64)] {
-            let used = bytes_of_nine(rt.alloc(), first, near)?;
-            assert!(rt; used >= 9 * 12 && used < 10 * 12, "{first} {near}: {used}");
-        }
-        for far in [lowest.wrapping_sub(1), lowest.wrapping_add(1 << 32)] {
-            let used = bytes_of_nine(rt.alloc(), first, far)?;
-            assert!(rt; used >= 9 * 20 && used < 10 * 20, "{first} {far}: {used}");
-        }
-    }
-    Ok(())
-}
-
 /// Pushes rows until one is refused, and says how many were taken.
 fn pushed<A: Allocator + Copy>(list: &mut OrderList<A>, rows: &[(u64, u64)]) -> usize {
     let mut count = 0usize;
@@ -161,113 +50,145 @@ fn pushed<A: Allocator + Copy>(list: &mut OrderList<A>, rows: &[(u64, u64)]) -> 
     count
 }
 
-/// How many of these rows a list takes; None if it then hasn't those before the one that is refused.
-fn taken<A: Allocator + Copy>(
-    alloc: Global,
-    heap: A,
-    rows: &[(u64, u64)],
-) -> Result<Option<usize>, OutOfMemory> {
-    let mut list = OrderList::new(heap);
-    let count = pushed(&mut list, rows);
-    match rows.get(..count) {
-        Some(before) if has(alloc, &list, before)? => Ok(Some(count)),
-        _ => Ok(None),
+/// Whether rows are the first ones of these references, each at the place beside it.
+fn are_first(out: &[OrderRow], rows: &[(u64, u64)]) -> bool {
+    for (row, (order_no, place)) in out.iter().zip(rows) {
+        if *row != order(*order_no, *place) {
+            return false;
+        }
     }
+    true
 }
 
-/// How many of these rows a list takes in a heap of `bytes` bytes.
-fn taken_within(
+/// Whether a list has the first `count` of these rows.
+fn has<A: Allocator>(
     alloc: Global,
-    bytes: usize,
+    list: &OrderList<A>,
+    count: usize,
     rows: &[(u64, u64)],
-) -> Result<Option<usize>, OutOfMemory> {
-    let heap = LocalHeap::new(alloc, bytes)?;
-    taken(alloc, &heap, rows)
+) -> bool {
+    let mut out = Vec::new(alloc);
+    list.append_to(&mut out).is_ok()
+        && list.len() == count
+        && out.len() == count
+        && are_first(out.as_slice(), rows)
+}
+
+/// What comes of pushing all of these rows.
+fn all_pushed(alloc: Global, heap: &LocalHeap, rows: &[(u64, u64)]) -> Result<Came, OutOfMemory> {
+    let mut list = OrderList::new(heap);
+    let count = pushed(&mut list, rows);
+    let is_right = has(alloc, &list, count, rows);
+    Ok(Came::of(count == rows.len(), is_right))
 }
 
 /// Whether each row is refused as long as there is no memory, and the list then has those before it.
 #[test]
 fn a_row_that_is_refused_leaves_the_list(rt: HostRuntime) -> Result<(), Fail> {
     for rows in LISTS {
-        let (mut was_refused, mut is_whole) = (rows.is_empty(), false);
-        for step in 1..100 {
-            let taken = taken_within(rt.alloc(), 16 * step, rows)?;
-            assert!(rt; taken.is_some(), "{rows:?}, {step}");
-            is_whole = taken == Some(rows.len());
-            if is_whole {
-                break;
-            }
-            was_refused = true;
-        }
-        assert!(rt; was_refused && is_whole, "{rows:?}");
+        let enough = enough_for(rt.alloc(), |alloc, heap| all_pushed(alloc, heap, rows))?;
+        assert!(rt; enough > 0);
     }
     Ok(())
 }
 
-/// How many bytes of the heap a list of a hundred rows takes with no row, with `lean` lean ones, with a wide one more,
-/// and with all rows.
-fn used_by_rows(heap: &LocalHeap, lean: u64) -> Result<[usize; 4], OutOfMemory> {
-    let mut list = OrderList::with_room(heap, 100)?;
-    let room = heap.used();
-    push_each(&mut list, lean, (0, 100), (1, 0))?;
-    let with_lean = heap.used();
-    push_each(&mut list, 1, (FAR, 100), (0, 0))?;
-    let with_wide = heap.used();
-    let (next, rest) = (lean.saturating_add(1), 99u64.saturating_sub(lean));
-    push_each(&mut list, rest, (next.wrapping_mul(FAR), 100), (FAR, 0))?;
-    let all = if list.len() == 100 { heap.used() } else { 0 };
-    Ok([room, with_lean, with_wide, all])
+/// Pushes nine rows: one of the first reference, and eight of the other.
+fn push_nine(list: &mut OrderList<&LocalHeap>, first: u64, other: u64) -> Result<(), OutOfMemory> {
+    list.push(order(first, 100))?;
+    push_each(list, 8, (other, 140), (0, 1))
 }
 
-/// How many bytes such a list takes.
-fn bytes_by_rows(alloc: Global, lean: u64) -> Result<[usize; 4], OutOfMemory> {
+/// How many bytes of the heap these take, for which there was room.
+fn used_by_nine(heap: &LocalHeap, first: u64, other: u64) -> usize {
+    let Ok(mut list) = OrderList::with_room(heap, 9) else {
+        return 0;
+    };
+    let are_pushed = push_nine(&mut list, first, other).is_ok();
+    if are_pushed { heap.used() } else { 0 }
+}
+
+/// Whether each of nine such rows takes this many bytes.
+fn takes(alloc: Global, first: u64, other: u64, bytes: u8) -> Result<bool, OutOfMemory> {
     let heap = LocalHeap::new(alloc, 4_096)?;
-    used_by_rows(&heap, lean)
+    let used = used_by_nine(&heap, first, other);
+    let bytes = usize::from(bytes);
+    Ok(used >= 9 * bytes && used < 10 * bytes)
+}
+
+/// The first references of lists, and the lowest that is near each.
+const NEAR: [(u64, u64); 6] = [
+    (0, 0),
+    (5, 0),
+    (1 << 31, 0),
+    ((1 << 31) + 1, 1),
+    (FAR, FAR - (1 << 31)),
+    (u64::MAX, u64::MAX - u32::MAX as u64),
+];
+
+/// Whether rows of the lowest and the greatest near reference take 12 bytes, and those beside them 20.
+fn take_twelve_near(alloc: Global, first: u64, lowest: u64) -> Result<bool, OutOfMemory> {
+    Ok(
+        takes(alloc, first, first, 12)?
+            && takes(alloc, first, lowest, 12)?
+            && takes(alloc, first, lowest.wrapping_add(u32::MAX as u64), 12)?
+            && takes(alloc, first, lowest.wrapping_sub(1), 20)?
+            && takes(alloc, first, lowest.wrapping_add(1 << 32), 20)?,
+    )
+}
+
+/// A row takes 12 bytes if it is near the first one, and otherwise 20.
+#[test]
+fn rows_near_the_first_take_twelve_bytes(rt: HostRuntime) -> Result<(), Fail> {
+    for (first, lowest) in NEAR {
+        assert!(rt; take_twelve_near(rt.alloc(), first, lowest)?);
+    }
+    Ok(())
+}
+
+/// Whether a list with room for a hundred rows takes no more of the heap for lean ones, then none of it for these
+/// beside what wide ones take, and no more for all rows.
+fn are_turned_wide(heap: &LocalHeap, lean: u64) -> bool {
+    let Ok(mut list) = OrderList::with_room(heap, 100) else {
+        return false;
+    };
+    let room = heap.used();
+    let is_lean = push_each(&mut list, lean, (0, 100), (1, 0)).is_ok() && heap.used() == room;
+    let is_wide = push_each(&mut list, 1, (FAR, 100), (0, 0)).is_ok();
+    let with_wide = heap.used();
+    let rest = 99u64.saturating_sub(lean);
+    let is_whole = push_each(&mut list, rest, (2 * FAR, 100), (FAR, 0)).is_ok();
+    let is_kept = heap.used() == with_wide && list.len() == 100;
+    let is_room = room >= 100 * 12 && room < 102 * 12 && with_wide < 102 * 20;
+    is_room && is_lean && is_wide && is_whole && is_kept
 }
 
 /// A list that turns out wide has no room for lean rows beside that for wide ones.
 #[test]
 fn room_is_given_back_where_rows_turn_out_wide(rt: HostRuntime) -> Result<(), Fail> {
     for lean in [1, 2, 50] {
-        let [room, with_lean, with_wide, all] = bytes_by_rows(rt.alloc(), lean)?;
-        assert!(rt; room >= 100 * 12 && room < 102 * 12, "{room}");
-        assert!(rt; with_lean == room, "{lean}");
-        assert!(rt; with_wide < 102 * 20, "{lean}: {with_wide}");
-        assert!(rt; all == with_wide, "{lean}");
+        let heap = LocalHeap::new(rt.alloc(), 4_096)?;
+        assert!(rt; are_turned_wide(&heap, lean));
     }
     Ok(())
 }
 
-/// The greatest reference that is near `FAR`.
-const TOP: u64 = FAR + (1 << 31) - 1;
+/// A place that 32 bits don't hold.
+const BEHIND: u64 = 5 << 32;
 
-/// References, and the place at which a list of `FAR`, the next one and `TOP` has them.
-const SEARCHED: [(u64, Option<u64>); 11] = [
-    (FAR, Some(7)),
-    (FAR + 1, Some(8)),
-    (TOP, Some(9)),
-    (0, None),
-    (FAR - 1, None),
-    (FAR - (1 << 31), None),
-    (FAR + 2, None),
-    (TOP + 1, None),
-    (TOP + (1 << 32), None),
-    (FAR + (1 << 32), None),
-    (u64::MAX, None),
-];
-
-#[test]
-fn a_search_knows_references_near_and_far(rt: HostRuntime) -> Result<(), Fail> {
-    let list = list_of(rt.alloc(), &[(FAR, 7), (FAR + 1, 8), (TOP, 9)])?;
-    assert!(rt; bounds_of(&list) == Some((FAR, TOP)));
-    for (order_no, place) in SEARCHED {
-        assert!(rt; place_of(&list, order_no) == place, "{order_no}");
-    }
-    Ok(())
+/// Whether three rows take no more memory of the heap than there was room for, in a list that rises.
+fn are_lean(heap: &LocalHeap) -> bool {
+    let Ok(mut list) = OrderList::with_room(heap, 3) else {
+        return false;
+    };
+    let used = heap.used();
+    let are_pushed = push_each(&mut list, 3, (0, BEHIND), (1, 40)).is_ok();
+    are_pushed && heap.used() == used && list.rising().is_some()
 }
 
+/// Behind the first 4 GiB of a file a row takes no more memory than before, and is searched where it lies.
 #[test]
-fn references_that_are_far_apart_do_not_rise(rt: HostRuntime) -> Result<(), Fail> {
-    assert!(rt; !rises(rt.alloc(), &[(FAR, 7), (TOP + 1, 8)])?);
+fn rows_far_behind_are_lean(rt: HostRuntime) -> Result<(), Fail> {
+    let heap = LocalHeap::new(rt.alloc(), 4_096)?;
+    assert!(rt; are_lean(&heap));
     Ok(())
 }

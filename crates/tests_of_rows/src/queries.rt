@@ -1,112 +1,116 @@
-//! Each call that takes memory, with less and more of it: a heap has memory for a call once its size
-//! has grown, 16 bytes at a time.
-
+//! Calls on queries that take memory.
+use crate::rooms::{Came, enough_for};
 use canonical_query::write;
 use linked_list_allocator::LocalHeap;
-use query::{Locates, Names, OutOfMemory, parse, selection};
-use std::alloc::Global;
+use query::{Locates, Names, OutOfMemory, Query, QueryFault, Symbols, parse, selection};
+use std::alloc::{Allocator, Global};
 use std::test::Fail;
 use time_and_sales::DirectoryRow;
 
-const SIZES: usize = 256;
+/// What comes of reading a query with three symbols.
+fn parsed(_: Global, heap: &LocalHeap) -> Result<Came, OutOfMemory> {
+    Ok(match parse(heap, "sales where symbol in MSFT,A,MSFT") {
+        Ok(query) => Came::of(true, count_symbols(query.symbols) == 3),
+        Err(fault) => Came::of(false, fault == QueryFault::OutOfMemory),
+    })
+}
+
+/// How many symbols are listed.
+fn count_symbols<A: Allocator>(symbols: Option<Symbols<A>>) -> usize {
+    match symbols {
+        Some(symbols) => symbols.into_vec().len(),
+        None => 0,
+    }
+}
 
 #[test]
 fn parse_succeeds_once_there_is_memory(rt: HostRuntime) -> Result<(), Fail> {
-    for step in 0..SIZES {
-        let heap = LocalHeap::new(rt.alloc(), 16 * step)?;
-        match parse(&heap, "sales where symbol in MSFT,A,MSFT") {
-            Ok(query) => {
-                let symbols = query.symbols.map(|symbols| symbols.into_vec());
-                assert!(rt; symbols.is_some_and(|symbols| symbols.len() == 3));
-                assert!(rt; step > 0);
-                return Ok(());
-            }
-            Err(fault) => {
-                let message = format!(in rt.alloc(); "{fault}")?;
-                assert!(rt; message.as_str() == "out of memory");
-            }
-        }
-    }
-    panic!(rt; "no memory")
+    assert!(rt; enough_for(rt.alloc(), parsed)? > 0);
+    Ok(())
 }
 
-#[test]
-fn write_succeeds_once_there_is_memory(rt: HostRuntime) -> Result<(), Fail> {
-    let query = parse(rt.alloc(), "bars 1 m as of 09:30:59 where kind in P")?;
-    for step in 0..SIZES {
-        let heap = LocalHeap::new(rt.alloc(), 16 * step)?;
-        let mut out = Vec::new(&heap);
-        if write(&mut out, &query).is_ok() {
-            assert!(rt; out.as_slice() == b"bars 60 s as of 09:30:59 where kind in P".as_slice());
-            assert!(rt; step > 0);
-            return Ok(());
-        }
-    }
-    panic!(rt; "no memory")
+/// What comes of writing a query behind a word.
+fn written_behind(heap: &LocalHeap, query: &Query, text: &str) -> Result<Came, OutOfMemory> {
+    let mut out = Vec::from_slice(heap, b"before ")?;
+    let is_written = write(&mut out, query).is_ok();
+    let want = if is_written { text } else { "" };
+    Ok(Came::of(is_written, stands_behind(out.as_slice(), want)))
 }
 
-// Each query has other pieces; what stands before it is kept.
+/// Whether a text stands behind the word.
+fn stands_behind(out: &[u8], text: &str) -> bool {
+    match out.strip_prefix(b"before ".as_slice()) {
+        Some(behind) => behind == text.as_bytes(),
+        None => false,
+    }
+}
+
+/// The same of the query that the text means.
+fn written(alloc: Global, heap: &LocalHeap, text: &str) -> Result<Came, OutOfMemory> {
+    match parse(alloc, text) {
+        Ok(query) => written_behind(heap, &query, text),
+        Err(_) => Ok(Came::Wrong),
+    }
+}
+
+/// Queries, each with other pieces.
+const QUERIES: [&str; 4] = [
+    "sales",
+    "bars 86400 s as of 09:30:59",
+    "bars 60 s as of 09:30:59 where kind in P",
+    "sales where symbol in MSFT,A and time from 09:30:00 until 24:00:00 and kind in E,C,Q",
+];
+
 #[test]
 fn a_refused_write_leaves_what_stood(rt: HostRuntime) -> Result<(), Fail> {
-    for text in [
-        "sales",
-        "bars 86400 s as of 09:30:59",
-        "sales where symbol in MSFT,A and time from 09:30:00 until 24:00:00 and kind in E,C,Q",
-    ] {
-        let query = parse(rt.alloc(), text)?;
-        let whole = format!(in rt.alloc(); "before {text}")?;
-        let (mut was_refused, mut finished) = (false, false);
-        for step in 0..SIZES {
-            let heap = LocalHeap::new(rt.alloc(), 16 * step)?;
-            let Ok(mut out) = Vec::from_slice(&heap, b"before ") else {
-                continue;
-            };
-            if write(&mut out, &query).is_ok() {
-                assert!(rt; out.as_slice() == whole.as_bytes());
-                finished = true;
-                break;
-            }
-            assert!(rt; out.as_slice() == b"before ".as_slice());
-            was_refused = true;
-        }
-        assert!(rt; was_refused && finished, "{text}");
+    for text in QUERIES {
+        let enough = enough_for(rt.alloc(), |alloc, heap| written(alloc, heap, text))?;
+        assert!(rt; enough > 0);
     }
     Ok(())
 }
 
-// The names of two locates: 7 is MSFT, 9 is A.
+/// The names of two locates: 7 is MSFT, 9 is A.
 fn names(alloc: Global) -> Result<Names, OutOfMemory> {
-    let rows = [(0, 7, *b"MSFT    "), (41, 9, *b"A       ")].map(|(
+    let row = |place, locate, stock| DirectoryRow {
         place,
         locate,
         stock,
-    )| DirectoryRow {
-        place,
-        locate,
-        stock,
-    });
-    Names::build(alloc, &rows)
+    };
+    Names::build(alloc, &[row(0, 7, *b"MSFT    "), row(41, 9, *b"A       ")])
 }
 
-// The list has symbols out of order, one of them twice, and one that no locate is named. To sort
-// its eleven takes 176 bytes, and the locates take more beside them.
+/// Whether these are the locates of the symbols `A`, `#10`, `#8` and `#1` to `#6`.
+fn are_selected<A: Allocator>(locates: &Locates<A>) -> bool {
+    match locates {
+        Locates::Listed(list) => list.items() == [1, 2, 3, 4, 5, 6, 8, 9, 10].as_slice(),
+        Locates::All => false,
+    }
+}
+
+/// What comes of a selection of symbols out of order, one of them twice, and one that no locate is named.
+fn selected_by(heap: &LocalHeap, query: &Query, names: &Names) -> Came {
+    match selection(heap, query, names) {
+        Ok(selected) => Came::of(true, are_selected(&selected.locates)),
+        Err(_) => Came::Refused,
+    }
+}
+
+/// The same of the query's text.
+fn selected(alloc: Global, heap: &LocalHeap) -> Result<Came, OutOfMemory> {
+    let names = names(alloc)?;
+    match parse(
+        alloc,
+        "sales where symbol in A,NONE,#10,#8,#1,#2,#3,#4,#5,#6,A",
+    ) {
+        Ok(query) => Ok(selected_by(heap, &query, &names)),
+        Err(_) => Ok(Came::Wrong),
+    }
+}
+
+// To sort the eleven symbols takes 176 bytes, and the locates take more beside them.
 #[test]
 fn selection_succeeds_once_there_is_memory(rt: HostRuntime) -> Result<(), Fail> {
-    let names = names(rt.alloc())?;
-    let query = parse(
-        rt.alloc(),
-        "sales where symbol in A,NONE,#10,#8,#1,#2,#3,#4,#5,#6,A",
-    )?;
-    for step in 0..SIZES {
-        let heap = LocalHeap::new(rt.alloc(), 16 * step)?;
-        if let Ok(selected) = selection(&heap, &query, &names) {
-            let Locates::Listed(list) = &selected.locates else {
-                panic!(rt; "every locate")
-            };
-            assert!(rt; list.items() == [1, 2, 3, 4, 5, 6, 8, 9, 10].as_slice());
-            assert!(rt; step > 11);
-            return Ok(());
-        }
-    }
-    panic!(rt; "no memory")
+    assert!(rt; enough_for(rt.alloc(), selected)? > 176);
+    Ok(())
 }

@@ -1,4 +1,5 @@
 //! Room for rows that is taken at once.
+use crate::rooms::{Came, enough_for};
 use crate::rows::push_each;
 use itch_messages::{Executed, Header, Message};
 use linked_list_allocator::LocalHeap;
@@ -6,34 +7,20 @@ use morsel_rows::{MorselRows, OrderList};
 use std::alloc::{AllocError, Allocator, Global};
 use std::test::Fail;
 
-/// Whether a list has room for nine rows in the heap, and takes no more for them; None if there is no room.
-fn takes_nine(heap: &LocalHeap) -> Option<bool> {
+/// What comes of a list with room for nine rows, which takes no more for them.
+fn room_for_nine(_: Global, heap: &LocalHeap) -> Result<Came, AllocError> {
     let Ok(mut list) = OrderList::with_room(heap, 9) else {
-        return None;
+        return Ok(Came::of(false, heap.used() == 0));
     };
     let (used, length) = (heap.used(), list.len());
     let are_pushed = push_each(&mut list, 9, (0, 0), (1, 1)).is_ok();
     let is_taken_at_once = length == 0 && used >= 9 * 12 && heap.used() == used;
-    Some(are_pushed && is_taken_at_once && list.len() == 9)
-}
-
-/// The same in `bytes` bytes.
-fn takes_nine_within(alloc: Global, bytes: usize) -> Result<Option<bool>, AllocError> {
-    let heap = LocalHeap::new(alloc, bytes)?;
-    Ok(takes_nine(&heap))
+    Ok(Came::of(true, are_pushed && is_taken_at_once && list.len() == 9))
 }
 
 #[test]
 fn a_list_takes_its_room_at_once_or_is_refused(rt: HostRuntime) -> Result<(), Fail> {
-    let mut enough = None;
-    for step in 1..100 {
-        if let Some(is_right) = takes_nine_within(rt.alloc(), 16 * step)? {
-            assert!(rt; is_right);
-            enough = Some(step);
-            break;
-        }
-    }
-    assert!(rt; enough.is_some_and(|step| step >= 7));
+    assert!(rt; enough_for(rt.alloc(), room_for_nine)? >= 9 * 12);
     Ok(())
 }
 
@@ -55,36 +42,18 @@ fn are_three_without_orders<A: Allocator>(rows: &MorselRows<A>) -> bool {
     rows.partition(3).is_none()
 }
 
-/// How many bytes three partitions of 24 rows take of the heap, if there is room for them.
-fn used_by_three(heap: &LocalHeap) -> Option<usize> {
-    match MorselRows::new(heap, 3, 24) {
-        Ok(rows) if are_three_without_orders(&rows) => Some(heap.used()),
-        Ok(_) => Some(0),
-        Err(_) => None,
-    }
-}
-
-/// How many bytes three partitions of 24 rows take of `bytes`, if there is room for them; if there isn't, how
-/// many are taken all the same.
-fn taken_by_three(alloc: Global, bytes: usize) -> Result<Result<usize, usize>, AllocError> {
-    let heap = LocalHeap::new(alloc, bytes)?;
-    Ok(used_by_three(&heap).ok_or(heap.used()))
+/// What comes of three partitions of 24 rows.
+fn room_of_three(_: Global, heap: &LocalHeap) -> Result<Came, AllocError> {
+    let Ok(rows) = MorselRows::new(heap, 3, 24) else {
+        return Ok(Came::of(false, heap.used() == 0));
+    };
+    let is_right = are_three_without_orders(&rows) && heap.used() >= 3 * 24 * 12;
+    Ok(Came::of(true, is_right))
 }
 
 #[test]
 fn each_partition_takes_its_room_or_all_are_refused(rt: HostRuntime) -> Result<(), Fail> {
-    let mut enough = None;
-    for step in 1..400 {
-        match taken_by_three(rt.alloc(), 16 * step)? {
-            Ok(taken) => {
-                assert!(rt; taken >= 3 * 24 * 12);
-                enough = Some(step);
-                break;
-            }
-            Err(left) => assert!(rt; left == 0),
-        }
-    }
-    assert!(rt; enough.is_some_and(|step| step >= 54));
+    assert!(rt; enough_for(rt.alloc(), room_of_three)? >= 3 * 24 * 12);
     Ok(())
 }
 
@@ -95,18 +64,17 @@ fn room_is_taken_for_so_many_rows_and_given_back(rt: HostRuntime) -> Result<(), 
     let (with_more, left) = taken_and_left(rt.alloc(), 24, 0)?;
     let room = with_more.saturating_sub(with_few);
     // (an execution more too, of 40 bytes)
-    assert!(rt;
-        room >= 3 * (8 * 12 + 32) && room <= 3 * (9 * 12 + 48),
-        "{room}"
-    );
+    assert!(rt; room >= 3 * (8 * 12 + 32) && room <= 3 * (9 * 12 + 48));
     assert!(rt; left == without);
     Ok(())
 }
 
 /// Whether three partitions with room for `count` rows take no memory of the heap, which nothing else takes.
-fn take_none(heap: &LocalHeap, count: usize) -> Result<bool, AllocError> {
-    let rows = MorselRows::new(heap, 3, count)?;
-    Ok(heap.used() == 0 && are_three_without_orders(&rows))
+fn take_none(heap: &LocalHeap, count: usize) -> bool {
+    match MorselRows::new(heap, 3, count) {
+        Ok(rows) => heap.used() == 0 && are_three_without_orders(&rows),
+        Err(_) => false,
+    }
 }
 
 /// Where no room is asked for, or room for a few rows, partitions take no memory before they have rows.
@@ -114,7 +82,7 @@ fn take_none(heap: &LocalHeap, count: usize) -> Result<bool, AllocError> {
 fn a_partition_without_rows_takes_no_memory(rt: HostRuntime) -> Result<(), Fail> {
     let heap = LocalHeap::new(rt.alloc(), 4_096)?;
     for count in [0, 15] {
-        assert!(rt; take_none(&heap, count)?, "{count}");
+        assert!(rt; take_none(&heap, count));
     }
     Ok(())
 }
@@ -162,8 +130,9 @@ fn used_and_left(
 ) -> Result<(usize, usize), AllocError> {
     let mut rows = MorselRows::new(heap, 3, room)?;
     let taken = heap.used();
-    add_and_shrink(&mut rows, executions)?;
-    Ok((taken, heap.used()))
+    let are_added = add_and_shrink(&mut rows, executions).is_ok();
+    let left = if are_added { heap.used() } else { taken };
+    Ok((taken, left))
 }
 
 /// How many bytes such partitions take, and how many then.
@@ -185,25 +154,20 @@ fn partitions_without_rows_keep_no_memory(rt: HostRuntime) -> Result<(), Fail> {
     Ok(())
 }
 
-/// How many executions the three partitions have that gave back their room.
-fn executions_kept<A: Allocator + Copy>(
-    rows: &mut MorselRows<A>,
-) -> Result<[Option<usize>; 3], AllocError> {
+/// Whether the third partition alone keeps an execution when room is given back, and the first can still get one.
+fn are_kept<A: Allocator + Copy>(rows: &mut MorselRows<A>) -> Result<bool, AllocError> {
     add_and_shrink(rows, 1)?;
-    Ok([
-        executions_in(rows, 0),
-        executions_in(rows, 1),
-        executions_in(rows, 2),
-    ])
+    let is_kept = executions_in(rows, 0) == Some(0)
+        && executions_in(rows, 1) == Some(0)
+        && executions_in(rows, 2) == Some(1);
+    rows.add_counted(None, 8, &executed(6))?;
+    Ok(is_kept && executions_in(rows, 0) == Some(1))
 }
 
 /// A partition that has rows keeps them, and one that has none can still get some.
 #[test]
 fn partitions_keep_their_rows_when_room_is_given_back(rt: HostRuntime) -> Result<(), Fail> {
     let mut rows = MorselRows::new(rt.alloc(), 3, 24)?;
-    let kept = executions_kept(&mut rows)?;
-    assert!(rt; kept == [Some(0), Some(0), Some(1)], "{kept:?}");
-    rows.add_counted(None, 8, &executed(6))?;
-    assert!(rt; executions_in(&rows, 0) == Some(1));
+    assert!(rt; matches!(are_kept(&mut rows), Ok(true)));
     Ok(())
 }

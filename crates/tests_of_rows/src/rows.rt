@@ -5,8 +5,7 @@ ghost use Rattle.std.specs.List.{IsDistinct};
 use morsel_rows::{OrderList, OutOfMemory};
 use order_table::OrderRow;
 use probe::{Execution, Kind, Sale};
-use std::alloc::{Allocator, Global};
-use std::test::Fail;
+use std::alloc::{AllocError, Allocator, Global};
 
 /// An order of this reference at this place.
 pub(crate) fn order(order_no: u64, place: u64) -> OrderRow {
@@ -40,28 +39,6 @@ pub(crate) fn push_each<A: Allocator + Copy>(
         ))?;
     }
     Ok(())
-}
-
-/// The least and the greatest reference of a list that is searched where it lies.
-pub(crate) fn bounds_of(list: &OrderList) -> Option<(u64, u64)> {
-    match list.rising() {
-        Some(rows) => Some((rows.least(), rows.greatest())),
-        None => None,
-    }
-}
-
-/// Where a list that is searched where it lies has a reference first.
-pub(crate) fn place_of(list: &OrderList, order_no: u64) -> Option<u64> {
-    match list.rising()?.first(order_no) {
-        Some(row) => Some(row.place),
-        None => None,
-    }
-}
-
-/// Whether a list of these rows is searched where it lies.
-pub(crate) fn rises(alloc: Global, rows: &[(u64, u64)]) -> Result<bool, OutOfMemory> {
-    let list = list_of(alloc, rows)?;
-    Ok(list.rising().is_some())
 }
 
 /// Three rows of the reference 1, the first of them in the middle.
@@ -112,7 +89,7 @@ fn places_rise(rows: &[OrderRow]) -> bool
 }
 
 /// Forty rows of the references 1 to 40, which rise by the factor 1, fall by 40, and do neither by 17.
-pub(crate) fn forty_rows(alloc: Global, factor: u64) -> Result<Vec<OrderRow>, Fail>
+pub(crate) fn forty_rows(alloc: Global, factor: u64) -> Result<Vec<OrderRow>, AllocError>
     ensures { IfOk result (λ rows. IsDistinct nat_eq (map (λ row. row.place) rows.items)) }
 {
     let mut rows = Vec::new(alloc);
@@ -126,26 +103,6 @@ pub(crate) fn forty_rows(alloc: Global, factor: u64) -> Result<Vec<OrderRow>, Fa
     if places_rise(rows.as_slice()) {
         Ok(rows)
     } else {
-        Err(Fail::from("the places don't rise"))
-    }
-}
-
-/// A hundred rows, each the place's reference with these bits changed, times the factor: they fall by the
-/// factor 2^64 - 1, and nearly rise where low bits are changed and the factor is 1.
-pub(crate) fn hundred_rows(alloc: Global, bits: u64, factor: u64) -> Result<Vec<OrderRow>, Fail>
-    ensures { IfOk result (λ rows. IsDistinct nat_eq (map (λ row. row.place) rows.items)) }
-{
-    let mut rows = Vec::new(alloc);
-    for place in 0..100u64 {
-        rows.push(OrderRow {
-            place,
-            order_no: (place ^ bits).wrapping_add(1).wrapping_mul(factor),
-            price: 7 + place as u32,
-        })?;
-    }
-    if places_rise(rows.as_slice()) {
-        Ok(rows)
-    } else {
-        Err(Fail::from("the places don't rise"))
+        Err(AllocError)
     }
 }

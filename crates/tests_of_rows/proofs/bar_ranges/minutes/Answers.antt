@@ -1,4 +1,4 @@
-use Rattle.std.proofs.Common.{ℕ, ◌<◌, ◌^◌, All, List, subst}
+use Rattle.std.proofs.Common.{ℕ, ◌<◌, ◌^◌, All, List}
 use Rattle.std.proofs.lemmas.List.Elements.{All-weaker}
 use Rattle.row_types.specs.declared.trade.Sale.{Sale}
 use Rattle.bars.specs.Bars.{AreBarsOf, IsTraded}
@@ -13,7 +13,7 @@ starts_small width sales table are traded times =
     All-weaker IsWritable (λ (bar : Bar). bar.start < 2 ^ 48) (λ bar w. w.0) table (table_is_writable width sales table are traded times)
 
 pub returns-clause-bars : goal.returns-clause-bars
-returns-clause-bars c = subst (λ l. AreBarsOf 60 l c.of_vec-table.result) c.in_ok-sales.ensures.items c.of_vec-table.ensures.bars
+returns-clause-bars c = (_, c.of_vec-table.ensures.bars, c.in_ok-sales.ensures.count)
 
 pub returns-clause-starts : goal.returns-clause-starts
-returns-clause-starts c = starts_small 60 c.args.sales.now c.of_vec-table.result (returns-clause-bars c) c.of_vec-table.ensures.traded c.requires.times
+returns-clause-starts c = starts_small 60 _ c.of_vec-table.result c.of_vec-table.ensures.bars c.of_vec-table.ensures.traded c.in_ok-sales.ensures.times

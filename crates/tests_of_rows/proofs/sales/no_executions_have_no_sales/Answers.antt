@@ -2,6 +2,6 @@ use Rattle.std.proofs.Common.{rules}
 use Rattle.std.specs.List.{IsDistinct}
 use Rattle.tests_of_rows.proofs.sales.no_executions_have_no_sales.Goals as goal
 
-pub price_all-requires : goal.price_all-requires
+pub build-requires : goal.build-requires
 unfolding IsDistinct
-price_all-requires g c = search rules
+build-requires g c = search rules
