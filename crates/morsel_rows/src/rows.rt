@@ -71,11 +71,11 @@ impl<A: Allocator + Copy> MorselRows<A> {
 /// Room for fewer order rows isn't taken before there are some: a morsel has rows in few of many partitions.
 const LEAST_ROOM: usize = 16;
 
-/// How many bytes a partition takes for an order row that it has room for, and for the trades that a day has with it.
+/// How many bytes a partition takes for each order row that it has room for, and for the trades that go with it.
 const BYTES_AN_ORDER: usize = 18;
 
-/// By how much a thread's arena grows at once, in bytes: just below glibc's mmap threshold of 128 KiB, which is also what it
-/// keeps when it is freed.
+/// By how much a thread's arena grows at once, in bytes: just below glibc's mmap threshold of 128 KiB, up to which it
+/// also keeps what is freed at its end.
 const GROWTH: usize = 122_880;
 
 /// Has the C library grow the thread's arena once for several lists. By itself it does so for each list, by a system call

@@ -92,7 +92,7 @@ pub fn gather_until_covered<W: Work, R: Wait>(
     }
 }
 
-/// How many of so many first tasks are missing.
+/// How many of the first `tasks` tasks are missing.
 fn count_missing<W: Work>(gathering: &Gathering<W>, tasks: u32) -> u32 {
     let mut missing = 0u32;
     for task in 0..tasks {
