@@ -1,40 +1,23 @@
--- Listings merged: what the parts give, and in which order.
-use Rattle.std.proofs.Common.{◌≡◌, ◌+◌, Bool, true, false, ltb, List, [], ◌∷◌, ◌++◌, map, length, All, Iter, Vec, Option, Some, None, ap, subst, arith}
-use Rattle.std.proofs.Common.{append-nil, append_assoc}
+-- Sales of many listings merged: what their parts give, and in which order.
+use Rattle.std.proofs.Common.{◌≡◌, ◌+◌, Bool, true, false, ltb, List, [], ◌∷◌, ◌++◌, map, All, Iter, Option, Some, None, ap, subst, arith}
 use Rattle.std.specs.Iterator.{DrainsIf, Yields}
 use Rattle.std.specs.Iterator.Adapters.{copied_source, copied_steps}
 use Rattle.std.specs.declared.iter.Copied.{Copied}
 use Rattle.std.specs.List.Sorted.{IsSortedBy}
 use Rattle.std.specs.Slice.Iter.{iter_rest, iter_steps}
-use Rattle.std.specs.Vec.Iter.{into_iter_items, into_iter_len, into_iter_steps}
-use Rattle.std.specs.declared.vec.IntoIter.{IntoIter}
 use Rattle.std.proofs.lemmas.Bool.Decides.{nat_tests}
-use Rattle.std.proofs.lemmas.List.{map_push, nil_from_length}
 use Rattle.std.proofs.lemmas.List.Elements.{All-map, All-weaker}
-use Rattle.std.proofs.lemmas.List.Folds.{flat_map-map}
 use Rattle.std.proofs.iter.Next.{Yields-more}
 use Rattle.std.proofs.lemmas.Iterator.{YieldsList-from_slice}
-use Rattle.std.proofs.lemmas.Iterator.Adapters.{YieldsList-from_vec}
 use Rattle.std.proofs.lemmas.Iterator.Consumers.{YieldsList-from_copied}
 use Rattle.std.proofs.lemmas.Map.Keys.{Less-from_sorted}
 use Rattle.itertools.specs.KMerge.{SourcesGive, kmerge_steps}
 use Rattle.itertools.specs.declared.kmerge_impl.KMergeBy.{KMergeBy}
-use Rattle.time_and_sales.specs.Ranges.{all_items}
 use Rattle.row_types.specs.declared.trade.Sale.{Sale}
 use Rattle.row_types.specs.SalesByPlace.{place_cmp, IsByPlace}
-use Rattle.time_and_sales.specs.Lent.{all_sales}
 
 abbrev pub before : Sale → Sale → Bool
 before a b = ltb a.place b.place
-
-abbrev pub items_of : {Z : Type 0} → List (Vec Sale Z) → List (List Sale)
-items_of {Z} parts = map (λ (p : Vec Sale Z). p.items) parts
-
-pub parts_give : {Z : Type 0} (gives : Vec Sale Z → IntoIter Sale Z → Type 0)
-    → ((p : Vec Sale Z) (j : IntoIter Sale Z) → gives p j → (into_iter_items j ≡ p.items) × (into_iter_len j ≡ length p.items))
-    → (parts : List (Vec Sale Z)) → SourcesGive gives (into_iter_steps {X = Sale} {Z = Z}) parts (items_of parts)
-parts_give gives h [] = tt
-parts_give gives h (p ∷ parts) = ((λ j g. (YieldsList-from_vec p.items (h p j g).0 (h p j g).1).runs), parts_give gives h parts)
 
 -- what an iterator over sales that stay where they are has left
 abbrev pub rest_of : Copied (Iter Sale) → List Sale
@@ -62,16 +45,3 @@ module _ {M : Type 0} (steps : M → Option Sale → M → Type 0) (m start : M)
 
   pub ran_out : steps t None u → DrainsIf steps (true ≡ true) m xs
   ran_out e = subst (λ s. DrainsIf steps (true ≡ true) s xs) same (t, ran, λ _. (u, e))
-
--- one item goes from what is left to the end of what was taken
-pub moved : {X Y : Type 0} (f : X → Y) (taken : List X) (x : X) {new : List X} {rest more all : List Y} → map f taken ++ rest ≡ all → rest ≡ f x ∷ more
-    → new ≡ taken ++ x ∷ [] → map f new ++ more ≡ all
-moved f taken x told next made = rw (made, map_push, append_assoc, ← next) told
-
-pub none_left : {T Z : Type 0} (j : IntoIter T Z) → into_iter_len j ≡ 0 → into_iter_items j ≡ []
-none_left j e = nil_from_length (into_iter_items j) (omega (arith, j.rest.ok, e))
-
--- the parts are all lists when none is left
-pub joined_parts : {Z : Type 0} (parts : List (Vec Sale Z)) (rest all : List (List Sale)) → items_of parts ++ rest ≡ all → rest ≡ []
-    → all_sales all ≡ all_items parts
-joined_parts {Z} parts rest all told none = rw (← told, none, append-nil) (flat_map-map (λ (l : List Sale). l) (λ (p : Vec Sale Z). p.items) parts)

@@ -1,13 +1,12 @@
 //! A listing: sales by place.
 ghost use Rattle.std.specs.Prelude.{◌≡◌, List, [], ◌++◌, nat_lt, IsOk, IfOk, OnOk, OnErr, All, ⊤};
 ghost use Rattle.std.specs.List.Sorted.{IsPermutation};
-ghost use Rattle.time_and_sales.specs.Ranges.{all_items};
 ghost use Rattle.row_types.specs.SalesByPlace.{IsByPlace};
 ghost use Rattle.time_and_sales.specs.Lent.{AreApart, all_sales};
 
 use crate::OutOfMemory;
 use crate::numbered::Numbered;
-use itertools::{Itertools, MergePredicate};
+use itertools::MergePredicate;
 use row_types::Sale;
 use std::alloc::{Allocator, Global};
 use std::marker::Model;
@@ -66,7 +65,8 @@ impl<A: Allocator> Listing<A> {
         Ok(())
     }
 
-    /// The listing of the sales of all listings, in memory of `alloc`: one merge of all of them.
+    /// The listing of the sales of all listings, in memory of `alloc`: one sort of all of them, which
+    /// sees that each listing rises.
     pub fn merge_all(alloc: A, listings: Vec<Listing<A>, A>) -> Result<Listing<A>, OutOfMemory>
     where
         A: Clone,
@@ -74,13 +74,12 @@ impl<A: Allocator> Listing<A> {
         ensures permutation { IfOk result (λ all. IsPermutation (all_sales listings.items) all) }
         ensures by_place { IfOk result IsByPlace }
     {
-        let mut parts = Vec::new(alloc.clone()?);
-        for listing in listings {
-            parts.push(listing.into_vec())?;
+        let mut sales = Vec::new(alloc);
+        for listing in listings.as_slice() {
+            sales.extend_from_slice(listing.items())?;
         }
-        Ok(Listing {
-            sales: merged(alloc, parts)?,
-        })
+        put_by_place(&mut sales);
+        Ok(Listing { sales })
     }
 
     /// The vector of the sales, by place.
@@ -135,17 +134,4 @@ impl MergePredicate<Sale> for ByPlace {
     fn is_first(&mut self, left: &Sale, right: &Sale) -> bool {
         left.place < right.place
     }
-}
-
-/// The sales of all parts, merged by place.
-fn merged<A: Allocator + Clone>(
-    alloc: A,
-    parts: Vec<Vec<Sale, A>, A>,
-) -> Result<Vec<Sale, A>, OutOfMemory>
-    requires by_place { All (λ part. IsByPlace part.items) parts.items }
-    requires apart { AreApart (all_items parts.items) }
-    ensures { IfOk result (λ all. IsPermutation (all_items parts.items) all.items × IsByPlace all.items) }
-{
-    let merge = parts.into_iter().kmerge_by(alloc.clone()?, ByPlace)?;
-    merge.collect(alloc)
 }
