@@ -1,5 +1,3 @@
 pub mod AnswerOfSteps
-pub mod MomentLaws
-pub mod OneAnswer
+pub mod AnswerLaws
 pub mod SelectedSales
-mod WrittenLines

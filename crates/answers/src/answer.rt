@@ -4,7 +4,7 @@ use outcomes::DayFault;
 use std::alloc::{Allocator, Global};
 
 /// The answer to a query.
-#[derive(Debug, Drop)]
+#[derive(Drop)]
 pub enum Answer<A: Allocator = Global> {
     /// The text that was asked for.
     Printed(Text<A>),

@@ -7,7 +7,7 @@ use std::alloc::{AllocError, Allocator, Global};
 use std::marker::Model;
 
 /// The text of an answer, in pieces that threads may have made: it is all of them, one after another.
-#[derive(Debug, Drop)]
+#[derive(Drop)]
 pub struct Text<A: Allocator = Global> {
     pieces: Vec<Vec<u8, A>, A>,
 }

@@ -1,6 +1,5 @@
 mod Examples
 mod Found
 mod LineParts
-mod Numbers
-pub mod Texts
+pub mod FoundValues
 mod Whole

@@ -29,7 +29,7 @@ use Rattle.clap.proofs.TakesLemmas.{each_rule}
 use Rattle.clap.proofs.WalkLemmas.{both, first_value-rows, one_text-rows}
 use Rattle.arguments.specs.Arguments.{gatherers_rule, morsel_rule, partitions_rule, required_rule, the_app, workers_rule}
 use Rattle.arguments.proofs.Found.{IsNamed, IsValued, valued_reads}
-use Rattle.arguments.proofs.Numbers.{HasNumberIn, signed_writes}
+use Rattle.arguments.proofs.FoundValues.{HasNumberIn, signed_writes}
 
 -- clap found all that a job has
 pub record IsWhole (rows : List Row) : Type 0 where

@@ -263,7 +263,7 @@ fn job_of(alloc: Global, matches: &ArgMatches<'_>) -> Result<Job, AllocError>
 }
 
 /// Whether the words give an option, so that its value isn't its default.
-#[tactic(auto, using(crate::proofs::Texts::given_by_source))]
+#[tactic(auto, using(crate::proofs::FoundValues::given_by_source))]
 fn is_given(matches: &ArgMatches<'_>, id: &str) -> bool
     ensures { result ≡ is_given id.now (rows_of (found_of matches.now)) }
 {

@@ -72,7 +72,7 @@ not_after : (a b : Bar) → is_lt (key_cmp b a) ≡ false → is_gt (key_cmp a b
 not_after a b h = grind (arith, nat_tests)
 
 -- the next of sorted bars can be put into the table that those before it are joined to
-next_can_add : (sorted table : List Bar) (i : ℕ) (d : Bar) → IsSorted key_cmp sorted → AllSumsFit sorted → i < length sorted → IsUnionOf (take i sorted) table
+pub next_can_add : (sorted table : List Bar) (i : ℕ) (d : Bar) → IsSorted key_cmp sorted → AllSumsFit sorted → i < length sorted → IsUnionOf (take i sorted) table
     → CanAdd table (get_or sorted i d)
 next_can_add sorted table i d rise fit within union =
     let bar = get_or sorted i d in

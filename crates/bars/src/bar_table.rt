@@ -148,13 +148,11 @@ impl<A: Allocator + Clone> BarTable<A> {
             AreBarsOf width (all_sales lists) all) }
         ensures traded { IfOk result (λ all. All IsTraded all) }
     {
-        let mut parts = Vec::new(alloc.clone()?);
+        let mut bars = Vec::new(alloc);
         for table in tables {
-            parts.push(table.items())?;
+            bars.extend_from_slice(table.items())?;
         }
-        Ok(BarTable {
-            bars: unite(alloc, parts.as_slice())?,
-        })
+        Ok(BarTable { bars: unite(bars)? })
     }
 
     /// Takes in the bars of `other`, and joins those of one locate and start. It is refused if
@@ -169,8 +167,9 @@ impl<A: Allocator + Clone> BarTable<A> {
         ensures traded { All IsTraded self.new }
         ensures unchanged { OnErr result (self.new ≡ self.old) }
     {
-        let alloc = self.bars.allocator().clone()?;
-        self.bars = merge_bars(alloc, self.items(), other.items())?;
+        let mut bars = Vec::from_slice(self.bars.allocator().clone()?, self.items())?;
+        bars.extend_from_slice(other.items())?;
+        self.bars = unite(bars)?;
         Ok(())
     }
 }
@@ -221,60 +220,25 @@ fn add<A: Allocator>(bars: &mut Vec<Bar, A>, bar: Bar) -> Result<(), OutOfMemory
     Ok(())
 }
 
-/// Two tables in one.
-fn merge_bars<'a, A: Allocator + Clone>(
-    alloc: A,
-    one: &'a [Bar],
-    other: &'a [Bar],
-) -> Result<Vec<Bar, A>, OutOfMemory>
-    requires { AllSumsFit (one.now ++ other.now) }
-    ensures { IfOk result (λ bars. IsUnionOf (one.now ++ other.now) bars.items) }
+/// The bars by key, those of one key made one.
+fn unite<A: Allocator + Clone>(mut bars: Vec<Bar, A>) -> Result<Vec<Bar, A>, OutOfMemory>
+    requires { AllSumsFit bars.items }
+    ensures { IfOk result (λ all. IsUnionOf bars.items all.items) }
 {
-    unite(alloc, &[one, other])
-}
-
-/// One list of the bars of all parts, by key, those of one key made one.
-fn unite<A: Allocator + Clone>(alloc: A, parts: &[&[Bar]]) -> Result<Vec<Bar, A>, OutOfMemory>
-    requires { AllSumsFit (all_bars (lent parts.now)) }
-    ensures { IfOk result (λ bars. IsUnionOf (all_bars (lent parts.now)) bars.items) }
-{
-    let mut sorted = all_of(alloc.clone()?, parts)?;
-    sorted.sort_by_key(|bar| (bar.locate, bar.start))?;
-    join_all(alloc, sorted.as_slice())
-}
-
-/// The bars of all parts, part by part.
-fn all_of<'a, A: Allocator>(alloc: A, parts: &[&'a [Bar]]) -> Result<Vec<&'a Bar, A>, OutOfMemory>
-    ensures { IfOk result (λ bars. lent bars.items ≡ all_bars (lent parts.now)) }
-{
-    let mut bars = Vec::with_capacity(alloc, count_bars(parts))?;
-    for part in parts {
-        for bar in *part {
-            bars.push(bar)?;
-        }
-    }
-    Ok(bars)
-}
-
-/// How many bars the parts have, for room for them to be made.
-fn count_bars(parts: &[&[Bar]]) -> usize {
-    let mut count = 0usize;
-    for part in parts {
-        count = count.saturating_add(part.len());
-    }
-    count
+    bars.sort_by_key(|bar| (bar.locate, bar.start))?;
+    join_all(bars.allocator().clone()?, bars.as_slice())
 }
 
 /// Sorted bars in one list, those of one key made one.
 #[tactic(auto, using(std::proofs::lemmas::List::take_all, crate::proofs::JoinedTables::union_of_none))]
-fn join_all<A: Allocator>(alloc: A, sorted: &[&Bar]) -> Result<Vec<Bar, A>, OutOfMemory>
-    requires rise { IsSorted key_cmp (lent sorted.now) }
-    requires sums { AllSumsFit (lent sorted.now) }
-    ensures { IfOk result (λ bars. IsUnionOf (lent sorted.now) bars.items) }
+fn join_all<A: Allocator>(alloc: A, sorted: &[Bar]) -> Result<Vec<Bar, A>, OutOfMemory>
+    requires rise { IsSorted key_cmp sorted.now }
+    requires sums { AllSumsFit sorted.now }
+    ensures { IfOk result (λ bars. IsUnionOf sorted.now bars.items) }
 {
     let mut bars = Vec::with_capacity(alloc, sorted.len())?;
     for bar in sorted {
-        add(&mut bars, **bar)?;
+        add(&mut bars, *bar)?;
     }
     Ok(bars)
 }

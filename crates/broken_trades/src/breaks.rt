@@ -10,7 +10,7 @@ use std::alloc::{Allocator, Global};
 use std::marker::Model;
 
 /// The match numbers that Broken Trade messages name (TotalView-ITCH 5.0, section 1.5.3), rising.
-#[derive(Debug, Drop)]
+#[derive(Drop)]
 pub struct Breaks<A: Allocator = Global> {
     numbers: Vec<u64, A>,
 }

@@ -1,8 +1,6 @@
 pub mod CountedMessages
-pub mod FewTrades
 pub mod JoinedRows
 pub mod RowsByPlace
 pub mod RowsOfFrames
-pub mod StampedMessages
-pub mod StampedSales
+pub mod Stamped
 pub mod TradesOfRows

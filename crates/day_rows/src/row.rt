@@ -10,7 +10,7 @@ use row_types::{DirectoryRow, Execution, Kind, OrderRow, Sale};
 const PRINTABLE: u8 = b'Y';
 
 /// What one message gives.
-#[derive(Clone, Copy, Debug, PartialEq, Eq)]
+#[derive(Clone, Copy, PartialEq, Eq)]
 pub enum Row {
     /// An order reference number that is given, with its price.
     Order(OrderRow),

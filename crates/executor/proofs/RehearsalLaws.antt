@@ -8,7 +8,7 @@ use Rattle.day_file.proofs.Laws.{frames_are_one}
 use Rattle.meaning.specs.Meaning.{Meaning}
 use Rattle.answers.specs.Answers.{DayFault, IsAnswer, told_by}
 use Rattle.day_rows.specs.Messages.{first_wrong}
-use Rattle.answers.proofs.OneAnswer.{answers_are_one}
+use Rattle.answers.proofs.AnswerLaws.{answers_are_one}
 use Rattle.schedules.specs.Schedules.{first_left, brings, has_arrived}
 use Rattle.schedules.specs.declared.event.Event.{Event}
 use Rattle.executor.specs.Rehearsals.{IsFinished, IsRehearsed, Tells, TellTheSame, each_once}

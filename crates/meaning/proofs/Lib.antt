@@ -1,2 +1,1 @@
 pub mod ListedLocates
-pub mod SortedNames

@@ -1,9 +1,9 @@
--- The rows that a filter needs answer as all rows do.
-use Rattle.std.proofs.Common.{◌≡◌, ℕ, ◌<◌, ◌∷◌, [], ◌++◌, Bool, true, false, nat_eq, List, map, filter, All, Contains, length, get_or, refl, sym, ap, ◌∙◌}
-use Rattle.std.proofs.Common.{inl, inr, arith}
+-- The rows that a filter needs answer as all rows do, and its bits that are set stay set.
+use Rattle.std.proofs.Common.{◌≡◌, ℕ, ◌<◌, ◌∷◌, [], ◌++◌, Bool, true, false, nat_eq, List, map, filter, All, Contains, length, get_or, refl, sym, ap, ◌∙◌, inl}
+use Rattle.std.proofs.Common.{inr, arith, ◌/◌, set, eq-eqb, eqb-true}
 use Rattle.std.specs.List.{AllByRecursion, AllPairs, IsDistinct}
-use Rattle.std.proofs.lemmas.Bool.{cases_order, cond_both}
-use Rattle.std.proofs.lemmas.List.{get_or_default, get_or-map, length-map}
+use Rattle.std.proofs.lemmas.Bool.{cases_order, cond_both, cases_eq}
+use Rattle.std.proofs.lemmas.List.{get_or_default, get_or-map, length-map, get_or-set_other, get_or-set_same, length-set}
 use Rattle.std.proofs.lemmas.List.Elements.{All-contains_itself, All-head, All-map, All-push, All-tail, All-weaker}
 use Rattle.std.proofs.lemmas.List.Quantifiers.{all_pairs_push}
 use Rattle.base.specs.Least.{least_by}
@@ -12,9 +12,13 @@ use Rattle.base.proofs.Order.{Contains-from_filter, passes_filter}
 use Rattle.order_table.specs.Orders.{OrderRow, first_repeated, is_repeated}
 use Rattle.order_table.proofs.Repeats.{repeated_by}
 use Rattle.order_table.proofs.PartRows.{repeated_where, rows_where}
-use Rattle.order_list.specs.Bits.{may_have}
+use Rattle.order_list.specs.Bits.{may_have, mask_of, word_of}
 use Rattle.order_list.specs.Filters.{IsFilterOf, is_needed}
 use Rattle.order_list.specs.declared.filter.OrderFilter.{OrderFilter}
+use Rattle.std.proofs.lemmas.Nat.{and_or_self, or_shr}
+use Rattle.std.specs.Prelude.{bit_and, bit_or}
+use lib.Arith.{bin_ind}
+use lib.Bits.{and_step, and_zero_r, or_step}
 
 -- what passes a test is kept
 pub all_pass : {X : Type 0} (test : ℕ → Bool) (number : X → ℕ) (xs : List X) → All (λ n. test n ≡ true) (map number xs)
@@ -87,3 +91,36 @@ module _ (executed ordered : List ℕ) (order_no : ℕ) (old new : OrderFilter) 
         (λ i j d below inside same. needed _ (was.needs_repeated i j d below inside same))
         (λ k d inside same. rw same (repeats (rw same at (was.has_seen k d inside))));
   }
+
+-- ---- bits that are set stay set
+
+-- those of n stay where those of m are set
+mask_kept : (n word m : ℕ) → bit_and word n ≡ n → bit_and (bit_or word m) n ≡ n
+mask_kept =
+    bin_ind (λ (n : ℕ). (word m : ℕ) → bit_and word n ≡ n → bit_and (bit_or word m) n ≡ n) (λ word m has. and_zero_r (bit_or word m))
+    (λ n more word m has.
+    let half : bit_and (word / 2) (n / 2) ≡ n / 2 = omega (arith, has, and_step word n) in
+    let rest : bit_and (bit_or word m / 2) (n / 2) ≡ n / 2 = ap (λ x. bit_and x (n / 2)) (or_shr word m 1) ∙ more (word / 2) (m / 2) half in
+    omega (arith, has, and_step word n, and_step (bit_or word m) n, rest, or_step word m))
+
+module _ (words : List ℕ) (order_no w m word : ℕ) (word_is : w ≡ word_of (length words) order_no) (mask_is : m ≡ mask_of (length words) order_no)
+    (inside : w < length words) (old : word ≡ get_or words w word) where
+  abbrev pub with_reference : List ℕ
+  with_reference = set words w (bit_or word m)
+
+  same_length : length with_reference ≡ length words
+  same_length = length-set words w (bit_or word m)
+
+  pub inserted : may_have with_reference order_no ≡ true
+  inserted = rw (same_length, sym word_is, sym mask_is)
+      (eq-eqb _ m (ap (λ it. bit_and it m) (get_or-set_same words w _ 0 inside) ∙ and_or_self m word))
+
+  pub kept : (other : ℕ) → may_have words other ≡ true → may_have with_reference other ≡ true
+  kept other has = rw same_length (eq-eqb _ _ (elim (cases_eq (word_of (length words) other) w) [
+    | inl same ↦
+        let n = mask_of (length words) other in
+        let here : bit_and word n ≡ n = ap (λ it. bit_and it n) (old ∙ get_or_default words w word 0 inside ∙ ap (λ v. get_or words v 0) (sym same))
+        ∙ eqb-true _ n has in
+        ap (λ v. bit_and (get_or with_reference v 0) n) same ∙ ap (λ it. bit_and it n) (get_or-set_same words w _ 0 inside) ∙ mask_kept n word m here
+    | inr other_word ↦ ap (λ it. bit_and it (mask_of (length words) other)) (get_or-set_other words w _ _ 0 other_word) ∙ eqb-true _ _ has
+  ]))

@@ -1,3 +1,2 @@
 pub mod FilteredOrders
 mod SearchedRows
-mod SetBits

@@ -42,6 +42,7 @@ impl<'a> Model for RisingRows<'a> {
 
 impl<'a> RisingRows<'a> {
     /// The rows, of which there are some, and whose references rise.
+    #[tactic(auto, using(crate::proofs::SearchedRows::rising_wide))]
     pub(crate) fn of(origin: Origin, rows: &'a [Lean]) -> Self
         requires origin { IsOrigin origin }
         requires some { 0 < length rows.now }

@@ -18,7 +18,7 @@ pub struct OrderTable<A: Allocator + Clone = Global> {
 }
 
 /// A row whose reference a row of smaller place gives.
-#[derive(Clone, Copy, PartialEq, Eq, Debug)]
+#[derive(Clone, Copy, PartialEq, Eq)]
 pub struct Repeated {
     /// In bytes from the file's start.
     pub place: u64,

@@ -20,7 +20,7 @@ use Rattle.probe.specs.Pricing.{Execution, Sale, Unknown, first_unknown, priced,
 use Rattle.probe.specs.Selection.{admits}
 use Rattle.probe.specs.Selection.{is_kept, kept}
 use Rattle.probe.proofs.KeptSales.{length-kept, length-priced}
-use Rattle.probe.proofs.PartSales.{first_unknown_of_parts, priced_in_part}
+use Rattle.probe.proofs.PricedExecutions.{first_unknown_of_parts, priced_in_part}
 use Rattle.time_and_sales.proofs.SortedByPlace.{differ_in_order}
 use Rattle.meaning.specs.Meaning.{Meaning}
 use Rattle.answers.specs.Answers.{asks_for}
@@ -28,7 +28,7 @@ use Rattle.day_rows.specs.DayRows.{AreByPlace, AreStamped, DayRows, IsStamped, r
 use Rattle.day_rows.specs.Messages.{Placed, break_numbers, directory_rows, executions, order_rows, own_priced_sales}
 use Rattle.day_rows.proofs.RowsByPlace.{executions_distinct, kept_distinct, orders_distinct}
 use Rattle.answers.proofs.SelectedSales.{keeps_asked}
-use Rattle.day_rows.proofs.StampedSales.{fits_all}
+use Rattle.day_rows.proofs.Stamped.{fits_all}
 use Rattle.morsel_rows.specs.Partitions.{partition_of}
 use Rattle.buckets.specs.FoundRows.{FoundView, sales_in}
 use Rattle.buckets.specs.Products.{product_of}

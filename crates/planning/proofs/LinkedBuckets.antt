@@ -20,8 +20,7 @@ use Rattle.day_file.proofs.CutFrames.{frames_of_runs}
 use Rattle.day_file.proofs.Laws.{places_rise}
 use Rattle.meaning.specs.Meaning.{Meaning}
 use Rattle.day_rows.specs.Messages.{messages_of}
-use Rattle.day_rows.proofs.CountedMessages.{counted_by_place}
-use Rattle.day_rows.proofs.FewTrades.{few_trades}
+use Rattle.day_rows.proofs.CountedMessages.{counted_by_place, few_trades}
 use Rattle.day_rows.proofs.RowsByPlace.{messages_by_place}
 use Rattle.morsel_rows.specs.Partitions.{AreRowsByPlace, MorselRowsView, joined_partitions, no_rows_in, partition_at}
 use Rattle.morsel_rows.proofs.JoinedPartitions.{partition_past}

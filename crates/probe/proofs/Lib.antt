@@ -1,4 +1,3 @@
-mod OneMoreExecution
+pub mod PricedExecutions
 pub mod KeptSales
-pub mod PartSales
 pub mod ExactSelections

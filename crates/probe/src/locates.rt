@@ -11,7 +11,6 @@ use std::marker::Model;
 
 /// Locates in rising order, none of them twice.
 #[derive(Drop)]
-#[derive_where(Debug)]
 pub struct LocateList<A: Allocator = Global> {
     numbers: Vec<u16, A>,
 }

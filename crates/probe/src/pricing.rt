@@ -14,7 +14,6 @@ use std::alloc::{Allocator, Global};
 
 /// The sales of a list of executions, and the first of them that has no price.
 #[derive(Drop)]
-#[derive_where(Debug)]
 pub struct Priced<A: Allocator = Global> {
     /// Of the executions that have a price, in the list's order, those of zero shares too.
     pub sales: Vec<Sale, A>,

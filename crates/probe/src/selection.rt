@@ -10,7 +10,7 @@ use std::alloc::{Allocator, Global};
 
 /// The locates whose sales are asked for.
 #[derive(Drop)]
-#[derive_where(PartialEq, Eq, Debug)]
+#[derive_where(PartialEq, Eq)]
 pub enum Locates<A: Allocator = Global> {
     /// Every locate.
     All,
@@ -30,7 +30,7 @@ impl<A: Allocator> Locates<A> {
 }
 
 /// A part of the day, in seconds since midnight (0 to 86,400).
-#[derive(Clone, Copy, PartialEq, Eq, Debug)]
+#[derive(Clone, Copy, PartialEq, Eq)]
 pub struct Span {
     /// The first second.
     pub since: u32,
@@ -48,7 +48,7 @@ impl Span {
 }
 
 /// The kinds of trades that are asked for.
-#[derive(Clone, Copy, PartialEq, Eq, Debug)]
+#[derive(Clone, Copy, PartialEq, Eq)]
 pub struct Kinds {
     pub e: bool,
     pub c: bool,
@@ -71,7 +71,7 @@ impl Kinds {
 
 /// Which sales a query asks for.
 #[derive(Drop)]
-#[derive_where(PartialEq, Eq, Debug)]
+#[derive_where(PartialEq, Eq)]
 pub struct Selection<A: Allocator = Global> {
     pub locates: Locates<A>,
     /// The part of the day, or every time.

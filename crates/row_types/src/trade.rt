@@ -4,7 +4,7 @@
 ///
 /// It is priced by the order whose reference it has. Its fields are ordered from wide to narrow, so
 /// that a row has 40 bytes, with no gap between two.
-#[derive(Clone, Copy, PartialEq, Eq, Debug)]
+#[derive(Clone, Copy, PartialEq, Eq)]
 pub struct Execution {
     /// Of the message, in bytes from the file's start.
     pub place: u64,
@@ -20,7 +20,7 @@ pub struct Execution {
 }
 
 /// The type of the message that gave a trade.
-#[derive(Clone, Copy, PartialEq, Eq, Debug)]
+#[derive(Clone, Copy, PartialEq, Eq)]
 pub enum Kind {
     /// Order Executed (TotalView-ITCH 5.0, section 1.4.1).
     E,
@@ -33,7 +33,7 @@ pub enum Kind {
 }
 
 /// A trade with its price, be it broken or of no shares, until `keep` of `probe` drops those.
-#[derive(Clone, Copy, PartialEq, Eq, Debug)]
+#[derive(Clone, Copy, PartialEq, Eq)]
 pub struct Sale {
     /// Of the message that gave it, in bytes from the file's start.
     pub place: u64,
@@ -50,7 +50,7 @@ pub struct Sale {
 }
 
 /// An execution whose order reference no message before it gave.
-#[derive(Clone, Copy, PartialEq, Eq, Debug)]
+#[derive(Clone, Copy, PartialEq, Eq)]
 pub struct Unknown {
     /// Of the execution, in bytes from the file's start.
     pub place: u64,

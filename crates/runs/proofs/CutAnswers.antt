@@ -19,10 +19,9 @@ use Rattle.day_rows.specs.Messages.{Placed, break_numbers, directory_rows, first
 use Rattle.outcomes.specs.declared.day_fault.DayFault.{DayFault}
 use Rattle.outcomes.specs.declared.day_fault.DayFault.TheVariants as fault
 use Rattle.answers.proofs.AnswerOfSteps.{messages_answer, wrong_length_answers}
-use Rattle.day_rows.proofs.CountedMessages.{counted_by_place}
-use Rattle.day_rows.proofs.FewTrades.{few_trades}
+use Rattle.day_rows.proofs.CountedMessages.{counted_by_place, few_trades}
 use Rattle.day_rows.proofs.RowsByPlace.{messages_by_place}
-use Rattle.day_rows.proofs.StampedMessages.{stamped_rows}
+use Rattle.day_rows.proofs.Stamped.{stamped_rows}
 use Rattle.morsel_rows.specs.Partitions.{PartitionView, joined_partitions, partition_at, partition_of}
 use Rattle.scanning.specs.Scans.{AreRuns, ScanTotalView, total_of}
 use Rattle.scanning.specs.declared.wrong.WrongLength.{WrongLength}

@@ -1,7 +1,7 @@
 -- A reading that allows one list of bytes leaves one answer.
 use Rattle.std.proofs.Common.{◌≡◌, ℕ, List, Result, subst}
 use Rattle.answers.specs.Answers.{IsAnswer}
-use Rattle.answers.proofs.OneAnswer.{answers_are_one}
+use Rattle.answers.proofs.AnswerLaws.{answers_are_one}
 use Rattle.outcomes.specs.declared.day_fault.DayFault.{DayFault}
 use Rattle.query.specs.Words.{words_of}
 use Rattle.query.proofs.MeaningOrFault.{one_meaning}

@@ -87,7 +87,6 @@ fn texts_in_turn<F: Fn(&[u64]) -> Result<Vec<u8>, OutOfMemory>>(
 }
 
 /// The least numbers of ranges: 0, then the greatest of the numbers so far, for each of them in turn.
-#[tactic(auto, using(crate::proofs::MadeTexts::bounding))]
 fn bounds_of(alloc: Global, numbers: &[u64]) -> Result<Vec<u64>, OutOfMemory>
     ensures { IfOk result (λ bounds. bounds.items ≡ 0 ∷ greatest_so_far 0 numbers.now) }
 {

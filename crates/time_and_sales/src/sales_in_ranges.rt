@@ -83,7 +83,7 @@ fn range_lines(
 }
 
 /// The sales of each listing that are in the first range. They stay in their listings.
-#[tactic(auto, using(crate::proofs::SalesInRanges::loops))]
+#[tactic(auto, using(crate::proofs::SortedByPlace::loops))]
 fn parts_of<'a>(
     alloc: Global,
     listings: &[&'a Listing],

@@ -1,4 +1,4 @@
-use Rattle.answers.proofs.MomentLaws.{counted_decide}
+use Rattle.answers.proofs.AnswerLaws.{counted_decide}
 use Rattle.answers.proofs.answer_laws.counted_messages_decide.Goals as goal
 
 pub returns : goal.returns

@@ -1,4 +1,4 @@
-use Rattle.answers.proofs.MomentLaws.{past_all}
+use Rattle.answers.proofs.AnswerLaws.{past_all}
 use Rattle.answers.proofs.answer_laws.moment_past_all.Goals as goal
 
 pub returns : goal.returns

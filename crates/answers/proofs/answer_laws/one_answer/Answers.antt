@@ -1,4 +1,4 @@
-use Rattle.answers.proofs.OneAnswer.{answers_are_one}
+use Rattle.answers.proofs.AnswerLaws.{answers_are_one}
 use Rattle.answers.proofs.answer_laws.one_answer.Goals as goal
 
 pub returns : goal.returns

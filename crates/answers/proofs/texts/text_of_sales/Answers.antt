@@ -3,7 +3,7 @@ use Rattle.row_types.specs.declared.trade.Sale.{Sale}
 use Rattle.time_and_sales.specs.Names.{names_by}
 use Rattle.time_and_sales.specs.Texts.{sale_line, sales_header}
 use Rattle.time_and_sales.proofs.SortedByPlace.{no_sale}
-use Rattle.answers.proofs.WrittenLines.{line_more}
+use Rattle.answers.proofs.AnswerOfSteps.{line_more}
 use Rattle.answers.proofs.texts.text_of_sales.Goals as goal
 
 pub loop-sale-preserved : goal.loop-sale-preserved

@@ -1,6 +1,6 @@
 use Rattle.std.proofs.Common.{◌∙◌, ap, codes, Some, rules}
 use Rattle.clap.specs.Words.{found_of}
-use Rattle.arguments.proofs.Texts.{text_found, text_unwrapped}
+use Rattle.arguments.proofs.FoundValues.{text_found, text_unwrapped}
 use Rattle.arguments.proofs.Whole.{whole}
 use Rattle.arguments.proofs.arguments.job_of.Goals as goal
 

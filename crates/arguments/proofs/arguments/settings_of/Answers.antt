@@ -1,7 +1,7 @@
 use Rattle.std.proofs.Common.{refl, arith}
 use Rattle.base.specs.declared.limits.TheConstants.{LARGEST_MORSEL, MOST_GATHERERS, MOST_PARTITIONS, MOST_WORKERS}
 use Rattle.clap.specs.Words.{found_of}
-use Rattle.arguments.proofs.Numbers.{integer_found, integer_unwrapped}
+use Rattle.arguments.proofs.FoundValues.{integer_found, integer_unwrapped}
 use Rattle.arguments.proofs.Whole.{whole}
 use Rattle.arguments.proofs.arguments.settings_of.Goals as goal
 

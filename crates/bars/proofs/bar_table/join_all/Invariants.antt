@@ -1,8 +1,7 @@
 use Rattle.std.proofs.Common.{take}
-use Rattle.time_and_sales.specs.Lent.{lent}
 use Rattle.bars.specs.Bars.{IsUnionOf}
 use Rattle.bars.proofs.bar_table.join_all.Given as goal
 
 -- the bars so far are made one
 abbrev pub invariant-loop-bar : goal.invariant-loop-bar
-invariant-loop-bar g l = IsUnionOf (take l.bar-index (lent l.sorted)) l.bars.items
+invariant-loop-bar g l = IsUnionOf (take l.bar-index l.sorted) l.bars.items

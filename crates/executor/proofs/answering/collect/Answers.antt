@@ -12,11 +12,10 @@ use Rattle.answers.specs.Answers.{DayFault, IsAnswer, Truncated, WrongLength}
 use Rattle.answers.proofs.AnswerOfSteps.{truncation_answers, wrong_length_answers}
 use Rattle.day_rows.specs.DayRows.{rows_of}
 use Rattle.day_rows.specs.Messages.{counted, first_wrong, messages_of}
-use Rattle.day_rows.proofs.CountedMessages.{counted_by_place}
-use Rattle.day_rows.proofs.FewTrades.{few_trades}
+use Rattle.day_rows.proofs.CountedMessages.{counted_by_place, few_trades}
 use Rattle.day_rows.proofs.RowsByPlace.{messages_by_place}
 use Rattle.day_rows.proofs.RowsOfFrames.{right_length, wrong_first}
-use Rattle.day_rows.proofs.StampedMessages.{stamped_rows}
+use Rattle.day_rows.proofs.Stamped.{stamped_rows}
 use Rattle.morsel_rows.specs.Partitions.{in_partitions}
 use Rattle.executor.proofs.Steps.{collects}
 use Rattle.executor.proofs.answering.collect.Goals as goal

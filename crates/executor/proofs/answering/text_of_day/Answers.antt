@@ -8,7 +8,7 @@ use Rattle.answers.proofs.AnswerOfSteps.{text_answers, text_asked}
 use Rattle.answers.proofs.SelectedSales.{listing_few, listing_shares, selected}
 use Rattle.day_rows.specs.Messages.{directory_rows, executions, own_priced_sales}
 use Rattle.day_rows.proofs.RowsByPlace.{kept_apart}
-use Rattle.day_rows.proofs.StampedSales.{fits_listing}
+use Rattle.day_rows.proofs.Stamped.{fits_listing}
 use Rattle.morsel_rows.specs.Partitions.{MorselRowsView}
 use Rattle.executor.proofs.Steps.{day_answers, on_day}
 use Rattle.executor.proofs.answering.text_of_day.Goals as goal

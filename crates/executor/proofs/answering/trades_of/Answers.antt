@@ -4,7 +4,7 @@ use Rattle.order_table.specs.Orders.{first_repeated}
 use Rattle.probe.specs.Pricing.{first_unknown, priced}
 use Rattle.day_rows.specs.Messages.{executions, order_rows, own_priced_sales}
 use Rattle.day_rows.proofs.RowsByPlace.{executions_distinct, orders_distinct}
-use Rattle.day_rows.proofs.StampedSales.{fits_all}
+use Rattle.day_rows.proofs.Stamped.{fits_all}
 use Rattle.morsel_rows.specs.Partitions.{PartitionView}
 use Rattle.executor.specs.Steps.{IsReferenceFault}
 use Rattle.executor.proofs.Steps.{fault_answers, has_partition, on_day, whole_partition}

@@ -1,5 +1,5 @@
 use Rattle.std.proofs.Common.{subst}
-use Rattle.answers.proofs.OneAnswer.{answers_are_one}
+use Rattle.answers.proofs.AnswerLaws.{answers_are_one}
 use Rattle.answers.specs.Answers.{IsAnswer}
 use Rattle.block_scan.proofs.KnownFiles.{known_whole}
 use Rattle.executor.proofs.RehearsalLaws.{all_arrived, finished_tells}

@@ -3,7 +3,7 @@ use Rattle.std.proofs.lemmas.Grind.{common_steps}
 use Rattle.std.proofs.lemmas.List.Sorted.{answers_always}
 use Rattle.base.specs.Least.{least_by}
 use Rattle.probe.specs.Pricing.{Sale, Unknown, unknown_of}
-use Rattle.probe.proofs.OneMoreExecution.{priced_more, priced_stays, unknown_more, unknown_stays}
+use Rattle.probe.proofs.PricedExecutions.{priced_more, priced_stays, unknown_more, unknown_stays}
 use Rattle.probe.proofs.pricing.price_each.Goals as goal
 use Rattle.probe.proofs.pricing.price_each.Goals.{in-Some, in-None}
 

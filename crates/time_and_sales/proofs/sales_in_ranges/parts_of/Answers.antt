@@ -4,8 +4,7 @@ use Rattle.std.proofs.lemmas.List.Kept.{IsStrictlySortedBy-filter}
 use Rattle.time_and_sales.specs.Ranges.{is_in_first}
 use Rattle.row_types.specs.SalesByPlace.{place_cmp, IsByPlace}
 use Rattle.time_and_sales.proofs.MergedListings.{rest_of}
-use Rattle.time_and_sales.proofs.SalesInRanges.{loops}
-use Rattle.time_and_sales.proofs.SortedByPlace.{place_of}
+use Rattle.time_and_sales.proofs.SortedByPlace.{loops, place_of}
 use Rattle.time_and_sales.proofs.sales_in_ranges.parts_of.Goals as goal
 
 pub loop-listing-preserved : goal.loop-listing-preserved

@@ -6,8 +6,7 @@ use Rattle.time_and_sales.specs.Ranges.{is_in_first}
 use Rattle.time_and_sales.specs.Lent.{all_sales, lent}
 use Rattle.time_and_sales.specs.Names.{names_by}
 use Rattle.time_and_sales.specs.Texts.{Sale, lines_text}
-use Rattle.time_and_sales.proofs.SalesInRanges.{all_within, range_is}
-use Rattle.time_and_sales.proofs.SortedByPlace.{place_of}
+use Rattle.time_and_sales.proofs.SortedByPlace.{all_within, range_is, place_of}
 use Rattle.time_and_sales.proofs.sales_in_ranges.range_lines.Goals as goal
 
 pub lines-requires : goal.lines-requires

@@ -1,7 +1,7 @@
 use Rattle.std.proofs.Common.{◌≡◌, ◌∙◌, ap, subst, sym, map, IsSorted, nat_cmp, bytes_eq}
 use Rattle.std.specs.Cmp.Lexicographic.{slice_cmp}
 use Rattle.std.specs.List.{list_any}
-use Rattle.meaning.proofs.SortedNames.{found_name}
+use Rattle.meaning.proofs.ListedLocates.{found_name}
 use Rattle.meaning.proofs.sorted_symbols.SortedSymbols.hold.Goals as goal
 
 pub returns : goal.returns

@@ -1,6 +1,6 @@
 use Rattle.std.proofs.Common.{◌≡◌, map, arith, rules}
 use Rattle.std.proofs.lemmas.Grind.{common_steps}
-use Rattle.meaning.proofs.SortedNames.{moved_names}
+use Rattle.meaning.proofs.ListedLocates.{moved_names}
 use Rattle.meaning.proofs.sorted_symbols.SortedSymbols.of.Goals as goal
 
 pub returns : goal.returns

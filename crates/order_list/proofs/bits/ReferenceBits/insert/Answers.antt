@@ -1,5 +1,5 @@
 use Rattle.std.proofs.Common.{rules}
-use Rattle.order_list.proofs.SetBits.{inserted, kept}
+use Rattle.order_list.proofs.FilteredOrders.{inserted, kept}
 use Rattle.order_list.proofs.bits.ReferenceBits.insert.Goals as goal
 
 pub returns-clause-inserted : goal.returns-clause-inserted

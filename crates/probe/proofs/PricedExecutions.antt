@@ -1,13 +1,17 @@
--- One more execution: what it adds to the sales, and to the first that has no price.
-use Rattle.std.proofs.Common.{◌≡◌, ℕ, ◌+◌, ◌<◌, cond, length, get_or, take, List, [], ◌∷◌, ◌++◌, Option, Some, None, is_none}
-use Rattle.std.proofs.Common.{option_map, option_to_list, filter, refl, sym, ap, ◌∙◌}
+-- What one more execution adds to the sales, and to the first that has no price; and those of a part.
+use Rattle.std.proofs.Common.{◌≡◌, ℕ, ◌+◌, ◌<◌, cond, length, get_or, take, List, [], ◌∷◌, ◌++◌, Option, Some, None, is_none, option_map, option_to_list}
+use Rattle.std.proofs.Common.{filter, refl, sym, ap, ◌∙◌, ◌%◌, eqb, filter_map}
 use Rattle.std.specs.List.{cons_option}
 use Rattle.std.proofs.lemmas.List.{append-nil, append_assoc, take_more}
 use Rattle.std.proofs.lemmas.List.Elements.{filter-append, filter_map-append}
 use Rattle.order_table.specs.declared.OrderRow.{OrderRow}
-use Rattle.base.specs.Least.{least_by}
+use Rattle.base.specs.Least.{least_by, numbers_below, part}
 use Rattle.base.proofs.Least.{least_made_more}
 use Rattle.probe.specs.Pricing.{Execution, Unknown, first_unknown, is_unknown, price_of, priced, sale_at, sale_of, unknown_of}
+use Rattle.base.proofs.Lists.{filters_commute, filter_map_on_filter}
+use Rattle.base.proofs.Order.{TellsApart, TellsApart-filter}
+use Rattle.base.proofs.Parts.{least_of_parts}
+use Rattle.order_table.proofs.PartRows.{part_rows, price_where}
 
 module _ (rows : List OrderRow) (before executions : List Execution) (i : ℕ) (d : Execution) (below : i < length executions) where
   abbrev so_far : List Execution
@@ -58,3 +62,31 @@ module _ (rows : List OrderRow) (before executions : List Execution) (i : ℕ) (
       ∙ least_made_more (λ (unknown : Unknown). unknown.place) (λ (execution : Execution). execution.place) unknown_of (λ execution. refl)
       (filter (is_unknown rows) so_far)
       (get_or executions i d)
+
+-- ---- the executions of a part, by their references modulo a number, are priced by the rows of the part as by all rows
+
+-- the executions whose reference modulo n is b
+abbrev part_executions : ℕ → List Execution → ℕ → List Execution
+part_executions n executions b = part n (λ execution. execution.order_no) executions b
+
+-- so a part has the sales of its executions
+pub priced_in_part : (n b : ℕ) (rows : List OrderRow) (executions : List Execution)
+    → priced (part_rows n rows b) (part_executions n executions b) ≡ priced rows (part_executions n executions b)
+priced_in_part n b rows executions =
+    filter_map_on_filter (sale_of (part_rows n rows b)) (sale_of rows) (λ (execution : Execution). eqb (execution.order_no % n) b)
+    (λ execution h. ap (option_map (sale_at execution)) (price_where (λ order_no. eqb (order_no % n) b) rows execution.order_no execution.place h)) executions
+
+-- and the least of the parts' first unknown executions is the whole's
+pub first_unknown_of_parts : (n : ℕ) (rows : List OrderRow) (executions : List Execution) → 0 < n → TellsApart (λ execution. execution.place) executions
+    → least_by (λ execution. execution.place) (filter_map (λ b. first_unknown (part_rows n rows b) (part_executions n executions b)) (numbers_below n))
+    ≡ first_unknown rows executions
+first_unknown_of_parts n rows executions some apart =
+    (λ i. least_by (λ execution. execution.place) (filter_map (λ b. each b i) (numbers_below n)))
+    ∙ least_of_parts n (λ execution. execution.order_no) (λ execution. execution.place) (filter (is_unknown rows) executions) some
+    (TellsApart-filter _ (is_unknown rows) executions apart)
+  where
+    each : (b : ℕ) → first_unknown (part_rows n rows b) (part_executions n executions b)
+        ≡ least_by (λ execution. execution.place) (part_executions n (filter (is_unknown rows) executions) b)
+    each b = ap (least_by (λ (execution : Execution). execution.place))
+        (filters_commute (is_unknown (part_rows n rows b)) (is_unknown rows) (λ (execution : Execution). eqb (execution.order_no % n) b)
+        (λ execution h. ap is_none (price_where (λ order_no. eqb (order_no % n) b) rows execution.order_no execution.place h)) executions)
