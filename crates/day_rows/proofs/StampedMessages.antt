@@ -6,7 +6,7 @@ use Rattle.base.specs.Among.{AreBytes}
 use Rattle.itch_messages.specs.declared.message.Message.{Message}
 use Rattle.itch_messages.proofs.Laws.{FitsMessage, FitsMessage-message_of}
 use Rattle.day_file.specs.Frames.{PlacedBody, StandsFor}
-use Rattle.day_file.proofs.BodyBytes.{bodies_are_bytes}
+use Rattle.day_file.proofs.Laws.{bodies_are_bytes}
 use Rattle.row_types.specs.declared.trade.Execution.{Execution}
 use Rattle.row_types.specs.declared.trade.Sale.{Sale}
 use Rattle.day_rows.specs.DayRows.{AreStamped, IsStamped, rows_of}
