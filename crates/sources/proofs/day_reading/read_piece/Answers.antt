@@ -1,6 +1,14 @@
-use Rattle.std.proofs.Common.{take, length-take, arith}
-use Rattle.sources.proofs.Pieces.{piece_stands}
+use Rattle.std.proofs.Common.{◌≡◌, ℕ, ◌+◌, ◌≤◌, List, ◌++◌, length, take, append_assoc, length-take, arith}
+use Rattle.std.proofs.Math.Seq.{take-append-add}
+use Rattle.std.proofs.lemmas.List.{take_all, take_at, take-take, take-append-le}
 use Rattle.sources.proofs.day_reading.read_piece.Goals as goal
+
+-- of a vector that was made longer, and into whose end `into` was written, the first bytes
+piece_stands : (old set grown zeros into post tail new : List ℕ) (start taken most total : ℕ) → set ≡ grown → grown ≡ take (start + most) old ++ zeros
+    → start ≡ length old → taken ≤ length into → start + taken ≤ total → new ≡ take (start + taken) (take total ((take start set ++ (into ++ post)) ++ tail))
+    → new ≡ old ++ take taken into
+piece_stands old set grown zeros into post tail new start taken most total read made begin within fits stands =
+    grind (arith, take_all, take_at, take-take, append_assoc, take-append-add, take-append-le)
 
 pub returns-clause-piece : goal.returns-clause-piece
 returns-clause-piece g c =
