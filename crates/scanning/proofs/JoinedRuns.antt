@@ -90,13 +90,6 @@ one_by_one j = j.are ∙ single j.groups j.some j.few ∙ sym j.all
 
 -- ---- their inputs
 
-pub none_together : (most first start : ℕ) (as_of : Option ℕ) (parts : ℕ) → AreTogether most first start as_of parts [] []
-none_together most first start as_of parts = record {
-  joined = [];
-  is = record { groups = []; all = refl; some = All-nil _; few = All-nil _; are = refl };
-  are = refl;
-}
-
 -- there are as many inputs as runs that are joined
 pub as_many_inputs : (first start : ℕ) (as_of : Option ℕ) (parts : ℕ) (runs : List (List ℕ)) → length (inputs_from first start as_of parts runs) ≡ length runs
 as_many_inputs first start as_of parts runs =
