@@ -12,8 +12,7 @@ use Rattle.day_file.specs.Cuts.{IsRun, MorselView}
 use Rattle.day_file.specs.Frames.{IsWhole, PlacedBody, StandsFrom, spelling}
 use Rattle.day_file.specs.Kept.{runs_of}
 use Rattle.day_file.specs.Walk.{walk}
-use Rattle.day_file.proofs.CutFrames.{walk_stands}
-use Rattle.day_file.proofs.Walks.{walk_whole}
+use Rattle.day_file.proofs.Walks.{walk_stands, walk_whole}
 use Rattle.day_file.proofs.Joined.{IsWhole-append, IsWhole-nil, StandsFrom-append}
 use Rattle.scanning.specs.Scans.{AreTakenIn, ScanView, TakesIn, bytes_of, scan_of}
 use Rattle.scanning.proofs.PickedFrames.{takes_all, takes_more}

@@ -10,7 +10,7 @@ use Rattle.base.proofs.Lists.{All-parts}
 use Rattle.base.specs.Among.{AreBytes}
 use Rattle.day_file.specs.Cuts.{IsRun, MorselView, start_of}
 use Rattle.day_file.specs.Kept.{numbered}
-use Rattle.day_file.proofs.CutFrames.{frames_of_cut}
+use Rattle.day_file.proofs.Walks.{frames_of_cut}
 use Rattle.day_file.proofs.Kept.{length-numbered}
 use Rattle.scanning.specs.Scans.{AreJoined, AreConsecutive, AreRuns, AreTogether, ScanInputView, inputs_from}
 use Rattle.scanning.proofs.TotalOfScans.{inputs_joined}
