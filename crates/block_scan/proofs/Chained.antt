@@ -9,10 +9,9 @@ use Rattle.day_file.specs.Cuts.{IsRun, MorselView}
 use Rattle.day_file.specs.Frames.{IsStuck, IsTruncatedAt, IsWhole, PlacedBody, StandsFrom}
 use Rattle.day_file.specs.Kept.{numbered}
 use Rattle.day_file.specs.Walk.{frames_of}
-use Rattle.day_file.proofs.CutFrames.{frames_of_cut}
+use Rattle.day_file.proofs.Walks.{frames_of_cut, walk_whole}
 use Rattle.day_file.proofs.Joined.{IsWhole-spelling, truncated_later}
 use Rattle.day_file.proofs.Kept.{numbered-last}
-use Rattle.day_file.proofs.Walks.{walk_whole}
 use Rattle.scanning.specs.Scans.{ScanInputView, ScanTotalView, inputs_of, scan_of, total_of, with_scan}
 use Rattle.scanning.proofs.TotalOfScans.{total_more}
 use Rattle.block_scan.specs.Blocks.{GaveWhole}

@@ -3,7 +3,7 @@
 use scanning::Scanned;
 
 /// How a piece ended.
-#[derive(Clone, Copy, Debug, PartialEq, Eq)]
+#[derive(Clone, Copy)]
 pub enum Tail {
     /// At the first frame that begins at or after its target.
     More,

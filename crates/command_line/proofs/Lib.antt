@@ -1,2 +1,1 @@
-mod Ended
 mod Known

@@ -1,9 +1,13 @@
 -- What follows for the frames of a file.
-use Rattle.std.proofs.Common.{◌≡◌, ℕ, ◌+◌, ◌≤◌, List, [], ◌∷◌, ◌++◌, length, All, Less, nat_cmp, sym, ap, subst, arith}
+use Rattle.std.proofs.Common.{◌≡◌, ℕ, ◌+◌, ◌<◌, ◌≤◌, List, [], ◌∷◌, ◌++◌, length, All, Less, nat_cmp, sym, ap, subst, arith}
 use Rattle.std.specs.Cmp.{nat_cmp_is}
+use Rattle.std.specs.List.{AllByRecursion}
 use Rattle.std.specs.List.Sorted.{IsStrictlySortedBy}
 use Rattle.std.proofs.lemmas.List.{length-append, length-drop}
 use Rattle.std.proofs.lemmas.List.Elements.{All-cons, All-nil, recursion_from_All}
+use Rattle.byteorder.specs.Endian.{big_bytes}
+use Rattle.base.proofs.Lists.{All-parts}
+use Rattle.base.specs.Among.{AreBytes}
 use Rattle.day_file.specs.Frames.{PlacedBody, frame_of, spelling, StandAt, StandsFor, IsTruncatedAt}
 use Rattle.day_file.proofs.Readings.{same_reading, IsReading-whole, IsReading-truncated, length-spelling}
 
@@ -54,5 +58,18 @@ pub truncated_once : (bytes : List ℕ) (one other : ℕ) → IsTruncatedAt byte
 truncated_once bytes one other p q =
     let e = (same_reading p.front.0 q.front.0 (IsReading-truncated p p.front.1) (IsReading-truncated q q.front.1)).1 in
     omega (arith, ap length e, length-drop one bytes, length-drop other bytes, p.within, q.within)
+
+-- ---- bodies
+
+-- the bodies of the frames of bytes are bytes
+bodies : (frames : List PlacedBody) → AreBytes (spelling frames) → AllByRecursion (λ (f : PlacedBody). AreBytes f.body) frames
+bodies [] all = tt
+bodies (f ∷ fs) all =
+    let here = All-parts (λ byte. byte < 256) (frame_of f.body) (spelling fs) all in
+    ((All-parts (λ byte. byte < 256) (big_bytes 2 (length f.body)) f.body here.0).1, bodies fs here.1)
+
+pub bodies_are_bytes : (bytes : List ℕ) (frames : List PlacedBody) → AreBytes bytes → StandsFor frames bytes
+    → AllByRecursion (λ (f : PlacedBody). AreBytes f.body) frames
+bodies_are_bytes bytes frames are stands = bodies frames (subst AreBytes stands.whole are)
 
 pub ruleset laws_of_frames = (frames_are_one, places_rise, frames_within)

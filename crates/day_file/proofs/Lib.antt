@@ -7,5 +7,3 @@ pub mod Kept
 pub mod Laws
 pub mod Readings
 pub mod Walks
-pub mod CutFrames
-pub mod BodyBytes

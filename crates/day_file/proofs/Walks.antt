@@ -1,16 +1,19 @@
--- The cursor's walk reads the bytes, and knows how they end.
+-- The cursor's walk reads the bytes, and knows how they end. Over the morsels of a cut it gives the frames of the file.
 use Rattle.std.proofs.Common.{◌≡◌, ℕ, zero, suc, ◌+◌, ◌*◌, ◌/◌, ◌%◌, ◌<◌, ◌≤◌, ◌^◌, List, [], ◌∷◌, ◌++◌, length, take, drop}
-use Rattle.std.proofs.Common.{Option, Some, None, MatchOption, refl, sym, ap, ◌∙◌, subst, arith, append-nil, length-drop}
+use Rattle.std.proofs.Common.{Option, Some, None, MatchOption, All, flat_map, refl, sym, ap, ◌∙◌, subst, arith, append-nil, length-drop}
+use Rattle.std.specs.List.{concat}
 use Rattle.std.specs.Option.{option_map_or}
 use Rattle.std.proofs.lemmas.Bool.Decides.{nat_tests}
 use Rattle.std.proofs.lemmas.List.{length-append, take-append-drop, length-take-le}
 use Rattle.std.proofs.Math.Seq.{drop-append_seam, take-append_seam}
-use Rattle.std.proofs.lemmas.List.Elements.{All-drop, All-nil}
+use Rattle.std.proofs.lemmas.List.Elements.{All-drop, All-nil, All-tail}
 use Rattle.byteorder.specs.Endian.{big_number}
-use Rattle.day_file.specs.Frames.{FramesLeft, PlacedBody, frame_of, spelling, StandAt, IsShort, IsStuck, StandsFrom, IsTruncatedAt, IsWhole}
+use Rattle.day_file.specs.Cuts.{IsRun}
+use Rattle.day_file.specs.Frames.{FramesLeft, PlacedBody, frame_of, spelling, StandAt, IsShort, IsStuck, StandsFor, StandsFrom, IsTruncatedAt, IsWhole}
+use Rattle.day_file.specs.Kept.{numbered}
 use Rattle.base.specs.Among.{AreBytes}
-use Rattle.day_file.specs.Walk.{first_length, left_of, place_if_any, walk}
-use Rattle.day_file.proofs.Joined.{IsWhole-spelling, stands_from}
+use Rattle.day_file.specs.Walk.{first_length, frames_of, left_of, place_if_any, walk}
+use Rattle.day_file.proofs.Joined.{IsWhole-spelling, StandsFrom-append, placed, stands_from}
 use Rattle.day_file.proofs.Readings.{AreShort, IsReading, IsReading-truncated, IsStuck-nil, head_short, length_told, reading_more, same_reading}
 use Rattle.day_file.proofs.Laws.{not_both}
 
@@ -158,5 +161,23 @@ pub whole_has_no_end : (bytes : List ℕ) (start : ℕ) (o : Option ℕ) → IsW
     → MatchOption o (IsWhole bytes) (λ end. (count : ℕ) × (end ≡ start + count) × IsTruncatedAt bytes count) → o ≡ None
 whole_has_no_end bytes start None w told = refl
 whole_has_no_end bytes start (Some end) w told = absurd (not_both bytes w.0 told.0 w.1 told.2)
+
+-- ---- the morsels of a cut
+
+-- the frames of whole frames, of which the first stands at this place, are those that the walk comes to
+pub walk_stands : (start : ℕ) (bytes : List ℕ) → IsWhole bytes → StandsFrom start (walk (length bytes) start bytes) bytes
+walk_stands start bytes w = let all = stands_from start bytes w in rw (walk_whole start bytes (placed start w.0) all) all
+
+-- runs from this place on, numbered from this number on
+pub frames_of_runs : (number start : ℕ) (runs : List (List ℕ)) → All IsRun runs
+    → StandsFrom start (flat_map frames_of (numbered number start runs)) (concat runs)
+frames_of_runs number start [] each = record { places = tt; short = All-nil _; whole = refl }
+frames_of_runs number start (run ∷ runs) each =
+    StandsFrom-append start (walk (length run) start run) (flat_map frames_of (numbered (number + 1) (start + length run) runs)) run (concat runs)
+    (walk_stands start run (each 0 run (omega arith)).whole)
+    (frames_of_runs (number + 1) (start + length run) runs (All-tail IsRun run runs each))
+
+pub frames_of_cut : (runs : List (List ℕ)) → All IsRun runs → StandsFor (flat_map frames_of (numbered 0 0 runs)) (concat runs)
+frames_of_cut runs each = frames_of_runs 0 0 runs each
 
 pub ruleset walking = (walk_next, rest_bytes)

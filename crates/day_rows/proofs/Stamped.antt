@@ -14,7 +14,7 @@ use Rattle.base.specs.Among.{AreBytes}
 use Rattle.itch_messages.specs.declared.message.Message.{Message}
 use Rattle.itch_messages.proofs.Laws.{FitsMessage, FitsMessage-message_of}
 use Rattle.day_file.specs.Frames.{PlacedBody, StandsFor}
-use Rattle.day_file.proofs.BodyBytes.{bodies_are_bytes}
+use Rattle.day_file.proofs.Laws.{bodies_are_bytes}
 use Rattle.day_rows.specs.Messages.{Placed, counted, execution_at, is_counted, messages_of, own_priced_at, placed_at}
 use Rattle.day_rows.proofs.RowsByPlace.{placed_is}
 

@@ -16,7 +16,7 @@ use Rattle.day_file.specs.Cuts.{MorselView}
 use Rattle.day_file.specs.Frames.{StandsFrom}
 use Rattle.day_file.specs.Kept.{numbered}
 use Rattle.day_file.specs.Walk.{frames_of}
-use Rattle.day_file.proofs.CutFrames.{frames_of_runs}
+use Rattle.day_file.proofs.Walks.{frames_of_runs}
 use Rattle.day_file.proofs.Laws.{places_rise}
 use Rattle.meaning.specs.Meaning.{Meaning}
 use Rattle.day_rows.specs.Messages.{messages_of}

@@ -9,7 +9,7 @@ use Rattle.day_file.specs.Cuts.{MorselView}
 use Rattle.day_file.specs.Frames.{PlacedBody, StandsFor}
 use Rattle.day_file.specs.Kept.{numbered}
 use Rattle.day_file.specs.Walk.{frames_of}
-use Rattle.day_file.proofs.CutFrames.{frames_of_cut}
+use Rattle.day_file.proofs.Walks.{frames_of_cut}
 use Rattle.day_file.proofs.Laws.{places_rise}
 use Rattle.probe.specs.Selection.{admits}
 use Rattle.meaning.specs.Meaning.{Meaning}

@@ -1,7 +1,5 @@
 pub mod CutAnswers
 pub mod Answered
 pub mod BlocksScanned
-pub mod HandedOver
+pub mod RunOutcomes
 pub mod ScannedBatches
-pub mod OneRun
-pub mod LeftAlone

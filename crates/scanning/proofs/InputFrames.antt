@@ -5,16 +5,15 @@ use Rattle.std.specs.Cmp.Lexicographic.{pointwise, slice_cmp}
 use Rattle.std.specs.Ordering.{is_eq, nat_cmp}
 use Rattle.std.proofs.lemmas.Bool.Decides.{nat_tests}
 use Rattle.std.proofs.lemmas.Cmp.{same_from_slice_cmp}
-use Rattle.std.proofs.lemmas.List.{append-nil, length-append, map-append, map_push, take-append-drop, take_all, take_more}
+use Rattle.std.proofs.lemmas.List.{append-nil, length-append, map-append, map_push, take-append-drop, take_more}
 use Rattle.std.proofs.lemmas.List.Folds.{concat-append}
 use Rattle.base.specs.declared.limits.TheConstants.{LONGEST_FILE}
 use Rattle.day_file.specs.Cuts.{IsRun, MorselView}
 use Rattle.day_file.specs.Frames.{IsWhole, PlacedBody, StandsFrom, spelling}
 use Rattle.day_file.specs.Kept.{runs_of}
 use Rattle.day_file.specs.Walk.{walk}
-use Rattle.day_file.proofs.CutFrames.{walk_stands}
+use Rattle.day_file.proofs.Walks.{walk_stands, walk_whole}
 use Rattle.day_file.proofs.Joined.{IsWhole-append, IsWhole-nil, StandsFrom-append}
-use Rattle.day_file.proofs.Walks.{walk_whole}
 use Rattle.scanning.specs.Scans.{AreTakenIn, ScanView, TakesIn, bytes_of, scan_of}
 use Rattle.scanning.proofs.PickedFrames.{takes_all, takes_more}
 
@@ -64,9 +63,6 @@ module _ {X : Type 0} (value : X → MorselView) where
   pub bytes_flat : (xs : List X) → flat_map (λ x. (value x).bytes) xs ≡ bytes_of (map value xs)
   bytes_flat [] = refl
   bytes_flat (x ∷ xs) = ap (λ l. (value x).bytes ++ l) (bytes_flat xs)
-
-  pub bytes_all : (xs : List X) (i : ℕ) → length xs ≤ i → bytes_so_far i xs ≡ bytes_of (map value xs)
-  bytes_all xs i past = ap (λ l. bytes_of (map value l)) (take_all i xs past)
 
 -- the frames of bytes that begin at this place
 abbrev pub frames_at : ℕ → List ℕ → List PlacedBody

@@ -10,7 +10,7 @@ use Rattle.base.proofs.Lists.{All-parts}
 use Rattle.base.specs.Among.{AreBytes}
 use Rattle.day_file.specs.Cuts.{IsRun, MorselView, start_of}
 use Rattle.day_file.specs.Kept.{numbered}
-use Rattle.day_file.proofs.CutFrames.{frames_of_cut}
+use Rattle.day_file.proofs.Walks.{frames_of_cut}
 use Rattle.day_file.proofs.Kept.{length-numbered}
 use Rattle.scanning.specs.Scans.{AreJoined, AreConsecutive, AreRuns, AreTogether, ScanInputView, inputs_from}
 use Rattle.scanning.proofs.TotalOfScans.{inputs_joined}
@@ -89,13 +89,6 @@ pub one_by_one : {runs joined : List (List ℕ)} → AreJoined 1 runs joined →
 one_by_one j = j.are ∙ single j.groups j.some j.few ∙ sym j.all
 
 -- ---- their inputs
-
-pub none_together : (most first start : ℕ) (as_of : Option ℕ) (parts : ℕ) → AreTogether most first start as_of parts [] []
-none_together most first start as_of parts = record {
-  joined = [];
-  is = record { groups = []; all = refl; some = All-nil _; few = All-nil _; are = refl };
-  are = refl;
-}
 
 -- there are as many inputs as runs that are joined
 pub as_many_inputs : (first start : ℕ) (as_of : Option ℕ) (parts : ℕ) (runs : List (List ℕ)) → length (inputs_from first start as_of parts runs) ≡ length runs

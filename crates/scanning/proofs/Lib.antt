@@ -1,4 +1,3 @@
-pub mod ScanOfFrames
 pub mod PickedFrames
 pub mod InputFrames
 pub mod MorselInputs

@@ -50,6 +50,9 @@ pub(crate) fn found_or_fault(
 {
     match outcome {
         Outcome::Finished { total, kept } => Ok(Outcome::Finished { total, kept }),
-        Outcome::Stopped { stop } => Ok(Outcome::Stopped { stop: stop? }),
+        Outcome::Stopped { stop } => match stop {
+            Ok(wrong) => Ok(Outcome::Stopped { stop: wrong }),
+            Err(fault) => Err(fault),
+        },
     }
 }

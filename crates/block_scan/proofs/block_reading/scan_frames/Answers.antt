@@ -1,4 +1,4 @@
-use Rattle.std.proofs.Common.{◌≡◌, ◌<◌, ◌+◌, ◌-◌, [], ◌++◌, length, take, arith, ap, ◌∙◌, length-drop, refl, rules}
+use Rattle.std.proofs.Common.{◌≡◌, ◌<◌, ◌+◌, ◌-◌, [], ◌++◌, length, take, arith, ap, ◌∙◌, length-drop, refl, rules, subst}
 use Rattle.std.proofs.lemmas.Grind.{common_steps}
 use Rattle.std.proofs.lemmas.List.{length-append, length-take-le}
 use Rattle.std.proofs.lemmas.List.Elements.{All-append, All-nil}
@@ -52,6 +52,66 @@ loop-place-preserved g c =
     (omega (arith, same, into_is, below, i.filled_is, i.room, told.count)) in
     fills_more g.S.BlockSource.GaveAt g.met.S.BlockSource.gave_more count c.requires.request i told.gave all_is n (omega (arith, told.within))
     are w kept (c.copy_within.auto.self ∙ same)
+
+pub returns-then-filled-eq0-clause-piece : goal.returns-then-filled-eq0-clause-piece
+returns-then-filled-eq0-clause-piece g c =
+    let l = c.loop-place in
+    let i = l.invariant in
+    let here : l.place + l.filled ≡ l.place = omega arith in
+    record {
+      frames = i.frames;
+      bytes = i.bytes;
+      rest = take l.filled l.buffer;
+      gave = i.gave;
+      stands = i.stands;
+      are = i.are;
+      end_is = i.place_is;
+      within = omega (arith, i.within, i.filled_is);
+      scan = i.scan_is;
+      ended = λ e. subst (g.S.BlockSource.EndsAt c.args.source.now) here (c.in_ok-count.ensures.end c.if-count-eq0.true);
+      cut = λ e. absurd (cc);
+    }
+
+pub returns-else-filled-eq0-clause-piece : goal.returns-else-filled-eq0-clause-piece
+returns-else-filled-eq0-clause-piece g c =
+    let l = c.loop-place in
+    let i = l.invariant in
+    let behind : l.place + l.filled ≡ l.place + length (take l.filled l.buffer) = omega (arith, i.filled_is) in
+    record {
+      frames = i.frames;
+      bytes = i.bytes;
+      rest = take l.filled l.buffer;
+      gave = i.gave;
+      stands = i.stands;
+      are = i.are;
+      end_is = i.place_is;
+      within = omega (arith, i.within, i.filled_is);
+      scan = i.scan_is;
+      ended = λ e. absurd (cc);
+      cut = λ e. (
+        omega (arith, i.filled_is),
+        i.stuck c.loop-place-test.true,
+        subst (g.S.BlockSource.EndsAt c.args.source.now) behind (c.in_ok-count.ensures.end c.if-count-eq0.true),
+      );
+    }
+
+pub returns-clause-piece : goal.returns-clause-piece
+returns-clause-piece g c =
+    let l = c.loop-place in
+    let i = l.invariant in
+    record {
+      frames = i.frames;
+      bytes = i.bytes;
+      rest = take l.filled l.buffer;
+      gave = i.gave;
+      stands = i.stands;
+      are = i.are;
+      end_is = i.place_is;
+      within = omega (arith, i.within, i.filled_is);
+      scan = i.scan_is;
+      ended = λ e. absurd (cc);
+      cut = λ e. absurd (cc);
+    }
 
 pub copy_within-requires-clause-start_le_end : goal.copy_within-requires-clause-start_le_end
 copy_within-requires-clause-start_le_end g c = grind (arith, common_steps)

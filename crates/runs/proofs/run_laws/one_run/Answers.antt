@@ -1,5 +1,5 @@
 use Rattle.streaming.specs.Readings.{of_stream}
-use Rattle.runs.proofs.OneRun.{answers_of_one_day}
+use Rattle.runs.proofs.RunOutcomes.{answers_of_one_day}
 use Rattle.runs.proofs.run_laws.one_run.Goals as goal
 
 pub returns : goal.returns

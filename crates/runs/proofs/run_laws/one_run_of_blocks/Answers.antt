@@ -1,5 +1,5 @@
 use Rattle.block_scan.specs.Blocks.{of_blocks}
-use Rattle.runs.proofs.OneRun.{answers_of_one_day}
+use Rattle.runs.proofs.RunOutcomes.{answers_of_one_day}
 use Rattle.runs.proofs.run_laws.one_run_of_blocks.Goals as goal
 
 pub returns : goal.returns

@@ -1,6 +1,6 @@
 use Rattle.std.proofs.Common.{arith}
 use Rattle.streaming.specs.Readings.{of_stream}
-use Rattle.runs.proofs.LeftAlone.{left_alone}
+use Rattle.runs.proofs.RunOutcomes.{left_alone}
 use Rattle.runs.proofs.run_laws.outcomes_of_run.Goals as goal
 
 pub returns-clause-ended : goal.returns-clause-ended

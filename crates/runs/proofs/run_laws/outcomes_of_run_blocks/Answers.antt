@@ -1,5 +1,5 @@
 use Rattle.block_scan.specs.Blocks.{of_blocks}
-use Rattle.runs.proofs.LeftAlone.{left_alone}
+use Rattle.runs.proofs.RunOutcomes.{left_alone}
 use Rattle.runs.proofs.run_laws.outcomes_of_run_blocks.Goals as goal
 
 pub returns-clause-ended : goal.returns-clause-ended

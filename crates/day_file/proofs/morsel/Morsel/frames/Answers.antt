@@ -1,5 +1,4 @@
-use Rattle.day_file.proofs.CutFrames.{walk_stands}
-use Rattle.day_file.proofs.Walks.{whole_has_no_end}
+use Rattle.day_file.proofs.Walks.{walk_stands, whole_has_no_end}
 use Rattle.day_file.proofs.morsel.Morsel.frames.Goals as goal
 
 pub returns : goal.returns

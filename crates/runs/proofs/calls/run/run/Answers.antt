@@ -1,5 +1,5 @@
 use Rattle.streaming.specs.Readings.{of_stream}
-use Rattle.runs.proofs.HandedOver.{ran}
+use Rattle.runs.proofs.RunOutcomes.{ran}
 use Rattle.runs.proofs.calls.run.run.Goals as goal
 
 pub returns-clause-ran : goal.returns-clause-ran

@@ -2,7 +2,7 @@ use Rattle.std.proofs.Common.{subst}
 use Rattle.answers.specs.Answers.{told_by}
 use Rattle.block_scan.specs.Blocks.{of_blocks}
 use Rattle.runs.specs.Runs.{IsAnswered}
-use Rattle.runs.proofs.HandedOver.{ran}
+use Rattle.runs.proofs.RunOutcomes.{ran}
 use Rattle.runs.proofs.calls.run_blocks.run_blocks.Goals as goal
 
 pub returns-clause-ran : goal.returns-clause-ran
