@@ -78,8 +78,8 @@ const BYTES_AN_ORDER: usize = 18;
 /// also keeps what is freed at its end.
 const GROWTH: usize = 122_880;
 
-/// Has the C library grow the thread's arena once for several lists. By itself it does so for each list, by a system call
-/// under a lock that all threads of the process share.
+/// Has the C library grow the thread's arena once for several lists. By itself it does so for each list, by a system
+/// call under a lock that all threads of the process share.
 fn grow_arena<A: Allocator>(alloc: A) {
     let _ = Vec::<u8, A>::with_capacity(alloc, GROWTH);
 }
