@@ -1,65 +1,54 @@
 //! The first pipeline alone, and both on the caller's thread alone.
 use crate::gatherers::{Order, Run, TWO_AND_TWO};
-use crate::link::OneAndTwo;
-use crate::threads::{Ledger, ONE, TWO};
-use pipelines::{FreeGate, Outcome, run_alone, run_first};
-use std::sync::Arc;
+use crate::link::{OneAndTwo, sums_of};
+use crate::pieces::Eight;
+use crate::threads::{FIRST_ONCE, Ledger, ONE, TWO};
+use pipelines::{Crew, OutOfMemory, run_alone, run_first};
+use std::alloc::Global;
+use std::sync::Wait;
 use std::test::Fail;
-use tests_support::{NUMBERS, Watch, shared_inputs_of};
+use std::thread::Threads;
 
 #[test]
 fn one_pipeline_gives_each_task_to_a_worker(rt: HostRuntime) -> Result<(), Fail> {
-    let alloc = rt.alloc();
-    let watch = Watch::shared(alloc)?;
-    let gate = Ledger::new(alloc, &watch)?;
-    let inputs = shared_inputs_of(alloc, &watch, &NUMBERS)?;
-    assert!(rt; run_first(&rt, alloc, &inputs, ONE, &gate)? == 255);
-    assert!(rt; gate.has(1, 0, [1; 8]) && gate.has(1, 1, [0; 8]) && gate.has(1, 2, [0; 8]));
-    assert!(rt; watch.runs() == 8 && gate.has_all(8, [8, 0], [1, 0]));
+    let eight = Eight::of(rt.alloc())?;
+    let gate = Ledger::of(&eight.watch, &FIRST_ONCE)?;
+    let sum = run_first(&rt, rt.alloc(), &eight.inputs, ONE, &gate)?;
+    assert!(rt; sum == 255 && gate.is_right());
     Ok(())
 }
 
 /// Two of the tasks, each held until the other begins.
 const TOGETHER: [(Run, Run); 2] = [((1, 1, 0), (1, 2, 0)), ((1, 2, 0), (1, 1, 0))];
 
+/// Whether this crew meets in two tasks, and gives the sum.
+fn shares<R: Threads + Wait + Sync>(
+    rt: &R,
+    alloc: Global,
+    crew: Crew,
+) -> Result<bool, OutOfMemory> {
+    let gate = Order::new(&TOGETHER);
+    let eight = Eight::of(alloc)?;
+    let sum = run_first(rt, alloc, &eight.inputs, crew, &gate)?;
+    Ok(sum == 255 && gate.rounds()[0] == 8 && !gate.gave_up())
+}
+
 #[test]
 fn workers_share_one_pipeline(rt: HostRuntime) -> Result<(), Fail> {
-    let alloc = rt.alloc();
-    for crew in [TWO, TWO_AND_TWO] {
-        let watch = Watch::shared(alloc)?;
-        let gate = Order::new(&TOGETHER);
-        let inputs = shared_inputs_of(alloc, &watch, &NUMBERS)?;
-        assert!(rt; run_first(&rt, alloc, &inputs, crew, &gate)? == 255);
-        assert!(rt; gate.rounds()[0] == 8 && !gate.gave_up());
-    }
+    assert!(rt; shares(&rt, rt.alloc(), TWO)?);
+    assert!(rt; shares(&rt, rt.alloc(), TWO_AND_TWO)?);
     Ok(())
 }
+
+/// The caller runs each of eight tasks, and then each of two.
+const BY_CALLER: [u64; 12] = [120, 121, 122, 123, 124, 125, 126, 127, 199, 220, 221, 299];
 
 #[test]
 fn the_caller_runs_both_pipelines_alone(rt: HostRuntime) -> Result<(), Fail> {
-    let alloc = rt.alloc();
-    let watch = Watch::shared(alloc)?;
-    let gate = Ledger::new(alloc, &watch)?;
-    let inputs = shared_inputs_of(alloc, &watch, &NUMBERS)?;
-    let link = OneAndTwo {
-        watch: Arc::try_clone(&watch)?,
-        halts: false,
-    };
-    match run_alone(alloc, &inputs, &link, &gate)? {
-        Outcome::Finished { total, kept } => assert!(rt; total == 3 && kept == 255),
-        Outcome::Stopped { stop: _ } => assert!(rt; false),
-    }
-    assert!(rt; gate.has(1, 0, [0; 8]) && gate.has(1, 1, [0; 8]) && gate.has(1, 2, [1; 8]));
-    assert!(rt; gate.has(2, 2, [1, 1, 0, 0, 0, 0, 0, 0]));
-    assert!(rt; watch.runs() == 10 && gate.has_all(10, [8, 10], [1, 1]));
-    Ok(())
-}
-
-#[test]
-fn no_inputs_have_a_total(rt: HostRuntime) -> Result<(), Fail> {
-    let alloc = rt.alloc();
-    let watch = Watch::shared(alloc)?;
-    let inputs = shared_inputs_of(alloc, &watch, &[])?;
-    assert!(rt; run_first(&rt, alloc, &inputs, ONE, &FreeGate)? == 0);
+    let eight = Eight::of(rt.alloc())?;
+    let gate = Ledger::of(&eight.watch, &BY_CALLER)?;
+    let link = OneAndTwo::of(&eight.watch, false)?;
+    let sums = sums_of(run_alone(rt.alloc(), &eight.inputs, &link, &gate)?);
+    assert!(rt; sums == (3, 255) && gate.is_right());
     Ok(())
 }

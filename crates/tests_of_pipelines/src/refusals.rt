@@ -1,61 +1,34 @@
 //! Growths that are refused one after the other: what comes is the right sums or want of memory.
-ghost use Rattle.std.specs.Prelude.{◌≡◌};
+ghost use Rattle.std.specs.Prelude.{◌≡◌, ◌<◌};
 
-use crate::gatherers::piece_of;
-use crate::link::OneAndTwo;
-use crate::threads::TWO;
+use crate::event_lists::rehearsed;
+use crate::link::{OneAndTwo, Sums, sums_of};
+use crate::threads::{ONE, TWO, sums};
 use linked_list_allocator::LocalHeap;
-use pipelines::{Crew, FreeGate, OutOfMemory, Outcome, run_alone, run_first, run_pair};
-use schedules::{Event, Rehearsed, rehearse_pair, rehearse_pipeline};
+use pipelines::{Crew, FreeGate, OutOfMemory, run_alone, run_first};
+use schedules::{Event, rehearse_pipeline};
 use std::alloc::Global;
 use std::sync::{Arc, Wait};
 use std::test::Fail;
 use std::thread::Threads;
-use tests_support::{Watch, shared_inputs_of};
-
-/// The second total and the first.
-type Sums = (u128, u128);
+use tests_support::{NUMBERS, Watch, shared_inputs_of};
 
 /// The sums of 1 and 2, and of 1, 2 and 4.
-const RIGHT: Option<Sums> = Some((3, 7));
+const RIGHT: Sums = (3, 7);
 
 /// Who runs both pipelines.
-#[derive(Clone, Copy, Debug)]
+#[derive(Clone, Copy)]
 enum Way {
-    OneWorker,
+    Workers(Crew),
     Caller,
     Rehearsal,
 }
 
 /// What the caller's thread gives alone.
 fn alone(alloc: Global, watch: &Arc<Watch, Global>) -> Result<Sums, OutOfMemory> {
-    let inputs = shared_inputs_of(alloc, watch, &[1, 2, 4])?;
-    let link = OneAndTwo {
-        watch: Arc::try_clone(watch)?,
-        halts: false,
-    };
-    match run_alone(alloc, &inputs, &link, &FreeGate)? {
-        Outcome::Finished { total, kept } => Ok((total, kept)),
-        Outcome::Stopped { stop } => Ok((stop, 0)),
-    }
-}
-
-/// What this crew gives.
-fn run<R: Threads + Wait + Sync>(
-    rt: &R,
-    alloc: Global,
-    watch: &Arc<Watch, Global>,
-    crew: Crew,
-) -> Result<Sums, OutOfMemory> {
-    let inputs = shared_inputs_of(alloc, watch, &[1, 2, 4])?;
-    let link = OneAndTwo {
-        watch: Arc::try_clone(watch)?,
-        halts: false,
-    };
-    match run_pair(rt, alloc, inputs, &link, crew, &FreeGate)? {
-        Outcome::Finished { total, kept } => Ok((total, kept)),
-        Outcome::Stopped { stop } => Ok((stop, 0)),
-    }
+    let link = OneAndTwo::of(watch, false)?;
+    let inputs = shared_inputs_of(alloc, watch, &NUMBERS[..3])?;
+    Ok(sums_of(run_alone(alloc, &inputs, &link, &FreeGate)?))
 }
 
 /// All arrive at gatherer 1, which is merged into the other one before the last does.
@@ -75,58 +48,48 @@ const MERGED_ON_THE_WAY: [Event; 4] = [
     },
 ];
 
-/// What two gatherers give, one of which is merged into the other on the way.
-fn rehearse(alloc: Global, watch: &Arc<Watch, Global>) -> Result<Sums, OutOfMemory> {
-    let inputs = shared_inputs_of(alloc, watch, &[1, 2, 4])?;
-    let link = OneAndTwo {
-        watch: Arc::try_clone(watch)?,
-        halts: false,
-    };
-    // The second pipeline has no task 2, whose arrival changes nothing there.
-    let events = &MERGED_ON_THE_WAY;
-    match rehearse_pair(alloc, inputs, &link, 2, events, events)? {
-        Rehearsed::Finished { total, kept } => Ok((total, kept)),
-        Rehearsed::Stopped { stop } => Ok((stop, 0)),
-        Rehearsed::Missing {
-            pipeline: _,
-            task: _,
-        } => Ok((0, 0)),
-    }
-}
-
 /// What is given in a way.
-fn sums<R: Threads + Wait + Sync>(
+fn given<R: Threads + Wait + Sync>(
     rt: &R,
     alloc: Global,
     watch: &Arc<Watch, Global>,
     way: Way,
-) -> Option<Sums> {
-    let crew = Crew {
-        workers: 1,
-        gatherers: 1,
-    };
+) -> Result<Sums, OutOfMemory> {
     match way {
-        Way::OneWorker => run(rt, alloc, watch, crew).ok(),
-        Way::Caller => alone(alloc, watch).ok(),
-        Way::Rehearsal => rehearse(alloc, watch).ok(),
+        Way::Workers(crew) => sums(
+            rt,
+            alloc,
+            watch,
+            watch,
+            &NUMBERS[..3],
+            false,
+            crew,
+            &FreeGate,
+        ),
+        Way::Caller => alone(alloc, watch),
+        Way::Rehearsal => {
+            // The second pipeline has no task 2, whose arrival changes nothing there.
+            let events = &MERGED_ON_THE_WAY;
+            let (_, total, kept) = rehearsed(alloc, watch, 3, false, events, events)?;
+            Ok((total, kept))
+        }
     }
 }
 
-/// What comes if the first growth is refused, the second, and so on, and at last if none is.
-fn one_refused_each<R: Threads + Wait + Sync>(
+/// Whether the sums come, or want of memory, if one growth is refused, and it is refused unless it is the twelfth.
+fn comes<R: Threads + Wait + Sync>(
     rt: &R,
     alloc: Global,
     way: Way,
-) -> Result<Vec<Option<Sums>>, OutOfMemory> {
-    let mut answers = Vec::new(alloc);
-    for growth in 0..100 {
-        let watch = Watch::refusing(alloc, growth..growth + 1)?;
-        answers.push(sums(rt, alloc, &watch, way))?;
-        if watch.growths() <= growth {
-            break;
-        }
-    }
-    Ok(answers)
+    growth: u64,
+    is_right: bool,
+) -> Result<bool, OutOfMemory>
+    requires { growth < 12 }
+{
+    let watch = Watch::refusing(alloc, growth..growth + 1)?;
+    let got = given(rt, alloc, &watch, way).ok();
+    let refusals = if growth < 11 { 1 } else { 0 };
+    Ok(got == is_right.then_some(RIGHT) && watch.refusals() == refusals)
 }
 
 #[test]
@@ -134,42 +97,46 @@ fn each_growth_can_be_refused(rt: HostRuntime) -> Result<(), Fail> {
     // Three runs and their additions, the link, two runs and theirs. An addition that is refused is
     // tried again, and a run that is refused to a worker is a lost piece. A rehearsal has none, and a caller that is
     // alone tries nothing again.
-    let lost = [
-        None, None, RIGHT, None, RIGHT, RIGHT, None, None, RIGHT, None, RIGHT, RIGHT,
-    ];
-    let mut run_again = [RIGHT; 12];
-    run_again[6] = None;
-    let mut none = [None; 12];
-    none[11] = RIGHT;
-    for (way, wanted) in [
-        (Way::OneWorker, run_again),
-        (Way::Caller, none),
-        (Way::Rehearsal, lost),
+    let (no, yes) = (false, true);
+    for (way, comes_right) in [
+        (
+            Way::Workers(ONE),
+            [yes, yes, yes, yes, yes, yes, no, yes, yes, yes, yes, yes],
+        ),
+        (
+            Way::Caller,
+            [no, no, no, no, no, no, no, no, no, no, no, yes],
+        ),
+        (
+            Way::Rehearsal,
+            [no, no, yes, no, yes, yes, no, no, yes, no, yes, yes],
+        ),
     ] {
-        assert!(rt;
-            one_refused_each(&rt, rt.alloc(), way)?.as_slice() == &wanted[..],
-            "{way:?}"
-        );
+        for growth in 0..12 {
+            let is_right = comes_right[growth];
+            assert!(rt; comes(&rt, rt.alloc(), way, growth as u64, is_right)?);
+        }
     }
     Ok(())
 }
 
 #[test]
 fn all_additions_can_be_refused(rt: HostRuntime) -> Result<(), Fail> {
-    let alloc = rt.alloc();
-    let watch = Watch::shared(alloc)?;
-    for (refuses, wanted) in [(true, None), (false, RIGHT)] {
-        watch.refuse_additions(refuses);
-        for way in [Way::OneWorker, Way::Caller, Way::Rehearsal] {
-            assert!(rt; sums(&rt, alloc, &watch, way) == wanted);
-        }
+    let watch = Watch::shared(rt.alloc())?;
+    for way in [Way::Workers(ONE), Way::Caller, Way::Rehearsal] {
+        watch.refuse_additions(true);
+        let refused = given(&rt, rt.alloc(), &watch, way).ok();
+        watch.refuse_additions(false);
+        let got = given(&rt, rt.alloc(), &watch, way).ok();
+        assert!(rt; refused.is_none() && got == Some(RIGHT));
     }
     Ok(())
 }
 
-/// Whether two tasks are rehearsed with their two gatherers in this heap.
-fn rehearsed_in(alloc: Global, heap: &LocalHeap) -> Result<bool, Fail> {
-    let inputs = shared_inputs_of(alloc, &Watch::shared(alloc)?, &[0, 1])?;
+/// Whether two tasks are rehearsed with their two gatherers in a heap of this size.
+fn is_rehearsed_in(alloc: Global, size: usize) -> Result<bool, OutOfMemory> {
+    let heap = LocalHeap::new(alloc, size)?;
+    let inputs = shared_inputs_of(alloc, &Watch::shared(alloc)?, &[1, 2])?;
     let events = [
         Event::Arrive {
             gatherer: 1,
@@ -181,41 +148,34 @@ fn rehearsed_in(alloc: Global, heap: &LocalHeap) -> Result<bool, Fail> {
             task: 0,
         },
     ];
-    match rehearse_pipeline(alloc, heap, inputs, 2, &events) {
-        Ok(Ok(_)) => Ok(true),
-        Ok(Err(_)) => Err(Fail::new("a task is missing")),
-        Err(_) => Ok(false),
-    }
+    let sum = rehearse_pipeline(alloc, &heap, inputs, 2, &events);
+    Ok(matches!(sum, Ok(Ok(3))))
 }
 
 #[test]
 fn each_allocation_of_gatherers_can_be_refused(rt: HostRuntime) -> Result<(), Fail> {
-    let alloc = rt.alloc();
-    let mut enough = 0;
     for units in 1..200 {
-        if rehearsed_in(alloc, &LocalHeap::new(alloc, 16 * units)?)? {
-            enough = units;
-            break;
+        if is_rehearsed_in(rt.alloc(), 16 * units)? {
+            assert!(rt; units > 1);
+            return Ok(());
         }
     }
-    assert!(rt; enough > 1);
-    Ok(())
+    Err(Fail::new("no heap is large enough"))
 }
 
 /// Run also with each allocation and each thread of the process refused in turn.
 #[test]
 fn sums_or_want_of_memory(rt: HostRuntime) -> Result<(), Fail> {
-    let alloc = rt.alloc();
-    let watch = Watch::shared(alloc)?;
-    assert!(rt; Some(run(&rt, alloc, &watch, TWO)?) == RIGHT);
-    assert!(rt; Some(alone(alloc, &watch)?) == RIGHT);
-    assert!(rt; Some(rehearse(alloc, &watch)?) == RIGHT);
+    let watch = Watch::shared(rt.alloc())?;
+    for way in [Way::Workers(TWO), Way::Caller, Way::Rehearsal] {
+        assert!(rt; given(&rt, rt.alloc(), &watch, way)? == RIGHT);
+    }
     Ok(())
 }
 
 /// The sum of 1, 2 and 4, by the first pipeline alone.
 fn sum_of_one<R: Threads + Wait + Sync>(rt: &R, alloc: Global) -> Result<u128, OutOfMemory> {
-    let inputs = shared_inputs_of(alloc, &Watch::shared(alloc)?, &[1, 2, 4])?;
+    let inputs = shared_inputs_of(alloc, &Watch::shared(alloc)?, &NUMBERS[..3])?;
     run_first(rt, alloc, &inputs, TWO, &FreeGate)
 }
 

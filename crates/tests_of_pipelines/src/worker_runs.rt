@@ -3,7 +3,7 @@ ghost use Rattle.std.specs.Prelude.{◌≡◌};
 
 use dispatcher::Dispatcher;
 use linked_list_allocator::LocalHeap;
-use pipelines::{ChannelPort, FreeGate, Piece, Port, work};
+use pipelines::{ChannelPort, FreeGate, OutOfMemory, Piece, Port, work};
 use std::alloc::Global;
 use std::test::Fail;
 use tests_support::{KeepingPort, NUMBERS, Sum, Watch, inputs_of};
@@ -30,7 +30,7 @@ impl Port<Piece<Sum>> for Picky {
 }
 
 /// How many pieces a worker that is alone was refused by this port, over eight tasks.
-fn refused_by<P: Port<Piece<Sum>>>(alloc: Global, port: &mut P) -> Result<u32, Fail> {
+fn refused_by<P: Port<Piece<Sum>>>(alloc: Global, port: &mut P) -> Result<u32, OutOfMemory> {
     let inputs = inputs_of(alloc, &Watch::shared(alloc)?, &NUMBERS)?;
     let (dispatcher, mut seats) = Dispatcher::new(alloc, 8, 1)?;
     let mut seat = seats.pop().unwrap();
@@ -49,30 +49,35 @@ fn a_refused_piece_is_sent_at_the_second_giving(rt: HostRuntime) -> Result<(), F
             port: KeepingPort::new(alloc),
             refuses,
         };
-        assert!(rt; refused_by(alloc, &mut picky)? == u32::from(refuses.is_some()));
+        let refused = refused_by(alloc, &mut picky)?;
         let sent = picky.port.items().iter().map(|piece| piece.number());
-        assert!(rt; sent.eq(order));
+        assert!(rt; sent.eq(order) && refused == u32::from(refuses.is_some()));
     }
     Ok(())
 }
 
+/// How many pieces are refused by a port in a heap of this size, if each is refused at both givings and the others are
+/// kept.
+fn refused_in(alloc: Global, size: usize) -> Result<Option<u32>, OutOfMemory> {
+    let heap = LocalHeap::new(alloc, size)?;
+    let mut port = KeepingPort::new(&heap);
+    let refused = refused_by(alloc, &mut port)?;
+    let kept = 8usize.wrapping_sub(refused as usize / 2);
+    Ok((refused % 2 == 0 && port.items().len() == kept).then_some(refused))
+}
+
 #[test]
 fn a_port_without_memory_refuses_both_givings(rt: HostRuntime) -> Result<(), Fail> {
-    let alloc = rt.alloc();
-    let mut took_all = 0;
     for units in 1..100 {
-        let heap = LocalHeap::new(alloc, 16 * units)?;
-        let mut port = KeepingPort::new(&heap);
-        let refused = refused_by(alloc, &mut port)?;
-        assert!(rt; refused % 2 == 0);
-        assert!(rt; port.items().len() == 8usize.wrapping_sub(refused as usize / 2));
+        let Some(refused) = refused_in(rt.alloc(), 16 * units)? else {
+            return Err(Fail::new("a piece was refused once"));
+        };
         if refused == 0 {
-            took_all = units;
-            break;
+            assert!(rt; units > 1);
+            return Ok(());
         }
     }
-    assert!(rt; took_all > 1);
-    Ok(())
+    Err(Fail::new("no heap is large enough"))
 }
 
 #[test]

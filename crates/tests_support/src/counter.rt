@@ -1,4 +1,4 @@
-//! A gate that counts runs.
+//! Counts that threads share, and a gate that counts runs.
 
 use pipelines::{Gate, OutOfMemory};
 use std::alloc::Global;
@@ -12,18 +12,20 @@ pub struct Counter {
     others: AtomicU64,
 }
 
-/// A count for each of `tasks` tasks.
-fn counts(alloc: Global, tasks: u32) -> Result<Vec<AtomicU64>, OutOfMemory> {
+/// So many counts, each of which is 0.
+pub fn counts(alloc: Global, count: u32) -> Result<Vec<AtomicU64>, OutOfMemory> {
     let mut counts = Vec::new(alloc);
-    for _ in 0..tasks {
+    for _ in 0..count {
         counts.push(AtomicU64::new(0))?;
     }
     Ok(counts)
 }
 
-/// Whether each count is 1.
-fn are_ones(counts: &[AtomicU64]) -> bool {
-    counts.iter().all(|count| count.load(Ordering::SeqCst) == 1)
+/// Whether each count is this one.
+pub fn are_all(counts: &[AtomicU64], wanted: u64) -> bool {
+    counts
+        .iter()
+        .all(|count| count.load(Ordering::SeqCst) == wanted)
 }
 
 impl Counter {
@@ -38,7 +40,9 @@ impl Counter {
 
     /// Whether each task was run once, at its first giving, and nothing else was.
     pub fn is_each_run_once(&self) -> bool {
-        are_ones(&self.first) && are_ones(&self.second) && self.others.load(Ordering::SeqCst) == 0
+        are_all(&self.first, 1)
+            && are_all(&self.second, 1)
+            && self.others.load(Ordering::SeqCst) == 0
     }
 }
 

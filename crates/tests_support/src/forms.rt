@@ -20,7 +20,7 @@ const LATER: u64 = 34_201_000_000_005;
 /// What a form leaves open is the same in each form of a letter: the locate is 7, the stock is
 /// MSFT, an added order buys 100 shares, and the time is `OPENING` or `LATER`. Prices are in
 /// ten-thousandths of a dollar.
-#[derive(Clone, Copy, Debug)]
+#[derive(Clone, Copy)]
 pub enum Form {
     /// A locate and its stock.
     R(u16, [u8; 8]),
@@ -48,7 +48,7 @@ pub enum Form {
 
 impl Form {
     /// The message of the form, if the form is not bytes.
-    pub fn message(self) -> Option<Message>
+    fn message(self) -> Option<Message>
         ensures { IfSome result (λ message. is_skipped message ≡ false) }
     {
         match self {
@@ -165,39 +165,19 @@ fn traded(header: Header, shares: u32, price: u32, trade_no: u64) -> Trade {
     }
 }
 
-/// A message, and the place of its frame, in bytes from the file's start.
-#[derive(Clone, Copy, Debug)]
-pub struct Placed {
-    pub place: u64,
-    pub message: Message,
-}
-
-/// The bytes of a day file, and its messages (those that stand as bytes aside) in the file's order.
+/// The bytes of a day file.
 #[derive(Drop)]
 pub struct Day {
     pub bytes: Vec<u8>,
-    pub messages: Vec<Placed>,
 }
 
 impl Day {
     /// The day of these frames.
     pub fn of(alloc: Global, forms: &[Form]) -> Result<Day, OutOfMemory> {
-        let mut day = Day {
-            bytes: Vec::new(alloc),
-            messages: Vec::new(alloc),
-        };
+        let mut bytes = Vec::new(alloc);
         for form in forms {
-            day.put(alloc, *form)?;
+            form.append_to(alloc, &mut bytes)?;
         }
-        Ok(day)
-    }
-
-    // One frame more.
-    fn put(&mut self, alloc: Global, form: Form) -> Result<(), OutOfMemory> {
-        if let Some(message) = form.message() {
-            let place = self.bytes.len() as u64;
-            self.messages.push(Placed { place, message })?;
-        }
-        form.append_to(alloc, &mut self.bytes)
+        Ok(Day { bytes })
     }
 }

@@ -24,12 +24,12 @@ mod warden;
 pub mod watch;
 mod writers;
 
-pub use counter::Counter;
+pub use counter::{Counter, are_all, counts};
 pub use days::{
     BROKEN_EARLIER, MSFT, NAMED, NAMED_TEXT, SHORT_ADD, UNNAMED, UNNAMED_TEXT, WITH_A_SHORT_ADD,
     file_of,
 };
-pub use forms::{Day, Form, Placed};
+pub use forms::{Day, Form};
 pub use inputs::{NUMBERS, inputs_of, shared_inputs_of};
 pub use keeping::KeepingPort;
 pub use memory::{Memory, in_memory};

@@ -6,7 +6,7 @@ use std::alloc::Global;
 use std::sync::atomic::{AtomicBool, Ordering};
 
 /// What a gate hears. Pipelines are 1 and 2.
-#[derive(Clone, Copy, Debug, PartialEq, Eq)]
+#[derive(Clone, Copy, PartialEq, Eq)]
 pub enum Heard {
     /// A run of this pipeline.
     Pipeline(u8),
@@ -19,7 +19,7 @@ pub enum Heard {
 }
 
 /// The run of a task in a round is held until something is heard, for a number of turns at most.
-#[derive(Clone, Copy, Debug)]
+#[derive(Clone, Copy)]
 pub struct Hold {
     pub pipeline: u8,
     pub task: u32,

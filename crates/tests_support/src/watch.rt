@@ -31,13 +31,13 @@ pub struct Watch {
     runs: AtomicU64,
     additions: AtomicU64,
     comparisons: AtomicU64,
-    /// Of how many runs an addition waits for the beginning.
+    /// How many runs and how many additions an addition waits for.
     runs_awaited: AtomicU64,
+    additions_awaited: AtomicU64,
     growths: AtomicU64,
     refusals: AtomicU64,
     first_refused: AtomicU64,
     end_of_refused: AtomicU64,
-    refuses_runs: AtomicBool,
     refuses_additions: AtomicBool,
     /// The number of which runs are refused, and how many are.
     refused_input: (u64, u64),
@@ -61,11 +61,11 @@ impl Watch {
                 additions: AtomicU64::new(0),
                 comparisons: AtomicU64::new(0),
                 runs_awaited: AtomicU64::new(0),
+                additions_awaited: AtomicU64::new(0),
                 growths: AtomicU64::new(0),
                 refusals: AtomicU64::new(0),
                 first_refused: AtomicU64::new(refused.start),
                 end_of_refused: AtomicU64::new(refused.end),
-                refuses_runs: AtomicBool::new(false),
                 refuses_additions: AtomicBool::new(false),
                 refused_input,
                 runs_of_it: AtomicU64::new(0),
@@ -110,19 +110,15 @@ impl Watch {
         self.end_of_refused.store(growths.end, Ordering::SeqCst);
     }
 
-    /// Whether each run is refused from now on. A refused run asks for no growth.
-    pub fn refuse_runs(&self, refuses: bool) {
-        self.refuses_runs.store(refuses, Ordering::SeqCst);
-    }
-
     /// Whether each addition is refused from now on. A refused addition asks for no growth.
     pub fn refuse_additions(&self, refuses: bool) {
         self.refuses_additions.store(refuses, Ordering::SeqCst);
     }
 
-    /// From now on an addition waits until this many runs have begun, and gives up after a while.
-    pub fn hold_additions(&self, runs: u64) {
+    /// From now on an addition waits until this many runs and additions have begun, and gives up after a while.
+    pub fn hold_additions(&self, runs: u64, additions: u64) {
         self.runs_awaited.store(runs, Ordering::SeqCst);
+        self.additions_awaited.store(additions, Ordering::SeqCst);
     }
 
     /// Asks for one growth.
@@ -162,7 +158,7 @@ impl Watch {
         self.refusals.load(Ordering::SeqCst)
     }
 
-    /// Whether a run or an addition waited for other runs in vain.
+    /// Whether a run or an addition waited for others in vain.
     pub fn gave_up(&self) -> bool {
         self.gave_up.load(Ordering::SeqCst)
     }
@@ -176,9 +172,7 @@ impl Watch {
         }
         self.runs.fetch_add(1, Ordering::SeqCst);
         let (refused, runs) = self.refused_input;
-        if self.refuses_runs.load(Ordering::SeqCst)
-            || number == refused && self.runs_of_it.fetch_add(1, Ordering::SeqCst) < runs
-        {
+        if number == refused && self.runs_of_it.fetch_add(1, Ordering::SeqCst) < runs {
             return Err(AllocError);
         }
         self.grow()
@@ -187,7 +181,7 @@ impl Watch {
     /// An addition begins.
     pub(crate) fn begin_addition(&self) -> Result<(), OutOfMemory> {
         self.additions.fetch_add(1, Ordering::SeqCst);
-        self.wait_for_runs();
+        self.wait_to_add();
         if self.refuses_additions.load(Ordering::SeqCst) {
             return Err(AllocError);
         }
@@ -199,11 +193,12 @@ impl Watch {
         self.comparisons.fetch_add(1, Ordering::SeqCst);
     }
 
-    /// Waits until the runs that additions wait for have begun.
-    fn wait_for_runs(&self) {
-        let awaited = self.runs_awaited.load(Ordering::SeqCst);
+    /// Waits until the runs and additions that additions wait for have begun.
+    fn wait_to_add(&self) {
+        let runs = self.runs_awaited.load(Ordering::SeqCst);
+        let additions = self.additions_awaited.load(Ordering::SeqCst);
         for _ in 0..1_000_000 {
-            if self.runs() >= awaited {
+            if self.runs() >= runs && self.additions() >= additions {
                 return;
             }
             thread::yield_now();

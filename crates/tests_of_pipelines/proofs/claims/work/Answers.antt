@@ -6,7 +6,7 @@ use Rattle.dispatcher.proofs.Rising.{above, falls}
 
 pub loop-task-smaller : goal.loop-task-smaller
 loop-task-smaller c = let tasks : ℕ = tasks_of c.args.dispatcher.now in let before : List ℕ = claims c.loop-task.seat in
-    subst (λ (after : List ℕ). 2 * tasks - above after < 2 * tasks - above before) (sym (c.mark.ensures.claims ∙ c.in-Task.ensures.claims))
+    subst (λ (after : List ℕ). 2 * tasks - above after < 2 * tasks - above before) (sym (c.mark_if.ensures.claims ∙ c.in-Task.ensures.claims))
     (falls tasks before c.in-Task.claim c.in-Task.ensures.rises c.in-Task.ensures.answer.0)
 
 pub loop-task-preserved : goal.loop-task-preserved
