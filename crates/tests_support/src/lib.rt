@@ -34,7 +34,7 @@ pub use inputs::{NUMBERS, inputs_of, shared_inputs_of};
 pub use keeping::KeepingPort;
 pub use memory::{Memory, in_memory};
 pub use notation::{append_day, append_text, fields_of, not_written_so, number, overwrite};
-pub use readers::{Broken, Interrupted};
+pub use readers::Interrupted;
 pub use sum::{Number, Sum, Value};
 pub use trickle::Trickle;
 pub use warden::{Heard, Hold, Warden};

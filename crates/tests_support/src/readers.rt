@@ -1,16 +1,6 @@
 //! Readers whose calls fail.
 use std::io::{self, Read};
 
-/// A reader of which each call is interrupted.
-#[derive(Drop)]
-pub struct Broken;
-
-impl Read for Broken {
-    fn read(&mut self, _buf: &mut [u8]) -> io::Result<usize> {
-        Err(io::Error::from(io::ErrorKind::Interrupted))
-    }
-}
-
 /// A reader that gives at most `step` bytes a call, whose call number `interrupted` is interrupted
 /// (the first call has the number 0), and which goes on after that call. It counts its calls.
 #[derive(Drop)]
