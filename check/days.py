@@ -11,10 +11,9 @@ CENT = 100
 
 # The market is that of the listing: Q is Nasdaq's Global Select Market, N the New York Stock Exchange.
 Security = collections.namedtuple("Security", "locate name market lot sort test first", defaults=("Q", 100, "C", "P", "N"))
-NOBODY = Security(0, "")
 MSFT, AAPL, NEWCO = Security(7, "MSFT", lot=40), Security(13, "AAPL"), Security(21, "NEWCO", first="Y")
 CLASS_B, PREFERRED = Security(34, "BRK.B", "N", 40), Security(35, "BAC-L", "N", 10, "F")
-IDLE, TEST = Security(40, "IDLE"), Security(51, "ZVZZT", test="T")
+NOBODY, IDLE, TEST = Security(0, ""), Security(40, "IDLE"), Security(51, "ZVZZT", test="T")
 
 
 def at(clock):

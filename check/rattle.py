@@ -20,8 +20,7 @@ def is_product(crate):
 
 
 def edits_of(crate):
-    folder = TOP / "crates" / crate
-    return sorted([*folder.glob("must-fail/*.edit"), *folder.glob("wrong_bodies/*.edit")], key=lambda edit: edit.name)
+    return sorted((TOP / "crates" / crate).glob("*/*.edit"), key=lambda edit: edit.name)
 
 
 @functools.lru_cache(maxsize=None)
