@@ -113,18 +113,18 @@ class OfMemory(Case):
 
 
 FIGURES = """
-rising         file    1       4307      15412       3364         53          6
+rising         file    1       4307      20215       3379         53          6
 rising         file   64       6159      25812       7993        105         59
-rising         stream  1       8409      32248       3911         86          6
-scattered      file    1       5203      20343       3801         53          6
-scattered      stream  1       9306      37267       4414         86          6
-one_order      file    1      20631      51107       1184         37         16
-trades         file    1      15817      38993       2612         39         12
+rising         stream  1       8410      37171       3932         86          6
+scattered      file    1       5203      25145       3820         53          6
+scattered      stream  1       9306      42192       4441         86          6
+one_order      file    1      20631      52186       1188         37         16
+trades         file    1      15812      40068       2612         39         12
 trades         file    4      19797      54514       4729         77         13
-trades         stream  1      15790      52787       3236         65         12
-names          file    1       7255      16774       1466         39          2
-names          stream  1       7234      30608       1740         65          2
-breaks         file    1       5054      21402       3528         57          2
-breaks         stream  1      10639      39580       3806         93          2
+trades         stream  1      15790      54225       3244         65         12
+names          file    1       7252      17846       1467         39          2
+names          stream  1       7234      32048       1750         65          2
+breaks         file    1       5054      23202       3537         57          2
+breaks         stream  1      10639      41620       3822         93          2
 breaks         stream  4      13953      49517       5114        116          5
 """
