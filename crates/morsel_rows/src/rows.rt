@@ -72,7 +72,7 @@ impl<A: Allocator + Copy> MorselRows<A> {
 const LEAST_ROOM: usize = 16;
 
 /// How many bytes a partition takes for each order row that it has room for, and for the trades that go with it.
-const BYTES_AN_ORDER: usize = 18;
+const BYTES_AN_ORDER: usize = 16;
 
 /// By how much a thread's arena grows at once, in bytes: just below glibc's mmap threshold of 128 KiB, up to which it
 /// also keeps what is freed at its end.

@@ -5,19 +5,20 @@ use Rattle.std.specs.List.{All, AllPairs, find}
 use Rattle.std.proofs.lemmas.Bool.{cases_Bool, cond_both, eqb-true}
 use Rattle.std.proofs.lemmas.Bool.Decides.{nat_tests}
 use Rattle.std.proofs.lemmas.List.{get_or_default, length-map}
+use Rattle.std.proofs.lemmas.List.Elements.{All-push, All-weaker}
 use Rattle.std.proofs.lemmas.List.Quantifiers.{all_pairs_push}
 use Rattle.row_types.specs.declared.order.OrderRow.{OrderRow}
 use Rattle.order_table.proofs.RowsInOrder.{rising_does_not_fall}
-use Rattle.order_list.specs.ShortRows.{Rise, row_of_lean}
+use Rattle.order_list.specs.ShortRows.{Rise, RiseTo, offset_of, row_of_lean}
 use Rattle.order_list.specs.declared.lean.Lean.{Lean}
 use Rattle.order_list.specs.declared.offsets.Origin.{Origin}
 
-none : Lean
-none = record { reference = 0; price = 0; offset = 0 }
+abbrev pub none : Lean
+none = record { low = record { lowest = 0; second = 0; third = 0; highest = 0 }; price_high = 0 }
 
 -- the reference of a row counts from the origin
 same_number : (origin : Origin) (rows : List Lean) (i : ℕ) (d : OrderRow) (e : Lean) → i < length rows
-    → (get_or (map (row_of_lean origin) rows) i d).order_no ≡ origin.order_no + (get_or rows i e).reference
+    → (get_or (map (row_of_lean origin) rows) i d).order_no ≡ origin.order_no + offset_of (get_or rows i e)
 same_number origin [] i d e within = absurd (omega (arith, within))
 same_number origin (row ∷ rows) zero d e within = refl
 same_number origin (row ∷ rows) (suc i) d e within = same_number origin rows i d e (omega (arith, within))
@@ -27,7 +28,7 @@ pub none_below : (origin : Origin) (rows : List Lean) (q : ℕ) → q < origin.o
     → None ≡ find (λ (row : OrderRow). eqb row.order_no q) (map (row_of_lean origin) rows)
 none_below origin [] q below = refl
 none_below origin (row ∷ rows) q below =
-    cond_both (eqb (origin.order_no + row.reference) q) (Some (row_of_lean origin row))
+    cond_both (eqb (origin.order_no + offset_of row) q) (Some (row_of_lean origin row))
     (find (λ (other : OrderRow). eqb other.order_no q) (map (row_of_lean origin) rows)) (λ found. None ≡ found)
     (λ e. absurd (omega (arith, eqb-true _ _ e, below))) (λ _. none_below origin rows q below)
 
@@ -36,18 +37,18 @@ same_test base r q above = grind (arith, nat_tests)
 
 -- what has the reference stands for what gives it
 pub find_wide : (origin : Origin) (rows : List Lean) (q : ℕ) → origin.order_no ≤ q
-    → option_map (row_of_lean origin) (find (λ (row : Lean). eqb row.reference (q - origin.order_no)) rows)
+    → option_map (row_of_lean origin) (find (λ (row : Lean). eqb (offset_of row) (q - origin.order_no)) rows)
     ≡ find (λ (row : OrderRow). eqb row.order_no q) (map (row_of_lean origin) rows)
 find_wide origin [] q above = refl
 find_wide origin (row ∷ rows) q above =
     let more = find_wide origin rows q above in
-    let same = same_test origin.order_no row.reference q above in
-    elim (cases_Bool (eqb row.reference (q - origin.order_no))) [
+    let same = same_test origin.order_no (offset_of row) q above in
+    elim (cases_Bool (eqb (offset_of row) (q - origin.order_no))) [
       | inl e ↦ (rw same (rw e refl))
       | inr e ↦ (rw same (rw e more))
     ]
 
-module _ (origin : Origin) (rows : List Lean) (up : AllPairs (λ x y. x.reference < y.reference) rows) where
+module _ (origin : Origin) (rows : List Lean) (up : AllPairs (λ x y. offset_of x < offset_of y) rows) where
   abbrev wide : List OrderRow
   wide = map (row_of_lean origin) rows
 
@@ -59,14 +60,14 @@ module _ (origin : Origin) (rows : List Lean) (up : AllPairs (λ x y. x.referenc
       let inside = within j q in
       omega (arith, same_number origin rows i d none (omega (arith, p, inside)), same_number origin rows j d none inside, up i j none p inside)
 
-  not_falling : (i j : ℕ) (d : Lean) → i ≤ j → j < length rows → (get_or rows i d).reference ≤ (get_or rows j d).reference
-  not_falling = rising_does_not_fall (λ (row : Lean). row.reference) rows up
+  not_falling : (i j : ℕ) (d : Lean) → i ≤ j → j < length rows → offset_of (get_or rows i d) ≤ offset_of (get_or rows j d)
+  not_falling = rising_does_not_fall offset_of rows up
 
-  pub least_wide : (d : Lean) → 0 < length rows → All (λ row. origin.order_no + (get_or rows 0 d).reference ≤ row.order_no) wide
+  pub least_wide : (d : Lean) → 0 < length rows → All (λ row. origin.order_no + offset_of (get_or rows 0 d) ≤ row.order_no) wide
   least_wide d some i e l =
       omega (arith, same_number origin rows i e d (within i l), not_falling 0 i d (omega arith) (within i l))
 
-  pub greatest_wide : (d : Lean) → 0 < length rows → All (λ row. row.order_no ≤ origin.order_no + (get_or rows (length rows - 1) d).reference) wide
+  pub greatest_wide : (d : Lean) → 0 < length rows → All (λ row. row.order_no ≤ origin.order_no + offset_of (get_or rows (length rows - 1) d)) wide
   greatest_wide d some i e l =
       omega (
         arith,
@@ -74,11 +75,12 @@ module _ (origin : Origin) (rows : List Lean) (up : AllPairs (λ x y. x.referenc
         not_falling i (length rows - 1) d (omega (arith, within i l)) (omega (arith, some)),
       )
 
--- what is above the last row is above all
-pub rise_more : (rows : List Lean) (row d : Lean) → Rise rows → (0 < length rows → (get_or rows (length rows - 1) d).reference < row.reference)
-    → Rise (rows ++ row ∷ [])
-rise_more rows row d up above =
-    all_pairs_push (λ x y. x.reference < y.reference) rows row up (λ k e l.
-    let below = rising_does_not_fall (λ (x : Lean). x.reference) rows up k (length rows - 1) e (omega (arith, l)) (omega (arith, l)) in
-    let same = ap (λ (x : Lean). x.reference) (get_or_default rows (length rows - 1) e d (omega (arith, l))) in
-    omega (arith, below, same, above (omega (arith, l))))
+-- one row more, above all
+pub rise_more : (rows : List Lean) (row : Lean) (above : ℕ) → RiseTo above rows → above ≤ offset_of row
+    → RiseTo (offset_of row + 1) (rows ++ row ∷ [])
+rise_more rows row above up higher = record {
+  rise = all_pairs_push (λ x y. offset_of x < offset_of y) rows row up.rise (λ k e l. omega (arith, up.below k e l, higher));
+  below = All-push (λ x. offset_of x < offset_of row + 1) rows row
+      (All-weaker (λ x. offset_of x < above) (λ x. offset_of x < offset_of row + 1) (λ x below. omega (arith, below, higher)) rows up.below)
+      (omega arith);
+}

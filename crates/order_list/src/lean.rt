@@ -1,12 +1,13 @@
-//! Order rows in 12 bytes each.
+//! Order rows in 10 bytes each.
 ghost use Rattle.std.specs.Prelude.{◌≡◌, ◌^◌, ◌<◌, [], ◌∷◌, ◌++◌, if◌then◌else◌, length};
-ghost use Rattle.std.specs.Prelude.{IfOk, IsTrue, OnErr, slice_index_or};
+ghost use Rattle.std.specs.Prelude.{◌+◌, IfOk, IsTrue, List, OnErr, slice_index_or};
 ghost use Rattle.std.specs.List.{AllPairs};
 ghost use Rattle.std.specs.Option.{IfSome};
-ghost use Rattle.order_list.specs.ShortRows.{IsOrigin, Rise, row_of_lean};
+ghost use Rattle.order_list.specs.ShortRows.{IsOrigin, RiseTo, offset_of, row_of_lean};
 
 use crate::OutOfMemory;
 use crate::offsets::{LAST_START, Origin, offset_from};
+use crate::quarters::Quarters;
 use crate::rising_rows::RisingRows;
 use base::push;
 use row_types::OrderRow;
@@ -14,18 +15,19 @@ use std::alloc::Allocator;
 use std::marker::Model;
 
 /// How far below the first row's reference those of lean rows may lie: half of the range.
-const BELOW: u64 = 1 << 31;
+const BELOW: u64 = 1 << 23;
 
-/// An order row in 12 bytes: its place and its reference count from an origin.
+/// An order row in 10 bytes: its place and its reference count from an origin, in 24 bits each.
 #[derive(Clone, Copy)]
 pub(crate) struct Lean {
-    pub(crate) reference: u32,
-    pub(crate) price: u32,
-    pub(crate) offset: u32,
+    /// From the lowest bit on the reference, the place, and 16 bits of the price.
+    pub(crate) low: Quarters,
+    /// The upper 16 bits of the price.
+    pub(crate) price_high: u16,
 }
 
 impl Lean {
-    /// A row is near an origin if its place and its reference are less than 2^32 past it.
+    /// A row is near an origin if its place and its reference are less than 2^24 past it.
     #[inline(always)]
     fn of(origin: Origin, row: OrderRow) -> Option<Self>
         requires { IsOrigin origin }
@@ -35,13 +37,27 @@ impl Lean {
             offset_from(origin.order_no, row.order_no),
             offset_from(origin.place, row.place),
         ) {
-            (Some(reference), Some(offset)) => Some(Lean {
-                reference,
-                price: row.price,
-                offset,
-            }),
+            (Some(reference), Some(place)) => {
+                let price_low = u64::from(row.price % (1 << 16));
+                let low = u64::from(reference)
+                    + u64::from(place) * (1 << 24)
+                    + price_low * (1 << 48);
+                Some(Lean {
+                    low: Quarters::of(low),
+                    price_high: (row.price / (1 << 16)) as u16,
+                })
+            }
             _ => None,
         }
+    }
+
+    /// How far its reference lies past the origin's.
+    #[inline(always)]
+    pub(crate) fn offset(self) -> u32
+        ensures offset { result ≡ offset_of self }
+        ensures near { result < 2 ^ 24 }
+    {
+        (self.low.number() % (1 << 24)) as u32
     }
 
     /// The row with all its numbers.
@@ -50,10 +66,11 @@ impl Lean {
         requires { IsOrigin origin }
         ensures { result ≡ row_of_lean origin self }
     {
+        let low = self.low.number();
         OrderRow {
-            place: origin.place + u64::from(self.offset),
-            order_no: origin.order_no + u64::from(self.reference),
-            price: self.price,
+            place: origin.place + low / (1 << 24) % (1 << 24),
+            order_no: origin.order_no + low % (1 << 24),
+            price: u32::from(self.price_high) * (1 << 16) + (low / (1 << 48)) as u32,
         }
     }
 }
@@ -68,12 +85,13 @@ fn around(row: OrderRow) -> Origin
     }
 }
 
-/// Whether the reference of a row is above that of the last one.
+/// Whether rows rise with one more at their end. Without it they do if `rises` says so, to offsets below `above`.
 #[inline(always)]
-fn is_above(rows: &[Lean], lean: Lean) -> bool
-    ensures { IsTrue result → Rise rows.now → Rise (rows.now ++ lean ∷ []) }
+fn rise_with(rises: bool, above: u32, lean: Lean) -> bool
+    ensures { IsTrue result → (rows : List Lean) → (IsTrue rises → RiseTo above rows)
+        → RiseTo (offset_of lean + 1) (rows ++ lean ∷ []) }
 {
-    rows.is_empty() || rows[rows.len() - 1].reference < lean.reference
+    rises & (above <= lean.offset())
 }
 
 /// Order rows that are near the first one.
@@ -81,6 +99,9 @@ fn is_above(rows: &[Lean], lean: Lean) -> bool
 pub(crate) struct LeanRows<A: Allocator> {
     pub(crate) origin: Origin,
     pub(crate) rows: Vec<Lean, A>,
+    /// The least offset of a reference above those of all rows. It is kept here, since the last row often isn't in the
+    /// processor's cache.
+    above: u32,
     /// Whether each row has a greater reference than the row before it.
     rises: bool,
 }
@@ -88,13 +109,13 @@ pub(crate) struct LeanRows<A: Allocator> {
 impl<A: Allocator> Model for LeanRows<A> {
     ghost use Rattle.std.specs.Prelude.{List, map, IsTrue};
     ghost use Rattle.row_types.specs.declared.order.OrderRow.{OrderRow as TheRow};
-    ghost use Rattle.order_list.specs.ShortRows.{IsOrigin, Rise, row_of_lean};
+    ghost use Rattle.order_list.specs.ShortRows.{IsOrigin, RiseTo, row_of_lean};
 
     ghost Value = { List TheRow };
 
     ghost view = { λ lean. map (row_of_lean lean.origin) lean.rows.items };
 
-    ghost invariant = { λ lean. IsOrigin lean.origin × (IsTrue lean.rises → Rise lean.rows.items) };
+    ghost invariant = { λ lean. IsOrigin lean.origin × (IsTrue lean.rises → RiseTo lean.above lean.rows.items) };
 }
 
 impl<A: Allocator> LeanRows<A> {
@@ -108,6 +129,7 @@ impl<A: Allocator> LeanRows<A> {
                 order_no: 0,
             },
             rows: Vec::new(alloc),
+            above: 0,
             rises: true,
         }
     }
@@ -144,9 +166,10 @@ impl<A: Allocator> LeanRows<A> {
         }
         match Lean::of(self.origin, row) {
             Some(lean) => {
-                let rises = self.rises & is_above(self.rows.as_slice(), lean);
+                let rises = rise_with(self.rises, self.above, lean);
                 push(&mut self.rows, lean)?;
                 self.rises = rises;
+                self.above = lean.offset() + 1;
                 Ok(true)
             }
             None => Ok(false),

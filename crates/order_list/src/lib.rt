@@ -1,4 +1,4 @@
-//! Order rows in little memory, and which of them are needed. A row takes 12 bytes as long as places and references lie
+//! Order rows in little memory, and which of them are needed. A row takes 10 bytes as long as places and references lie
 //! close together, as in a morsel of a day, and 20 where they don't; contracts see one list of rows. Rows whose
 //! references rise are searched where they lie (`RisingRows`).
 //!
@@ -16,6 +16,7 @@ mod lean;
 mod offsets;
 mod order_rows;
 mod orders;
+mod quarters;
 mod rising_rows;
 mod wide;
 

@@ -17,8 +17,8 @@ use std::marker::Model;
 
 /// Order rows, in the order in which they were pushed.
 ///
-/// A row takes 12 bytes as long as each is near the first one: its place less than 4 GiB past the first one's,
-/// which is so in a morsel, and its reference less than 2^31 from the first one's, which is so on a day whose
+/// A row takes 10 bytes as long as each is near the first one: its place less than 16 MiB past the first one's,
+/// which is so in a block, and its reference less than 2^23 from the first one's, which is so on a day whose
 /// references rise. The first row that isn't near, and all that follow, take 20.
 #[derive(Drop)]
 pub struct OrderList<A: Allocator = Global> {

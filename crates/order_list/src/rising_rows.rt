@@ -1,7 +1,7 @@
 //! Order rows whose references rise, searched where they lie.
 ghost use Rattle.std.specs.Prelude.{◌≡◌, ◌==◌, ◌<◌, ◌≤◌, All, length, map};
 ghost use Rattle.std.specs.List.{AllPairs, find};
-ghost use Rattle.order_list.specs.ShortRows.{IsOrigin, Rise, row_of_lean};
+ghost use Rattle.order_list.specs.ShortRows.{IsOrigin, Rise, offset_of, row_of_lean};
 
 use crate::lean::Lean;
 use crate::offsets::Origin;
@@ -10,11 +10,11 @@ use row_types::OrderRow;
 use std::marker::Model;
 
 impl Referenced for Lean {
-    ghost reference_of = { λ row. row.reference };
+    ghost reference_of = { offset_of };
 
     #[inline(always)]
     fn reference(&self) -> u64 {
-        u64::from(self.reference)
+        u64::from(self.offset())
     }
 }
 
@@ -63,7 +63,7 @@ impl<'a> RisingRows<'a> {
     pub fn least(&self) -> u64
         ensures { All (λ row. result ≤ row.order_no) self.now }
     {
-        self.origin.order_no + u64::from(self.rows[0].reference)
+        self.origin.order_no + u64::from(self.rows[0].offset())
     }
 
     /// The reference of the last row.
@@ -71,7 +71,7 @@ impl<'a> RisingRows<'a> {
         ensures some { 0 < length self.now }
         ensures greatest { All (λ row. row.order_no ≤ result) self.now }
     {
-        self.origin.order_no + u64::from(self.rows[self.rows.len() - 1].reference)
+        self.origin.order_no + u64::from(self.rows[self.rows.len() - 1].offset())
     }
 
     /// The row that gives the reference.

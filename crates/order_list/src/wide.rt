@@ -1,40 +1,15 @@
 //! Order rows in 20 bytes each.
 ghost use Rattle.std.specs.Prelude.{◌≡◌};
-ghost use Rattle.order_list.specs.ShortRows.{number_of, row_of_wide};
+ghost use Rattle.order_list.specs.ShortRows.{row_of_wide};
 
+use crate::quarters::Quarters;
 use row_types::OrderRow;
-
-/// A number of 64 bits that lies at any multiple of four bytes.
-#[derive(Clone, Copy)]
-pub(crate) struct Halves {
-    pub(crate) high: u32,
-    pub(crate) low: u32,
-}
-
-impl Halves {
-    #[inline(always)]
-    fn of(number: u64) -> Self
-        ensures { number_of result ≡ number }
-    {
-        Halves {
-            high: (number / (1 << 32)) as u32,
-            low: (number % (1 << 32)) as u32,
-        }
-    }
-
-    #[inline(always)]
-    fn number(self) -> u64
-        ensures { result ≡ number_of self }
-    {
-        u64::from(self.high) * (1 << 32) + u64::from(self.low)
-    }
-}
 
 /// An order row in 20 bytes, with none between its numbers, whatever they are.
 #[derive(Clone, Copy)]
 pub(crate) struct Wide {
-    pub(crate) place: Halves,
-    pub(crate) order_no: Halves,
+    pub(crate) place: Quarters,
+    pub(crate) order_no: Quarters,
     pub(crate) price: u32,
 }
 
@@ -44,8 +19,8 @@ impl Wide {
         ensures { row_of_wide result ≡ row }
     {
         Wide {
-            place: Halves::of(row.place),
-            order_no: Halves::of(row.order_no),
+            place: Quarters::of(row.place),
+            order_no: Quarters::of(row.order_no),
             price: row.price,
         }
     }

@@ -24,16 +24,16 @@ const LISTS: [&[(u64, u64)]; 8] = [
         (7, 0),
     ],
     &[
-        (1 << 31, 7),
+        (1 << 23, 7),
         (0, 8),
-        (u32::MAX as u64, 9),
-        (1 << 32, 10),
+        ((1 << 24) - 1, 9),
+        (1 << 24, 10),
         (5, 11),
     ],
     &[
         (FAR, 7),
-        (FAR - (1 << 31), 8),
-        (FAR - (1 << 31) - 1, 9),
+        (FAR - (1 << 23), 8),
+        (FAR - (1 << 23) - 1, 9),
         (FAR, 10),
     ],
 ];
@@ -119,28 +119,28 @@ fn takes(alloc: Global, first: u64, other: u64, bytes: u8) -> Result<bool, OutOf
 const NEAR: [(u64, u64); 6] = [
     (0, 0),
     (5, 0),
-    (1 << 31, 0),
-    ((1 << 31) + 1, 1),
-    (FAR, FAR - (1 << 31)),
-    (u64::MAX, u64::MAX - u32::MAX as u64),
+    (1 << 23, 0),
+    ((1 << 23) + 1, 1),
+    (FAR, FAR - (1 << 23)),
+    (u64::MAX, u64::MAX - ((1 << 24) - 1)),
 ];
 
-/// Whether rows of the lowest and the greatest near reference take 12 bytes, and those beside them 20.
-fn take_twelve_near(alloc: Global, first: u64, lowest: u64) -> Result<bool, OutOfMemory> {
+/// Whether rows of the lowest and the greatest near reference take 10 bytes, and those beside them 20.
+fn take_ten_near(alloc: Global, first: u64, lowest: u64) -> Result<bool, OutOfMemory> {
     Ok(
-        takes(alloc, first, first, 12)?
-            && takes(alloc, first, lowest, 12)?
-            && takes(alloc, first, lowest.wrapping_add(u32::MAX as u64), 12)?
+        takes(alloc, first, first, 10)?
+            && takes(alloc, first, lowest, 10)?
+            && takes(alloc, first, lowest.wrapping_add((1 << 24) - 1), 10)?
             && takes(alloc, first, lowest.wrapping_sub(1), 20)?
-            && takes(alloc, first, lowest.wrapping_add(1 << 32), 20)?,
+            && takes(alloc, first, lowest.wrapping_add(1 << 24), 20)?,
     )
 }
 
-/// A row takes 12 bytes if it is near the first one, and otherwise 20.
+/// A row takes 10 bytes if it is near the first one, and otherwise 20.
 #[test]
-fn rows_near_the_first_take_twelve_bytes(rt: HostRuntime) -> Result<(), Fail> {
+fn rows_near_the_first_take_ten_bytes(rt: HostRuntime) -> Result<(), Fail> {
     for (first, lowest) in NEAR {
-        assert!(rt; take_twelve_near(rt.alloc(), first, lowest)?);
+        assert!(rt; take_ten_near(rt.alloc(), first, lowest)?);
     }
     Ok(())
 }
@@ -158,7 +158,7 @@ fn are_turned_wide(heap: &LocalHeap, lean: u64) -> bool {
     let rest = 99u64.saturating_sub(lean);
     let is_whole = push_each(&mut list, rest, (2 * FAR, 100), (FAR, 0)).is_ok();
     let is_kept = heap.used() == with_wide && list.len() == 100;
-    let is_room = room >= 100 * 12 && room < 102 * 12 && with_wide < 102 * 20;
+    let is_room = room >= 100 * 10 && room < 102 * 10 && with_wide < 102 * 20;
     is_room && is_lean && is_wide && is_whole && is_kept
 }
 

@@ -17,7 +17,7 @@ fn bounds_of(alloc: Global, rows: &[(u64, u64)]) -> Result<Option<(u64, u64)>, O
 const FAR: u64 = 1 << 33;
 
 /// The greatest reference that is near `FAR`.
-const TOP: u64 = FAR + (1 << 31) - 1;
+const TOP: u64 = FAR + (1 << 23) - 1;
 
 /// References and places of lists, and the least and the greatest reference of those that rise and whose rows aren't
 /// too far apart.
@@ -33,7 +33,7 @@ const BOUNDS: [(&[(u64, u64)], Option<(u64, u64)>); 12] = [
     (&[(1, 0), (2, FAR)], None),
     (&[(1, FAR), (2, 0)], None),
     (&[(FAR, 7), (TOP + 1, 8)], None),
-    (&[(FAR, 7), (FAR - (1 << 31) - 1, 8)], None),
+    (&[(FAR, 7), (FAR - (1 << 23) - 1, 8)], None),
 ];
 
 #[test]

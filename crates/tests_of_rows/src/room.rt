@@ -14,13 +14,13 @@ fn room_for_nine(_: Global, heap: &LocalHeap) -> Result<Came, AllocError> {
     };
     let (used, length) = (heap.used(), list.len());
     let are_pushed = push_each(&mut list, 9, (0, 0), (1, 1)).is_ok();
-    let is_taken_at_once = length == 0 && used >= 9 * 12 && heap.used() == used;
+    let is_taken_at_once = length == 0 && used >= 9 * 10 && heap.used() == used;
     Ok(Came::of(true, are_pushed && is_taken_at_once && list.len() == 9))
 }
 
 #[test]
 fn a_list_takes_its_room_at_once_or_is_refused(rt: HostRuntime) -> Result<(), Fail> {
-    assert!(rt; enough_for(rt.alloc(), room_for_nine)? >= 9 * 12);
+    assert!(rt; enough_for(rt.alloc(), room_for_nine)? >= 9 * 10);
     Ok(())
 }
 
@@ -47,13 +47,13 @@ fn room_of_three(_: Global, heap: &LocalHeap) -> Result<Came, AllocError> {
     let Ok(rows) = MorselRows::new(heap, 3, 24) else {
         return Ok(Came::of(false, heap.used() == 0));
     };
-    let is_right = are_three_without_orders(&rows) && heap.used() >= 3 * 24 * 12;
+    let is_right = are_three_without_orders(&rows) && heap.used() >= 3 * 24 * 10;
     Ok(Came::of(true, is_right))
 }
 
 #[test]
 fn each_partition_takes_its_room_or_all_are_refused(rt: HostRuntime) -> Result<(), Fail> {
-    assert!(rt; enough_for(rt.alloc(), room_of_three)? >= 3 * 24 * 12);
+    assert!(rt; enough_for(rt.alloc(), room_of_three)? >= 3 * 24 * 10);
     Ok(())
 }
 
@@ -64,7 +64,7 @@ fn room_is_taken_for_so_many_rows_and_given_back(rt: HostRuntime) -> Result<(), 
     let (with_more, left) = taken_and_left(rt.alloc(), 24, 0)?;
     let room = with_more.saturating_sub(with_few);
     // (an execution more too, of 40 bytes)
-    assert!(rt; room >= 3 * (8 * 12 + 32) && room <= 3 * (9 * 12 + 48));
+    assert!(rt; room >= 3 * (8 * 10 + 32) && room <= 3 * (9 * 10 + 48));
     assert!(rt; left == without);
     Ok(())
 }

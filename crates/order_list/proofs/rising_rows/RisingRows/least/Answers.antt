@@ -1,13 +1,12 @@
 use Rattle.std.proofs.Common.{◌+◌, ◌≤◌, get_or, subst}
 use Rattle.std.specs.List.{All}
 use Rattle.row_types.specs.declared.order.OrderRow.{OrderRow}
-use Rattle.order_list.specs.declared.lean.Lean.{Lean}
-use Rattle.order_list.proofs.SearchedRows.{least_wide}
+use Rattle.order_list.specs.ShortRows.{offset_of}
+use Rattle.order_list.proofs.SearchedRows.{least_wide, none}
 use Rattle.order_list.proofs.rising_rows.RisingRows.least.Goals as goal
 
 pub returns : goal.returns
 returns c =
     let inside = c.self.inside in
-    let none : Lean = record { reference = 0; price = 0; offset = 0 } in
-    rw c.from.ensures (subst (All (λ (row : OrderRow). inside.origin.order_no + (get_or inside.rows.now 0 none).reference ≤ row.order_no)) c.self.view_is
+    rw (c.from.ensures, c.offset.ensures.offset) (subst (All (λ (row : OrderRow). inside.origin.order_no + offset_of (get_or inside.rows.now 0 none) ≤ row.order_no)) c.self.view_is
     (least_wide inside.origin inside.rows.now c.self.invariant.2 none c.self.invariant.1))
