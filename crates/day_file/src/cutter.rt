@@ -13,6 +13,13 @@ use base::limits::{LONGEST_FILE, MOST_MORSELS};
 use std::alloc::Global;
 use std::marker::Model;
 use std::mem;
+use std::sync::Arc;
+
+/// The capacity of the smallest and of the largest vector that is used again, in bytes: small ones cost little, and
+/// each large one would be one more that is held.
+const LEAST_KEPT: usize = 65_536;
+
+const MOST_KEPT: usize = 16 << 20;
 
 /// Cuts a day file into morsels while it comes, in any pieces. It keeps no bytes of morsels that are
 /// too many for a cut.
@@ -24,6 +31,7 @@ pub struct Cutter {
     past: u64,
     rest: Rest,
     whole: usize,
+    spares: Vec<Vec<u8>>,
 }
 
 impl Model for Cutter {
@@ -52,6 +60,7 @@ impl Cutter {
             past: 0,
             rest: Rest::empty(alloc),
             whole: 0,
+            spares: Vec::new(alloc),
         }
     }
 
@@ -98,6 +107,14 @@ impl Cutter {
     {
         self.cut_off(piece.len())?;
         self.rest.append(piece)
+    }
+
+    /// Takes the vectors of the morsels of a cut that nobody else holds, so that the next morsels stand in them.
+    pub fn reuse(&mut self, cut: Cut)
+        ensures { self.new ≡ self.old }
+    {
+        self.spares.clear();
+        append_vectors(&mut self.spares, cut);
     }
 
     /// The cut of all bytes that were fed, or why there is none: the same as `cut` gives of them.
@@ -181,12 +198,30 @@ impl Cutter {
         ensures same { OnErr result (self.new ≡ self.old) }
     {
         if self.cut.count() < MOST_MORSELS {
-            self.rest.take_run(self.alloc, &mut self.cut, end, next)?;
+            self.rest
+                .take_run(self.alloc, &mut self.cut, &mut self.spares, end, next)?;
         } else {
             self.past += end as u64;
             self.rest.skip(end);
         }
         self.whole = 0;
         Ok(())
+    }
+}
+
+// Appends the vectors of the morsels of a cut that nobody else holds, but for small and for large ones.
+fn append_vectors(vectors: &mut Vec<Vec<u8>>, cut: Cut) {
+    for morsel in cut.into_morsels() {
+        if let Some(morsel) = Arc::into_inner(morsel) {
+            append_vector(vectors, morsel.into_bytes());
+        }
+    }
+}
+
+// Appends a vector, if it is neither. If there is no memory, it is let go.
+fn append_vector(vectors: &mut Vec<Vec<u8>>, vector: Vec<u8>) {
+    let capacity = vector.capacity();
+    if LEAST_KEPT <= capacity && capacity <= MOST_KEPT {
+        let _ = vectors.push(vector);
     }
 }

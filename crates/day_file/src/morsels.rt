@@ -108,6 +108,11 @@ impl Cut {
         self.morsels.as_slice()
     }
 
+    // All of them, in order, without the cut.
+    pub(crate) fn into_morsels(self) -> Vec<Arc<Morsel, Global>> {
+        self.morsels
+    }
+
     /// The morsel of this number.
     pub fn morsel(&self, number: u32) -> &Arc<Morsel, Global>
         requires { number < length self.now }

@@ -1,5 +1,5 @@
 //! Bytes that are appended at the end and taken off the front.
-ghost use Rattle.std.specs.Prelude.{◌≡◌, ◌≤◌, ◌<◌, ◌+◌, ◌++◌, ◌∷◌, [], length, take, drop, OnErr, OnOk, vec_len};
+ghost use Rattle.std.specs.Prelude.{◌≡◌, ◌≤◌, ◌<◌, ◌+◌, ◌++◌, ◌∷◌, [], length, take, drop, IfOk, OnErr, OnOk, vec_capacity, vec_len};
 ghost use Rattle.std.specs.List.{concat};
 ghost use Rattle.base.specs.declared.limits.TheConstants.{LONGEST_FILE, MOST_MORSELS};
 ghost use Rattle.day_file.specs.Cuts.{IsRun};
@@ -75,11 +75,13 @@ impl Rest {
     }
 
     // Takes the run that ends there off the front, and adds it to the cut. It is copied, or if it is the
-    // larger part of the vector, what is behind it. Next, `next` bytes are appended.
+    // larger part of the vector, what is behind it, into one of the spare vectors, if there is one. Next, `next` bytes
+    // are appended.
     pub(crate) fn take_run(
         &mut self,
         alloc: Global,
         cut: &mut Cut,
+        spares: &mut Vec<Vec<u8>>,
         end: usize,
         next: usize,
     ) -> Result<(), OutOfMemory>
@@ -97,11 +99,13 @@ impl Rest {
             self.start += end;
             return Ok(());
         }
-        let mut behind = Vec::with_capacity(alloc, length + next)?;
+        let mut behind = vector_of(alloc, spares, length + next)?;
         behind.extend_from_slice(&self.bytes[end..])?;
         let mut run = mem::replace(&mut self.bytes, behind);
         run.truncate(end);
-        run.shrink_to_fit();
+        if end / 4 < run.capacity() - end {
+            run.shrink_to_fit();
+        }
         if let Err(refused) = cut.append(alloc, run) {
             // What is behind the run has room for it, too.
             let _ = self.bytes.extend_from_slice(&refused.value);
@@ -123,4 +127,17 @@ fn remove_front(bytes: &mut Vec<u8>, start: usize)
     let left = bytes.len() - start;
     bytes.copy_within(start.., 0);
     bytes.truncate(left);
+}
+
+// A vector of no bytes that has this room: one of the spare ones, or a new one.
+fn vector_of(alloc: Global, spares: &mut Vec<Vec<u8>>, room: usize) -> Result<Vec<u8>, OutOfMemory>
+    ensures empty { IfOk result (λ bytes. bytes.items ≡ []) }
+    ensures room { IfOk result (λ bytes. room ≤ vec_capacity bytes) }
+{
+    let Some(mut spare) = spares.pop() else {
+        return Vec::with_capacity(alloc, room);
+    };
+    spare.clear();
+    spare.reserve_exact(room)?;
+    Ok(spare)
 }

@@ -19,12 +19,10 @@ use std::mem;
 /// The most bytes that one call asks of a source.
 const PIECE: usize = 65_536;
 
-/// The C library heeds no vector of 32 MiB or more that is let go.
-const MOST_HEEDED: u64 = 31 << 20;
-
 /// Reads a source of at most `limit` bytes to its end, and cuts what it gives into batches of morsels, which are,
 /// joined, the morsels of the whole: each is the shortest run of frames that has at least `target` bytes, or the rest.
-/// Besides a batch it holds no more than a morsel that is not full yet, and a piece of at most 65,536 bytes.
+/// Besides a batch it holds no more than a morsel that is not full yet, a piece of at most 65,536 bytes, and the
+/// vectors of a batch that was given back.
 #[derive(Drop)]
 pub struct BatchReader {
     alloc: Global,
@@ -59,7 +57,6 @@ impl BatchReader {
         ensures same { IfOk result (λ reader. (reader.limit ≡ limit) × (reader.target ≡ target)) }
         ensures none { IfOk result (λ reader. HasRead reader [] []) }
     {
-        keep_what_is_freed(alloc, target);
         Ok(BatchReader {
             alloc,
             limit,
@@ -110,6 +107,14 @@ impl BatchReader {
         last_batch(cutter, self.first, self.start)
     }
 
+    /// Takes a batch that isn't needed any more: the next morsels stand in the vectors of those of its morsels that
+    /// nobody else holds.
+    pub fn reuse(&mut self, batch: Batch)
+        ensures { self.new ≡ self.old }
+    {
+        self.cutter.reuse(batch.cut);
+    }
+
     // Feeds the cutter what one call of the source gives, and says whether it gave any byte.
     fn feed<S: Source>(&mut self, source: &mut S) -> Result<bool, SourceFault>
         requires source { S.has_failed source.old ≡ false }
@@ -155,14 +160,6 @@ impl BatchReader {
             is_last: false,
         })
     }
-}
-
-// Has the C library keep the memory of morsels for the next ones. By itself it maps each vector of more than 128 KiB
-// anew, whose pages are then touched for the first time; once a longer vector was let go, it maps none that is shorter.
-fn keep_what_is_freed(alloc: Global, target: u64) {
-    let longest = target.saturating_add(3 * PIECE as u64);
-    let longer = longest.saturating_mul(2).min(MOST_HEEDED);
-    let _ = Vec::<u8>::with_capacity(alloc, longer as usize);
 }
 
 // Feeds the cutter what one call of the source gives, at most what has room in `piece`, and says how many bytes those

@@ -19,7 +19,7 @@ struct Way {
 /// How many morsels, bytes and batches were read.
 type Read = (u32, u64, u32);
 
-/// Reads all batches of a source.
+/// Reads all batches of a source, and gives each back to the reader.
 fn read_batches<S: Source>(alloc: Global, source: &mut S, way: Way) -> Result<Read, SourceFault> {
     let limit = way.limit.min(LONGEST_FILE);
     let mut reader = BatchReader::new(alloc, limit, way.target.max(1), way.batch)?;
@@ -32,6 +32,7 @@ fn read_batches<S: Source>(alloc: Global, source: &mut S, way: Way) -> Result<Re
             let morsels = batch.first + batch.cut.count();
             return Ok((morsels, batch.start + batch.cut.length(), number));
         }
+        reader.reuse(batch);
     }
     Err(SourceFault::ReadFailed)
 }

@@ -58,6 +58,7 @@ pub(crate) fn scan_source<R: Threads + Wait + Sync, S: Source>(
     let mut total = ScanTotal::empty(alloc);
     while !batch.is_last {
         let (scans, next) = scan_ahead(rt, alloc, &batch, as_of, settings, &mut reader, source);
+        reader.reuse(batch);
         batch = next?;
         take_in(&mut total, scans)?;
     }

@@ -52,7 +52,7 @@ loop-batch-preserved g c =
     let next = of_ok _ c.scan_ahead-scans.result.1 c.in_ok-batch-2.batch c.in_ok-batch-2.was read.next in
     let taken = c.in_ok-take_in.ensures in
     let scan = of_ok _ c.scan_ahead-scans.result.0 taken.0 taken.1 c.scan_ahead-scans.ensures.scans in record {
-      to = rw taken.2 (went_on c.loop-batch.invariant.to is_not_last scan read.same next);
+      to = rw (c.reuse.ensures, taken.2) (went_on c.loop-batch.invariant.to is_not_last scan read.same next);
       fine = search rules;
     }
 
