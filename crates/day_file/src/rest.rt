@@ -103,9 +103,7 @@ impl Rest {
         behind.extend_from_slice(&self.bytes[end..])?;
         let mut run = mem::replace(&mut self.bytes, behind);
         run.truncate(end);
-        if end / 4 < run.capacity() - end {
-            run.shrink_to_fit();
-        }
+        run.shrink_to_fit();
         if let Err(refused) = cut.append(alloc, run) {
             // What is behind the run has room for it, too.
             let _ = self.bytes.extend_from_slice(&refused.value);
