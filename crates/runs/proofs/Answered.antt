@@ -18,7 +18,8 @@ use Rattle.buckets.specs.FoundRows.{TotalView}
 use Rattle.planning.specs.AllBuckets.{AreGatheredOf}
 use Rattle.planning.specs.Planned.{LinkView, linked_to}
 use Rattle.planning.proofs.LinkedBuckets.{halt_of, next_of}
-use Rattle.runs.specs.Steps.{IsOutcomeOf, IsScanOf}
+use Rattle.streaming.specs.ScannedBatches.{IsScanOf}
+use Rattle.runs.specs.Steps.{IsOutcomeOf}
 use Rattle.runs.proofs.CutAnswers.{answered_by, gathered_by, halted_by, messages as messages_of, wrong_fault}
 
 abbrev pub Pair : Type 0

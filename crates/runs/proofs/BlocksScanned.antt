@@ -18,7 +18,8 @@ use Rattle.block_scan.specs.Pieces.{Asked, IsAskable, IsChained, IsScannedWhole}
 use Rattle.block_scan.specs.declared.block_source.BlockSource.{Ghosts as BlockSourceOf}
 use Rattle.day_file.specs.declared.source_fault.SourceFault.{SourceFault}
 use Rattle.block_scan.proofs.BlocksAndAttempts.{attempts_of, blocks_are}
-use Rattle.runs.specs.Steps.{IsOutcomeOf, IsScanOf, LinksAttempts, found_or_fault}
+use Rattle.streaming.specs.ScannedBatches.{IsScanOf}
+use Rattle.runs.specs.Steps.{IsOutcomeOf, LinksAttempts, found_or_fault}
 use Rattle.runs.proofs.Answered.{IsGiven, Pair, given_of, link_of}
 
 -- the total of the scans of a file is that of one cut

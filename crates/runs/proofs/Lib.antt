@@ -2,4 +2,3 @@ pub mod CutAnswers
 pub mod Answered
 pub mod BlocksScanned
 pub mod RunOutcomes
-pub mod ScannedBatches

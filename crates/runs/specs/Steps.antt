@@ -1,7 +1,6 @@
 -- The steps of a run: what its query, its source, its pipelines and its answer give each other.
 -- Derived: what is promised of a run is `Ran`.
-use Rattle.std.specs.Prelude.{◌≡◌, ℕ, ◌<◌, ◌↔◌, List, Option, Some, Result, Ok, Err, true, IfErr, IfOk, IsErrOf}
-use Rattle.std.specs.List.{concat}
+use Rattle.std.specs.Prelude.{◌≡◌, ℕ, ◌<◌, List, Some, Result, Ok, Err, true}
 use Rattle.outcomes.specs.declared.run_fault.RunFault.{RunFault}
 use Rattle.outcomes.specs.declared.run_fault.RunFault.TheVariants as fault
 use Rattle.gathering.specs.declared.linked.Linked.{Linked}
@@ -9,11 +8,7 @@ use Rattle.gathering.specs.declared.linked.Linked.TheVariants.{Next, Halt}
 use Rattle.pipelines.specs.Outcomes.{IsOutcome}
 use Rattle.pipelines.specs.declared.outcome.Outcome.{Outcome}
 use Rattle.pipelines.specs.declared.outcome.Outcome.TheVariants.{Finished, Stopped}
-use Rattle.sources.specs.declared.source.Source.{Ghosts as SourceOf}
-use Rattle.streaming.specs.Batches.{IsNextBatch, IsReadTo, ReaderView}
-use Rattle.day_file.specs.Sources.{IsSourceFault, Reading}
-use Rattle.streaming.specs.Readings.{of_stream}
-use Rattle.streaming.specs.declared.batch.Batch.{Batch}
+use Rattle.streaming.specs.ScannedBatches.{IsScanOf}
 use Rattle.day_file.specs.declared.source_fault.SourceFault.{SourceFault}
 use Rattle.day_file.specs.declared.source_fault.SourceFault.TheVariants as source
 use Rattle.row_types.specs.declared.directory.DirectoryRow.{DirectoryRow}
@@ -21,7 +16,7 @@ use Rattle.meaning.specs.Meaning.{Meaning}
 use Rattle.query.specs.Faults.{first_query_fault}
 use Rattle.query.specs.Words.{lists_symbols, words_of}
 use Rattle.answers.specs.Answers.{DayFault, Truncated}
-use Rattle.scanning.specs.Scans.{AreRuns, ScanTotalView, inputs_from, total_of}
+use Rattle.scanning.specs.Scans.{ScanTotalView}
 use Rattle.scanning.specs.declared.wrong.WrongLength.{WrongLength}
 use Rattle.block_scan.specs.Attempts.{AreAttemptsOf, AttemptView}
 use Rattle.block_scan.specs.Blocks.{IsBlocksFault}
@@ -30,8 +25,6 @@ use Rattle.block_scan.specs.declared.block_source.BlockSource.{Ghosts as BlockSo
 use Rattle.buckets.specs.BucketRows.{BucketView}
 use Rattle.buckets.specs.Buckets.{total_found}
 use Rattle.buckets.specs.FoundRows.{TotalView}
-use Rattle.runs.specs.declared.calls.stream.WholeSource.{WholeSource}
-use Rattle.runs.specs.declared.calls.stream.WholeSource.TheVariants.{Short, Long}
 use Rattle.planning.specs.Planned.{LinkView, ToBuckets, linked_to}
 
 -- what a refusal says of the words that should be a query
@@ -48,19 +41,6 @@ reported limit (source.Truncated place) = Ok (Err (Truncated place))
 reported limit source.TooManyMorsels = Err fault.TooManyMorsels
 reported limit source.OutOfMemory = Err fault.OutOfMemory
 
--- the total of the scans of runs of whole frames that follow each other in a file: the first one has this number, and
--- begins at this place
-pub record IsScanOf (first start : ℕ) (as_of : Option ℕ) (parts : ℕ) (runs : List (List ℕ)) (total : ScanTotalView)
-    : Type 0 where
-  pub are : AreRuns start runs
-  pub is : total ≡ total_of (inputs_from first start as_of parts runs)
-
--- the total of the scans of a batch: of some cut of its bytes into runs of whole frames
-pub record IsScanOfBatch (batch : Batch) (as_of : Option ℕ) (parts : ℕ) (total : ScanTotalView) : Type 0 where
-  pub runs : List (List ℕ)
-  pub same : concat runs ≡ concat batch.cut
-  pub is : IsScanOf batch.first batch.start as_of parts runs total
-
 -- both pipelines gave this over a file that is cut into these runs, in some number of partitions
 pub record IsOutcomeOf (query : Meaning) (outcome : Outcome TotalView (List DirectoryRow) WrongLength)
     (runs : List (List ℕ)) : Type 0 where
@@ -69,26 +49,6 @@ pub record IsOutcomeOf (query : Meaning) (outcome : Outcome TotalView (List Dire
   pub is : IsOutcome (IsScanOf 0 0 query.as_of parts runs)
       (λ total linked. linked ≡ linked_to (record { query = query; parts = parts }) total)
       (λ inputs total. total ≡ total_found inputs) outcome
-
--- all that a source gave was read and may be answered over, and this is the total of the scans of its cut
-abbrev pub IsScanOfAll : Reading → Option ℕ → ℕ → ScanTotalView → Type 0
-IsScanOfAll reading as_of parts total =
-    (runs : List (List ℕ)) × reading.all (concat runs) × reading.answerable (concat runs)
-    × IsScanOf 0 0 as_of parts runs total
-
--- all that a source gave was read and may be answered over: it is this cut, or this is the total of its cut's scans
-abbrev pub IsReadWhole : Reading → Option ℕ → ℕ → WholeSource → Type 0
-IsReadWhole reading as_of parts (Short cut) = reading.all (concat cut) × reading.answerable (concat cut)
-IsReadWhole reading as_of parts (Long total) = IsScanOfAll reading as_of parts total
-
--- what `next_batch` says of the source and of the reader, before and after it
-pub record IsBatchRead {S : Type 0} (stream : SourceOf S) (before after : S) (old new : ReaderView)
-    (read : Result Batch SourceFault) : Type 0 where
-  pub next : IfOk read (IsNextBatch stream before after old new)
-  pub same : (new.limit ≡ old.limit) × (new.target ≡ old.target)
-  pub told : IfErr read (λ f. (first : S) (runs : List (List ℕ)) → IsReadTo stream first before runs old
-      → IsSourceFault (of_stream stream old.limit old.target first after) f)
-  pub failed : IsErrOf read SourceFault.ReadFailed ↔ (stream.has_failed after ≡ true)
 
 -- S is sources that are read at places
 module _ {S : Type 0} (device : BlockSourceOf S) where

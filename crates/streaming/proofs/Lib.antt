@@ -1,1 +1,2 @@
 pub mod JoinedBatches
+pub mod ScannedBatches

@@ -1,2 +1,3 @@
 pub mod Batches
 pub mod Readings
+pub mod ScannedBatches

@@ -7,7 +7,6 @@ use crate::calls::alone::answer_alone;
 use crate::calls::answer::answer_of_outcome;
 use crate::calls::ends::{answer_of_fault, query_of};
 use crate::calls::made::Made;
-use crate::calls::stream::{WholeSource, scan_source};
 use order_table::greatest_prime;
 use outcomes::{RunFault, Settings};
 use pipelines::{FreeGate, run_second};
@@ -17,7 +16,7 @@ use sinks::Sink;
 use std::alloc::Global;
 use std::sync::Wait;
 use std::thread::Threads;
-use streaming::Source;
+use streaming::{Source, WholeSource, scan_source};
 
 /// Reads a whole day file from a source, batch by batch, and cuts it into morsels, which threads scan while the next
 /// batch is read. Threads then find the answer to the query, which is written to a sink. Nothing is written until only

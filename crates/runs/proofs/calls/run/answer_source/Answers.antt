@@ -3,7 +3,7 @@ use Rattle.std.specs.List.{concat}
 use Rattle.std.proofs.lemmas.Result.{IfOk-at_ok}
 use Rattle.meaning.specs.Meaning.{Meaning}
 use Rattle.answers.specs.Answers.{IsAnswer, told_by}
-use Rattle.runs.specs.Steps.{IsScanOf}
+use Rattle.streaming.specs.ScannedBatches.{IsScanOf}
 use Rattle.runs.proofs.Answered.{given_of}
 use Rattle.runs.proofs.BlocksScanned.{of_cut}
 use Rattle.runs.proofs.calls.run.answer_source.Goals as goal

@@ -2,8 +2,8 @@ use Rattle.std.proofs.Common.{rules, ◌≡◌, false, true, [], refl}
 use Rattle.std.proofs.lemmas.List.Elements.{All-nil}
 use Rattle.std.proofs.lemmas.Result.{err_from_is_err_and}
 use Rattle.streaming.proofs.JoinedBatches.{read_to_none}
-use Rattle.runs.proofs.ScannedBatches.{ended, gave_some, next_ahead, of_err, of_ok, one_batch, read_ahead, went_on}
-use Rattle.runs.proofs.calls.stream.scan_source.Goals as goal
+use Rattle.streaming.proofs.ScannedBatches.{ended, gave_some, next_ahead, of_err, of_ok, one_batch, read_ahead, went_on}
+use Rattle.streaming.proofs.scanned_batches.scan_source.Goals as goal
 
 pub returns-in_err-batch-clause-fault : goal.returns-in_err-batch-clause-fault
 returns-in_err-batch-clause-fault g c =

@@ -16,7 +16,7 @@ use Rattle.streaming.specs.Batches.{IsNextBatch, IsReadTo, ReaderView, read_leng
 use Rattle.streaming.specs.Readings.{of_stream}
 use Rattle.streaming.specs.declared.batch.Batch.{Batch}
 use Rattle.streaming.proofs.JoinedBatches.{read_length_is}
-use Rattle.runs.specs.Steps.{IsScanOfAll, IsScanOfBatch}
+use Rattle.streaming.specs.ScannedBatches.{IsScanOfAll, IsScanOfBatch}
 
 module _ {S : Type 0} (stream : SourceOf S) where
   -- the batch comes after these runs, and the source was read to its end

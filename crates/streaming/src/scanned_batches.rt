@@ -3,18 +3,19 @@ ghost use Rattle.std.specs.Prelude.{◌≡◌, ◌<◌, ◌↔◌, false, true, 
 ghost use Rattle.day_file.specs.Sources.{IsSourceFault};
 ghost use Rattle.streaming.specs.Readings.{of_stream};
 ghost use Rattle.scanning.specs.Scans.{ScanTotalView, with_scans};
-ghost use Rattle.runs.specs.Steps.{IsBatchRead, IsReadWhole, IsScanOfBatch};
+ghost use Rattle.streaming.specs.ScannedBatches.{IsBatchRead, IsReadWhole, IsScanOfBatch};
 
 use crate::OutOfMemory;
+use crate::batch::Batch;
+use crate::batches::BatchReader;
 use block_scan::Division;
-use day_file::Cut;
+use day_file::{Cut, Source, SourceFault};
 use outcomes::Settings;
 use pipelines::{Crew, FreeGate, run_first};
 use scanning::{ScanTotal, batch_inputs};
 use std::alloc::Global;
 use std::sync::{Arc, Wait};
 use std::thread::{Threads, join_mut};
-use streaming::{Batch, BatchReader, Source, SourceFault};
 
 /// How many bytes the morsels of a batch have, or a little more: enough that each worker has several of
 /// them, and little beside what a day's rows take.
@@ -22,7 +23,7 @@ const BATCH_BYTES: u64 = 32 << 20;
 
 /// What was read of a whole source: all of a short one, or the scans of a longer one.
 #[derive(Drop)]
-pub(crate) enum WholeSource {
+pub enum WholeSource {
     Short(Cut),
     Long(ScanTotal),
 }
@@ -36,7 +37,9 @@ const TASKS_EACH: u32 = 2;
 /// some neighbouring ones together, are the tasks of a pipeline, while the caller reads the next one. So no more than
 /// two batches are in memory, and no bytes of those before. It waits for the threads. A source that is as short as one
 /// block isn't scanned here.
-pub(crate) fn scan_source<R: Threads + Wait + Sync, S: Source>(
+///
+/// It is refused as `BatchReader::next_batch` is, and if the caller's thread gets no memory for a scan.
+pub fn scan_source<R: Threads + Wait + Sync, S: Source>(
     rt: &R,
     alloc: Global,
     source: &mut S,

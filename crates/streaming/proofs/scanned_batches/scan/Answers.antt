@@ -1,9 +1,9 @@
 use Rattle.std.proofs.Common.{◌≡◌, ap, ◌∙◌}
 use Rattle.std.proofs.lemmas.Result.{IfOk-weaker}
 use Rattle.scanning.specs.Scans.{total_of}
-use Rattle.runs.specs.Steps.{IsScanOfBatch}
-use Rattle.runs.proofs.ScannedBatches.{scanned_batch}
-use Rattle.runs.proofs.calls.stream.scan.Goals as goal
+use Rattle.streaming.specs.ScannedBatches.{IsScanOfBatch}
+use Rattle.streaming.proofs.ScannedBatches.{scanned_batch}
+use Rattle.streaming.proofs.scanned_batches.scan.Goals as goal
 
 pub returns : goal.returns
 returns g c =

@@ -1,4 +1,4 @@
-use Rattle.runs.proofs.calls.stream.fn.scan_ahead.read.Goals as goal
+use Rattle.streaming.proofs.scanned_batches.fn.scan_ahead.read.Goals as goal
 
 pub returns : goal.returns
 returns g c = record {

@@ -1,7 +1,7 @@
 use Rattle.std.proofs.Common.{◌≡◌, ◌+◌, ◌-◌, false, if◌then◌else◌}
 use Rattle.streaming.specs.Batches.{read_length}
-use Rattle.runs.proofs.ScannedBatches.{IsScannedTo}
-use Rattle.runs.proofs.calls.stream.scan_source.Given as goal
+use Rattle.streaming.proofs.ScannedBatches.{IsScannedTo}
+use Rattle.streaming.proofs.scanned_batches.scan_source.Given as goal
 
 -- the batches before this one are scanned
 abbrev pub invariant-loop-batch : goal.invariant-loop-batch
