@@ -9,7 +9,7 @@ mod places;
 mod pushing;
 
 pub use places::earlier;
-pub use pushing::push;
+pub use pushing::{copied, push};
 
 /// Why a call refused: a growth found no memory.
 pub type OutOfMemory = std::alloc::AllocError;

@@ -1,5 +1,5 @@
-//! Adding to a vector that mostly has room.
-ghost use Rattle.std.specs.Prelude.{◌≡◌, ◌<◌, [], ◌∷◌, ◌++◌, OnErr, OnOk, vec_capacity, vec_len};
+//! Adding to a vector that mostly has room, and a vector that has none to spare.
+ghost use Rattle.std.specs.Prelude.{◌≡◌, ◌<◌, [], ◌∷◌, ◌++◌, IfOk, OnErr, OnOk, vec_capacity, vec_len};
 
 use crate::OutOfMemory;
 use std::alloc::Allocator;
@@ -36,4 +36,13 @@ fn grow<T, A: Allocator>(items: &mut Vec<T, A>) -> Result<(), OutOfMemory>
     ensures room { OnOk result (vec_len items.new < vec_capacity items.new) }
 {
     items.reserve(1)
+}
+
+/// The same items, in memory for just them.
+pub fn copied<T: Copy, A: Allocator>(alloc: A, items: &[T]) -> Result<Vec<T, A>, OutOfMemory>
+    ensures { IfOk result (λ copy. copy.items ≡ items.now) }
+{
+    let mut copy = Vec::with_capacity(alloc, items.len())?;
+    copy.extend_from_slice(items)?;
+    Ok(copy)
 }

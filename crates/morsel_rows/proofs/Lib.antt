@@ -1,4 +1,5 @@
 pub mod JoinedPartitions
 pub mod MessagesOfPartition
 pub mod JoinedInPartitions
+mod Divided
 mod TakenRows

@@ -5,6 +5,7 @@
 //! Not proved: when a partition takes memory, and that one without rows gives it back.
 #![tactic(auto)]
 
+mod divisor;
 mod partition;
 mod rows;
 

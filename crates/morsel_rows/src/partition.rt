@@ -6,7 +6,7 @@ ghost use Rattle.morsel_rows.specs.Partitions.{no_rows_in};
 ghost use Rattle.morsel_rows.specs.SameRows.{is_same_partition, partition_equiv};
 
 use crate::OutOfMemory;
-use base::push;
+use base::{copied, push};
 use order_list::OrderList;
 use row_types::{Execution, OrderRow, Sale};
 use std::alloc::{Allocator, Global};
@@ -56,6 +56,17 @@ impl<A: Allocator + Copy> Partition<A> {
         })
     }
 
+    /// The same rows, in memory for just them.
+    pub(crate) fn copied(&self, alloc: A) -> Result<Self, OutOfMemory>
+        ensures { IfOk result (λ copy. copy ≡ self.now) }
+    {
+        Ok(Partition {
+            orders: self.orders.copied(alloc)?,
+            executions: copied(alloc, self.executions.as_slice())?,
+            own_priced: copied(alloc, self.own_priced.as_slice())?,
+        })
+    }
+
     /// Adds an order reference. Where there is no memory for it, the partition stays as it was.
     #[inline(always)]
     pub(crate) fn push_order(&mut self, row: OrderRow) -> Result<(), OutOfMemory>
@@ -97,6 +108,11 @@ impl<A: Allocator> Partition<A> {
         ensures { IsTrue result ↔ (self.now ≡ no_rows_in) }
     {
         self.orders.len() == 0 && self.executions.is_empty() && self.own_priced.is_empty()
+    }
+
+    /// How many trades there are, of both kinds.
+    pub(crate) fn trades(&self) -> usize {
+        self.executions.len().saturating_add(self.own_priced.len())
     }
 
     /// Adds an execution. Where there is no memory for it, the partition stays as it was.

@@ -6,10 +6,10 @@ ghost use Rattle.morsel_rows.specs.Partitions.{in_partitions, no_rows_in};
 ghost use Rattle.morsel_rows.specs.TakenPartitions.{HasTaken, rows_of_taken, rows_taken_at};
 
 use crate::OutOfMemory;
+use crate::divisor::Divisor;
 use crate::partition::Partition;
 use day_rows::{Row, counts, row_of};
 use itch_messages::Message;
-use order_table::partition;
 use row_types::{DirectoryRow, Execution, OrderRow, Sale};
 use std::alloc::{Allocator, Global};
 use std::marker::Model;
@@ -26,6 +26,8 @@ type Taken<A> = Vec<Option<Box<Partition<A>, A>>, A>;
 pub struct MorselRows<A: Allocator = Global> {
     /// How many partitions there are.
     parts: u32,
+    /// The same. A row stands in the partition of what is left of its reference, or of its place, when that is divided.
+    divisor: Divisor,
     /// Each partition that has taken memory, at its number; empty as long as there is none.
     partitions: Taken<A>,
     /// What is lent of a partition that has taken none.
@@ -47,7 +49,7 @@ impl<A: Allocator> Model for MorselRows<A> {
       directory = rows.directory.items;
     } };
 
-    ghost invariant = { λ rows. (0 < rows.parts) × (rows.no_rows ≡ no_rows_in) };
+    ghost invariant = { λ rows. (0 < rows.parts) × (rows.no_rows ≡ no_rows_in) × (rows.divisor ≡ rows.parts) };
 }
 
 impl<A: Allocator + Copy> MorselRows<A> {
@@ -60,6 +62,7 @@ impl<A: Allocator + Copy> MorselRows<A> {
         let partitions = with_rooms(alloc, parts, orders)?;
         Ok(MorselRows {
             parts,
+            divisor: Divisor::new(parts),
             partitions,
             no_rows: Partition::new(alloc),
             breaks: Vec::new(alloc),
@@ -144,19 +147,19 @@ impl<A: Allocator> MorselRows<A> {
     {
         self.directory.as_slice()
     }
+}
 
+impl<A: Allocator + Copy> MorselRows<A> {
     /// Gives memory back that is taken for further rows, and all of partitions that have none.
     #[tactic(auto, using(crate::proofs::TakenRows::seen_same))]
     pub fn shrink_to_fit(&mut self)
         ensures { self.new ≡ self.old }
     {
-        shrink_all(self.partitions.as_mut_slice());
+        shrink_all(*self.breaks.allocator(), self.partitions.as_mut_slice());
         self.breaks.shrink_to_fit();
         self.directory.shrink_to_fit();
     }
-}
 
-impl<A: Allocator + Copy> MorselRows<A> {
     /// Adds the row of one more message, whose frame is at this place, in bytes from the file's
     /// start, if the message counts up to this moment, in seconds since midnight; one that is past
     /// it has no row. If there is no memory for it, the rows stay as they were.
@@ -202,7 +205,7 @@ impl<A: Allocator + Copy> MorselRows<A> {
         ensures added { OnOk result (BecomesJoined (told (Some (Row.Order row))) self.old self.new) }
         ensures unchanged { OnErr result (self.new ≡ self.old) }
     {
-        let number = partition(row.order_no, self.parts) as usize;
+        let number = self.divisor.remainder(row.order_no) as usize;
         begin(&mut self.partitions, self.parts, number)?;
         match &mut self.partitions[number] {
             Some(part) => part.push_order(row),
@@ -216,7 +219,7 @@ impl<A: Allocator + Copy> MorselRows<A> {
         ensures added { OnOk result (BecomesJoined (told (Some (Row.Execution row))) self.old self.new) }
         ensures unchanged { OnErr result (self.new ≡ self.old) }
     {
-        let number = partition(row.order_no, self.parts) as usize;
+        let number = self.divisor.remainder(row.order_no) as usize;
         begin(&mut self.partitions, self.parts, number)?;
         match &mut self.partitions[number] {
             Some(part) => part.push_execution(row),
@@ -230,7 +233,7 @@ impl<A: Allocator + Copy> MorselRows<A> {
         ensures added { OnOk result (BecomesJoined (told (Some (Row.Sale row))) self.old self.new) }
         ensures unchanged { OnErr result (self.new ≡ self.old) }
     {
-        let number = partition(row.place, self.parts) as usize;
+        let number = self.divisor.remainder(row.place) as usize;
         begin(&mut self.partitions, self.parts, number)?;
         match &mut self.partitions[number] {
             Some(part) => part.push_sale(row),
@@ -309,23 +312,65 @@ fn lengthen<A: Allocator>(partitions: &mut Taken<A>, parts: usize) -> Result<(),
     Ok(())
 }
 
-/// Gives memory back that the partitions take for further rows, and all that those without rows take.
-fn shrink_all<A: Allocator>(partitions: &mut [Option<Box<Partition<A>, A>>])
+/// How many order rows a partition has at most if its lists are copied: nearly twice as many as of a block of a usual
+/// day, so that little memory is taken for all copies of a scan.
+const MOST_COPIED: usize = 4_096;
+
+/// Gives memory back that the partitions take for further rows, and all that those without rows take. What a list
+/// gives back where it lies is too little for others, and would never be filled. So lists are copied into memory for
+/// just their rows, and what they were in is freed at once when all are copied, for the lists of the next scan.
+fn shrink_all<A: Allocator + Copy>(alloc: A, partitions: &mut [Option<Box<Partition<A>, A>>])
     ensures { (number : ℕ) → rows_taken_at partitions.new number ≡ rows_taken_at partitions.old number }
 {
+    let mut copied = Vec::new(alloc);
+    let mut room = 0;
     for taken in partitions.iter_mut() {
-        shrink(taken);
+        shrink(alloc, taken, &mut copied, &mut room);
     }
 }
 
-/// Gives memory back that a partition takes for further rows, and all if it has no rows.
-fn shrink<A: Allocator>(taken: &mut Option<Box<Partition<A>, A>>)
+/// Gives memory back that a partition takes for further rows, and all if it has no rows. If there is memory for a copy,
+/// it is added to those that are copied. With more trades than orders its lists have grown out of their rooms, and are
+/// never copied. `room` is about how many bytes are left of those by which the arena last grew.
+fn shrink<A: Allocator + Copy>(
+    alloc: A,
+    taken: &mut Option<Box<Partition<A>, A>>,
+    copied: &mut Vec<Box<Partition<A>, A>, A>,
+    room: &mut usize,
+)
     ensures { rows_of_taken taken.new ≡ rows_of_taken taken.old }
 {
-    if let Some(mut partition) = taken.take() {
-        if !partition.is_empty() {
-            partition.shrink_to_fit();
-            *taken = Some(partition);
+    let Some(mut partition) = taken.take() else {
+        return;
+    };
+    if partition.is_empty() {
+        return;
+    }
+    let orders = partition.orders().len();
+    if orders <= MOST_COPIED && partition.trades() <= orders {
+        if let Ok(copy) = copy(alloc, &partition, room) {
+            *taken = Some(copy);
+            let _ = copied.push(partition);
+            return;
         }
     }
+    partition.shrink_to_fit();
+    *taken = Some(partition);
+}
+
+/// The same partition, in memory for just its rows.
+fn copy<A: Allocator + Copy>(
+    alloc: A,
+    partition: &Partition<A>,
+    room: &mut usize,
+) -> Result<Box<Partition<A>, A>, OutOfMemory>
+    ensures { IfOk result (λ copy. copy.value ≡ partition.now) }
+{
+    let bytes = partition.orders().len().saturating_mul(BYTES_AN_ORDER);
+    if *room < bytes {
+        grow_arena(alloc);
+        *room = GROWTH;
+    }
+    *room = room.saturating_sub(bytes);
+    Ok(Box::new(alloc, partition.copied(alloc)?)?)
 }

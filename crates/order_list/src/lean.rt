@@ -9,7 +9,7 @@ use crate::OutOfMemory;
 use crate::offsets::{LAST_START, Origin, offset_from};
 use crate::quarters::Quarters;
 use crate::rising_rows::RisingRows;
-use base::push;
+use base::{copied, push};
 use row_types::OrderRow;
 use std::alloc::Allocator;
 use std::marker::Model;
@@ -174,6 +174,18 @@ impl<A: Allocator> LeanRows<A> {
             }
             None => Ok(false),
         }
+    }
+
+    /// The same rows, in memory for just them.
+    pub(crate) fn copied(&self, alloc: A) -> Result<Self, OutOfMemory>
+        ensures { IfOk result (λ copy. copy ≡ self.now) }
+    {
+        Ok(LeanRows {
+            origin: self.origin,
+            rows: copied(alloc, self.rows.as_slice())?,
+            above: self.above,
+            rises: self.rises,
+        })
     }
 
     /// Gives memory back that is taken for further rows.

@@ -10,7 +10,7 @@ use crate::lean::LeanRows;
 use crate::order_rows::OrderRows;
 use crate::rising_rows::RisingRows;
 use crate::wide::Wide;
-use base::push;
+use base::{copied, push};
 use row_types::OrderRow;
 use std::alloc::{Allocator, Global};
 use std::marker::Model;
@@ -55,6 +55,16 @@ impl<A: Allocator + Copy> OrderList<A> {
         let mut list = OrderList::new(alloc);
         list.lean.reserve(rows)?;
         Ok(list)
+    }
+
+    /// The same rows, in memory for just them.
+    pub fn copied(&self, alloc: A) -> Result<Self, OutOfMemory>
+        ensures { IfOk result (λ copy. copy ≡ self.now) }
+    {
+        Ok(OrderList {
+            lean: self.lean.copied(alloc)?,
+            wide: copied(alloc, self.wide.as_slice())?,
+        })
     }
 }
 

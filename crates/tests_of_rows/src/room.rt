@@ -1,7 +1,7 @@
 //! Room for rows that is taken at once.
 use crate::rooms::{Came, enough_for};
 use crate::rows::push_each;
-use itch_messages::{Executed, Header, Message};
+use itch_messages::{Executed, Header, Message, Replace};
 use linked_list_allocator::LocalHeap;
 use morsel_rows::{MorselRows, OrderList};
 use std::alloc::{AllocError, Allocator, Global};
@@ -87,17 +87,30 @@ fn a_partition_without_rows_takes_no_memory(rt: HostRuntime) -> Result<(), Fail>
     Ok(())
 }
 
+const HEADER: Header = Header {
+    locate: 7,
+    tracking: 0,
+    time: 5,
+};
+
 /// An execution of an order of this reference.
 fn executed(order_no: u64) -> Message {
     Message::Executed(Executed {
-        header: Header {
-            locate: 7,
-            tracking: 0,
-            time: 5,
-        },
+        header: HEADER,
         order_no,
         shares: 100,
         trade_no: 1,
+    })
+}
+
+/// An order that is given this reference.
+fn replaced(new_no: u64) -> Message {
+    Message::Replace(Replace {
+        header: HEADER,
+        old_no: 1,
+        new_no,
+        shares: 100,
+        price: 9,
     })
 }
 
@@ -169,5 +182,30 @@ fn are_kept<A: Allocator + Copy>(rows: &mut MorselRows<A>) -> Result<bool, Alloc
 fn partitions_keep_their_rows_when_room_is_given_back(rt: HostRuntime) -> Result<(), Fail> {
     let mut rows = MorselRows::new(rt.alloc(), 3, 24)?;
     assert!(rt; matches!(are_kept(&mut rows), Ok(true)));
+    Ok(())
+}
+
+/// The same in a heap, of an order too, and whether the room that no row took is free then. It is refused if there is
+/// no memory for three partitions and their room.
+fn are_kept_in(heap: &LocalHeap) -> Result<bool, AllocError> {
+    let mut rows = MorselRows::new(heap, 3, 24)?;
+    let taken = heap.used();
+    rows.add_counted(None, 2, &replaced(5))?;
+    let is_kept = are_kept(&mut rows)? && orders_in(&rows, 2) == Some(1);
+    Ok(is_kept && heap.used() < taken)
+}
+
+/// In the smallest heaps there is no memory to copy rows to, so that lists give their room back where they lie.
+#[test]
+fn room_is_given_back_without_memory_for_copies(rt: HostRuntime) -> Result<(), Fail> {
+    let mut least = 0;
+    for step in 1..256 {
+        let heap = LocalHeap::new(rt.alloc(), 16 * step)?;
+        if let Ok(are_kept) = are_kept_in(&heap) {
+            assert!(rt; are_kept);
+            least = if least == 0 { step } else { least };
+        }
+    }
+    assert!(rt; least > 1 && least < 200);
     Ok(())
 }
