@@ -218,7 +218,7 @@ fn append_vectors(vectors: &mut Vec<Vec<u8>>, cut: Cut) {
     }
 }
 
-// Appends a vector, if it is neither. If there is no memory, it is let go.
+// Appends a vector, if it is neither small nor large. If there is no memory, it is let go.
 fn append_vector(vectors: &mut Vec<Vec<u8>>, vector: Vec<u8>) {
     let capacity = vector.capacity();
     if LEAST_KEPT <= capacity && capacity <= MOST_KEPT {
