@@ -8,20 +8,24 @@ use tests_support::{fields_of, not_written_so, number};
 /// order, `Lose(3)` of a task, `Merge(0,1)` of two gatherers.
 pub(crate) fn append_events(alloc: Global, events: &mut Vec<Event>, text: &str) -> io::Result<()> {
     for word in text.split_whitespace() {
-        let fields = fields_of(alloc, word)?;
-        match *fields.as_slice() {
-            ["Arrive", gatherer, tasks] => append_arrivals(events, number(gatherer)?, tasks)?,
-            ["Lose", task] => events.push(Event::Lose {
-                task: number(task)?,
-            })?,
-            ["Merge", into, other] => {
-                let (into, other) = (number(into)?, number(other)?);
-                events.push(Event::Merge { into, other })?
-            }
-            _ => return Err(not_written_so()),
-        }
+        append_event(events, fields_of(alloc, word)?.as_slice())?;
     }
     Ok(())
+}
+
+/// Appends the events of a name and its fields.
+fn append_event(events: &mut Vec<Event>, fields: &[&str]) -> io::Result<()> {
+    match *fields {
+        ["Arrive", gatherer, tasks] => append_arrivals(events, number(gatherer)?, tasks),
+        ["Lose", task] => Ok(events.push(Event::Lose {
+            task: number(task)?,
+        })?),
+        ["Merge", into, other] => {
+            let (into, other) = (number(into)?, number(other)?);
+            Ok(events.push(Event::Merge { into, other })?)
+        }
+        _ => Err(not_written_so()),
+    }
 }
 
 /// Appends arrivals of the tasks from one to another, up or down.

@@ -27,23 +27,11 @@ const ANSWERS: &str = "----";
 
 fn main(rt: HostRuntime) -> io::Result<()> {
     let mut out = rt.stdout();
-    let mut copied = Copied {
-        text: Vec::new(rt.alloc()),
-        case: Case::new(rt.alloc()),
-        usual: Vec::new(rt.alloc()),
-        is_answered: false,
-    };
+    let mut copied = Copied::new(rt.alloc());
     for line in BufReader::new(rt.alloc(), rt.reader())?.lines(rt.alloc()) {
-        let line = line?;
-        copied.take(&rt, rt.alloc(), line.as_str())?;
-        if line.is_empty() {
-            out.write_all(copied.text.as_slice())?;
-            out.flush()?;
-            copied.text.clear();
-        }
+        copied.copy(&rt, rt.alloc(), line?.as_str(), &mut out)?;
     }
-    out.write_all(copied.text.as_slice())?;
-    out.flush()
+    copied.write(&mut out)
 }
 
 /// What was read and not written yet, the case at hand, and the ways of cases that name none.
@@ -56,6 +44,38 @@ struct Copied {
 }
 
 impl Copied {
+    fn new(alloc: Global) -> Copied {
+        Copied {
+            text: Vec::new(alloc),
+            case: Case::new(alloc),
+            usual: Vec::new(alloc),
+            is_answered: false,
+        }
+    }
+
+    /// Takes in a line, and at the end of a case writes what was read.
+    fn copy<R: Threads + Wait + Sync, W: Write>(
+        &mut self,
+        rt: &R,
+        alloc: Global,
+        line: &str,
+        out: &mut W,
+    ) -> io::Result<()> {
+        self.take(rt, alloc, line)?;
+        if line.is_empty() {
+            self.write(out)
+        } else {
+            Ok(())
+        }
+    }
+
+    /// Writes what was read and not written yet.
+    fn write<W: Write>(&mut self, out: &mut W) -> io::Result<()> {
+        out.write_all(self.text.as_slice())?;
+        self.text.clear();
+        out.flush()
+    }
+
     /// Takes in a line.
     fn take<R: Threads + Wait + Sync>(
         &mut self,

@@ -29,7 +29,12 @@ pub(crate) struct Values {
 /// The values of a text: `byte 2 0..255`, `pair 0 0..65535/31` (each 31st), `length 0..112`, `morsel 1..112`.
 pub(crate) fn values_of(alloc: Global, text: &str) -> io::Result<Values> {
     let words: Vec<&str> = text.split_whitespace().collect(alloc)?;
-    let (varied, values) = match *words.as_slice() {
+    values_of_words(words.as_slice())
+}
+
+/// The values of the words of a text.
+fn values_of_words(words: &[&str]) -> io::Result<Values> {
+    let (varied, values) = match *words {
         ["byte", place, values] => (Varied::Byte(number(place)?), values),
         ["pair", place, values] => (Varied::Pair(number(place)?), values),
         ["length", values] => (Varied::Length, values),

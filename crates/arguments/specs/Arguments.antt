@@ -47,11 +47,16 @@ partitions_rule = number_rule (codes "partitions") (Signed (pos 1) (pos MOST_PAR
 abbrev pub gatherers_rule : Rule
 gatherers_rule = number_rule (codes "gatherers") (Signed (pos 1) (pos MOST_GATHERERS)) (codes "1")
 
--- the program's command line: it has `--version` and `-V`, a day file's path, a query's text, and the options
-abbrev pub the_app : App
-the_app = with_rule (with_rule (with_rule (with_rule (with_rule (with_rule
+-- the program's command line without its options: it has `--version` and `-V`, a day file's path, and a query's
+-- text
+abbrev pub app_of_words : App
+app_of_words = with_rule (with_rule
     (on_top (λ shape. record shape { has_version = true }) (new_app (codes "itch_bars")))
-    (required_rule (codes "FILE"))) (required_rule (codes "QUERY")))
+    (required_rule (codes "FILE"))) (required_rule (codes "QUERY"))
+
+-- the program's command line: the words, and the options
+abbrev pub the_app : App
+the_app = with_rule (with_rule (with_rule (with_rule app_of_words
     workers_rule) morsel_rule) partitions_rule) gatherers_rule
 
 -- the number that a text writes in decimal digits, with or without a leading plus

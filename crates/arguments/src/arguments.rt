@@ -7,7 +7,7 @@ ghost use Rattle.clap.specs.declared.error.kind.ErrorKind.TheVariants.{InvalidVa
 ghost use Rattle.clap.specs.Words.{FailsBy, HasKind, IsParsedFrom, Kinds, app_of, fault_of, found_of};
 ghost use Rattle.clap.specs.Words.{matches_of, rows_of, rule_of};
 ghost use Rattle.arguments.specs.Arguments.{HasSettingsOf, IsFaultOf, IsJobOf, is_given, morsel_rule, number_rule};
-ghost use Rattle.arguments.specs.Arguments.{required_rule, the_app};
+ghost use Rattle.arguments.specs.Arguments.{app_of_words, required_rule, the_app};
 
 use base::limits::{LARGEST_MORSEL, LONGEST_FILE, MOST_GATHERERS, MOST_PARTITIONS, MOST_WORKERS};
 use clap::builder::ValueParser;
@@ -20,7 +20,7 @@ use std::io;
 
 /// What `--version` says after the program's name: the version, its date as in `CHANGELOG.md`, and
 /// the logic that it was proved in, which `rt version` names.
-const VERSION: &str = "0.2.5 (2026-11-30, proved in Rattle's logic dac8208d650f15bf)";
+const VERSION: &str = "0.2.6 (2026-11-30, proved in Rattle's logic dac8208d650f15bf)";
 
 /// How the program is called: the query is one word, which a shell takes in quotes.
 const USAGE: &str = "itch_bars [OPTIONS] <FILE> \"<QUERY>\"";
@@ -169,6 +169,14 @@ fn matched<'a>(alloc: Global, words: &'a [String]) -> Result<ArgMatches<'a>, Err
 fn clap_command<'a>(alloc: Global) -> Result<Command<'a>, AllocError>
     ensures { IfOk result (λ c. app_of c ≡ the_app) }
 {
+    let command = words_command(alloc)?;
+    with_options(alloc, command)
+}
+
+/// The program's command line without its options.
+fn words_command<'a>(alloc: Global) -> Result<Command<'a>, AllocError>
+    ensures { IfOk result (λ c. app_of c ≡ app_of_words) }
+{
     let file = required_argument(alloc, "FILE", "A day file, unpacked; - is standard input");
     let asked = "What to answer, as below; it is one word, so put it in quotes";
     Command::new(alloc, "itch_bars")
@@ -177,7 +185,15 @@ fn clap_command<'a>(alloc: Global) -> Result<Command<'a>, AllocError>
         .override_usage(USAGE)
         .after_help(AFTER_HELP)
         .arg(file)?
-        .arg(required_argument(alloc, "QUERY", asked))?
+        .arg(required_argument(alloc, "QUERY", asked))
+}
+
+/// The command line with the options, too.
+fn with_options<'a>(alloc: Global, command: Command<'a>) -> Result<Command<'a>, AllocError>
+    requires { app_of command ≡ app_of_words }
+    ensures { IfOk result (λ c. app_of c ≡ the_app) }
+{
+    command
         .arg(number_option(alloc, "workers", MOST_WORKERS, "4", WORKERS_HELP))?
         .arg(morsel_option(alloc))?
         .arg(number_option(alloc, "partitions", MOST_PARTITIONS, "64", PARTITIONS_HELP))?

@@ -1,5 +1,5 @@
 -- The batches of a source are scanned one after the other, and the totals of their scans are joined.
-use Rattle.std.proofs.Common.{inr, ◌≡◌, ℕ, ◌≤◌, Bool, true, false, List, [], ◌++◌, Option, Result, Ok, Err, All, length, IfErr, IfOk}
+use Rattle.std.proofs.Common.{inr, ◌≡◌, ℕ, ◌≤◌, Bool, true, false, List, [], ◌++◌, Option, Result, Ok, Err, length, IfErr, IfOk}
 use Rattle.std.proofs.Common.{refl, sym, ap, ap₂, ◌∙◌, subst, arith, length-append}
 use Rattle.std.specs.List.{concat}
 use Rattle.std.proofs.lemmas.List.Elements.{All-append}
@@ -12,35 +12,12 @@ use Rattle.sources.specs.declared.source.Source.{Ghosts as SourceOf}
 use Rattle.scanning.specs.Scans.{AreRuns, AreTogether, ScanInputView, ScanTotalView, inputs_from, inputs_of, total_of, with_scans}
 use Rattle.scanning.proofs.JoinedRuns.{joined_bytes, runs_joined}
 use Rattle.scanning.proofs.TotalOfScans.{total_joined}
-use Rattle.streaming.specs.Batches.{IsNextBatch, IsReadTo, ReaderView, read_length}
+use Rattle.streaming.specs.Batches.{IsNextBatch, IsReadTo, ReaderView}
 use Rattle.streaming.specs.Readings.{of_stream}
 use Rattle.streaming.specs.declared.batch.Batch.{Batch}
 use Rattle.streaming.proofs.JoinedBatches.{read_length_is}
 use Rattle.streaming.specs.ScannedBatches.{IsScanOfAll, IsScanOfBatch}
-
-module _ {S : Type 0} (stream : SourceOf S) where
-  -- the batch comes after these runs, and the source was read to its end
-  pub record IsAhead (limit target : ℕ) (before now : S) (reader : ReaderView) (runs : List (List ℕ))
-      (batch : Batch) : Type 0 where
-    pub number : batch.first ≡ length runs
-    pub start : batch.start ≡ length (concat runs)
-    pub more : batch.is_last ≡ false → IsReadTo stream before now (runs ++ batch.cut) reader
-    pub last : batch.is_last ≡ true → GaveAll stream limit before now (concat (runs ++ batch.cut))
-        × IsCutBy target (runs ++ batch.cut) (concat (runs ++ batch.cut))
-    pub same : (reader.limit ≡ limit) × (reader.target ≡ target)
-    pub has_room : batch.is_last ≡ false → read_length reader ≤ limit
-
-  -- some runs were read, their bytes were scanned in some runs, this is the total of the scans, and the batch comes after
-  -- them
-  pub record IsScannedTo (limit target : ℕ) (as_of : Option ℕ) (parts : ℕ) (before now : S) (reader : ReaderView)
-      (total : ScanTotalView) (batch : Batch) : Type 0 where
-    pub runs : List (List ℕ)
-    pub scanned : List (List ℕ)
-    pub same : concat scanned ≡ concat runs
-    pub each : All IsRun scanned
-    pub bytes : All AreBytes scanned
-    pub is : total ≡ total_of (inputs_of as_of parts scanned)
-    pub ahead : IsAhead limit target before now reader runs batch
+use Rattle.streaming.specs.ScannedSoFar.{IsAhead, IsScannedTo}
 
 -- what is said of a success, and of an error
 pub of_ok : {A E : Type 0} (P : A → Type 0) (r : Result A E) (x : A) → r ≡ Ok x → IfOk r P → P x
@@ -114,10 +91,10 @@ module _ {S : Type 0} {stream : SourceOf S} {limit target : ℕ} {before : S} wh
   module _ {as_of : Option ℕ} {parts : ℕ} where
     -- a batch is scanned, and the next one was read
     pub went_on : {was now : S} {old new : ReaderView} {total more : ScanTotalView} {batch next : Batch}
-        → IsScannedTo stream limit target as_of parts before was old total batch → batch.is_last ≡ false
+        → IsScannedTo stream limit target as_of parts before was (record { reader = old; total = total; batch = batch }) → batch.is_last ≡ false
         → IsScanOfBatch batch as_of parts more → (new.limit ≡ old.limit) × (new.target ≡ old.target)
         → IsNextBatch stream was now old new next
-        → IsScannedTo stream limit target as_of parts before now new (with_scans total more) next
+        → IsScannedTo stream limit target as_of parts before now (record { reader = new; total = with_scans total more; batch = next })
     went_on {batch = batch} to is_not_last scan same read = record {
       runs = to.runs ++ batch.cut;
       scanned = to.scanned ++ scan.runs;
@@ -130,7 +107,7 @@ module _ {S : Type 0} {stream : SourceOf S} {limit target : ℕ} {before : S} wh
 
     -- the last batch is scanned
     pub ended : {now : S} {reader : ReaderView} {total more : ScanTotalView} {batch : Batch} → limit ≤ LONGEST_FILE
-        → IsScannedTo stream limit target as_of parts before now reader total batch → batch.is_last ≡ true
+        → IsScannedTo stream limit target as_of parts before now (record { reader = reader; total = total; batch = batch }) → batch.is_last ≡ true
         → IsScanOfBatch batch as_of parts more → IsScanOfAll (of_stream stream limit target before now) as_of parts (with_scans total more)
     ended {now = now} {batch = batch} most to is_last scan =
         let all = to.ahead.last is_last in

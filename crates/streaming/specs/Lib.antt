@@ -1,3 +1,4 @@
 pub mod Batches
 pub mod Readings
 pub mod ScannedBatches
+pub mod ScannedSoFar

@@ -3,7 +3,9 @@ ghost use Rattle.std.specs.Prelude.{◌≡◌, ◌<◌, ◌↔◌, false, true, 
 ghost use Rattle.day_file.specs.Sources.{IsSourceFault};
 ghost use Rattle.streaming.specs.Readings.{of_stream};
 ghost use Rattle.scanning.specs.Scans.{ScanTotalView, with_scans};
+ghost use Rattle.streaming.specs.Batches.{read_length};
 ghost use Rattle.streaming.specs.ScannedBatches.{IsBatchRead, IsReadWhole, IsScanOfBatch};
+ghost use Rattle.streaming.specs.ScannedSoFar.{IsScannedTo};
 
 use crate::OutOfMemory;
 use crate::batch::Batch;
@@ -14,6 +16,7 @@ use outcomes::Settings;
 use pipelines::{Crew, FreeGate, run_first};
 use scanning::{ScanTotal, batch_inputs};
 use std::alloc::Global;
+use std::mem;
 use std::sync::{Arc, Wait};
 use std::thread::{Threads, join_mut};
 
@@ -54,19 +57,75 @@ pub fn scan_source<R: Threads + Wait + Sync, S: Source>(
     ensures failed { IsErrOf result SourceFault.ReadFailed ↔ (S.has_failed source.new ≡ true) }
 {
     let mut reader = BatchReader::new(alloc, settings.limit, settings.morsel, BATCH_BYTES)?;
-    let mut batch = reader.next_batch(source)?;
+    let batch = reader.next_batch(source)?;
     if batch.is_last && Division::of(batch.cut.length(), settings.crew.workers).blocks == 1 {
         return Ok(WholeSource::Short(batch.cut));
     }
-    let mut total = ScanTotal::empty(alloc);
-    while !batch.is_last {
-        let (scans, next) = scan_ahead(rt, alloc, &batch, as_of, settings, &mut reader, source);
-        reader.reuse(batch);
-        batch = next?;
-        take_in(&mut total, scans)?;
+    let total = ScanTotal::empty(alloc);
+    let mut scanned = ScannedSoFar {
+        reader,
+        total,
+        batch,
+    };
+    while !scanned.batch.is_last {
+        scanned.go_on(rt, alloc, source, as_of, settings)?;
     }
-    take_in(&mut total, scan(rt, alloc, &batch, as_of, settings))?;
-    Ok(WholeSource::Long(total))
+    Ok(WholeSource::Long(scanned.with_last(rt, alloc, as_of, settings)?))
+}
+
+/// What the scans of a source's batches add up to so far, its reader, and the batch behind them.
+#[derive(Drop)]
+struct ScannedSoFar {
+    reader: BatchReader,
+    total: ScanTotal,
+    batch: Batch,
+}
+
+impl ScannedSoFar {
+    /// Scans the batch, while the next one is read.
+    fn go_on<R: Threads + Wait + Sync, S: Source>(
+        &mut self,
+        rt: &R,
+        alloc: Global,
+        source: &mut S,
+        as_of: Option<u32>,
+        settings: Settings,
+    ) -> Result<(), SourceFault>
+        requires source { S.has_failed source.old ≡ false }
+        requires more { self.old.batch.is_last ≡ false }
+        ensures to { OnOk result ((before : S)
+            → IsScannedTo S.Source settings.limit settings.morsel as_of settings.parts before source.old self.old
+            → IsScannedTo S.Source settings.limit settings.morsel as_of settings.parts before source.new self.new) }
+        ensures longer { OnOk result (self.new.batch.is_last ≡ false
+            → read_length self.old.reader < read_length self.new.reader) }
+        ensures fault { IfErr result (λ fault. (before : S)
+            → IsScannedTo S.Source settings.limit settings.morsel as_of settings.parts before source.old self.old
+            → IsSourceFault (of_stream S.Source settings.limit settings.morsel before source.new) fault) }
+        ensures failed { IsErrOf result SourceFault.ReadFailed ↔ (S.has_failed source.new ≡ true) }
+    {
+        let reader = &mut self.reader;
+        let (scans, next) = scan_ahead(rt, alloc, &self.batch, as_of, settings, reader, source);
+        let batch = mem::replace(&mut self.batch, next?);
+        self.reader.reuse(batch);
+        Ok(take_in(&mut self.total, scans)?)
+    }
+
+    /// The total with the scans of the batch, which is the last one.
+    fn with_last<R: Threads + Wait + Sync>(
+        mut self,
+        rt: &R,
+        alloc: Global,
+        as_of: Option<u32>,
+        settings: Settings,
+    ) -> Result<ScanTotal, OutOfMemory>
+        ensures { IfOk result (λ total. (last : ScanTotalView) × IsScanOfBatch self.batch as_of settings.parts last
+            × (total ≡ with_scans self.total last)) }
+    {
+        let scans = scan(rt, alloc, &self.batch, as_of, settings);
+        take_in(&mut self.total, scans)?;
+        let ScannedSoFar { total, .. } = self;
+        Ok(total)
+    }
 }
 
 /// Adds the scans of a batch to the total.

@@ -1,14 +1,28 @@
-//! Tests of the crates of rows, texts and queries, where no clause speaks: that each call succeeds once there is memory
-//! and leaves what stood if it is refused; how many bytes a list takes, which rows are searched where they lie, and how
-//! few orders are kept for nothing. What is shown here and proved nowhere, `docs/PROOFS.md` lists.
+//! Tests of how bytes are read and rows are kept, where no clause speaks: bodies byte by byte, frames, cuts and
+//! batches; readers and files that fail or give few bytes a call; morsels that are gathered in any order; rows, texts
+//! and queries. Each call succeeds once there is memory, and leaves what stood if it is refused, each allocation in
+//! turn; lists take as many bytes as they say, rows are searched where they lie, and few orders are kept for nothing.
+//! What is shown here and proved nowhere, `docs/PROOFS.md` lists.
 #![tactic(auto)]
 
 #[cfg(test)]
 mod bar_ranges;
 #[cfg(test)]
+mod batches;
+#[cfg(test)]
+mod blocks;
+#[cfg(test)]
+mod bodies;
+#[cfg(test)]
 mod breaks;
 #[cfg(test)]
 mod by_threads;
+#[cfg(test)]
+mod cuts;
+#[cfg(test)]
+mod days;
+#[cfg(test)]
+mod devices;
 #[cfg(test)]
 mod lines;
 #[cfg(test)]
@@ -33,5 +47,7 @@ mod rooms;
 mod rows;
 #[cfg(test)]
 mod sales;
+#[cfg(test)]
+mod scans;
 #[cfg(test)]
 mod tables;

@@ -64,30 +64,39 @@ pub fn fields_of(alloc: Global, word: &str) -> io::Result<Vec<&str>> {
     Ok(word.split(['(', ',']).collect(alloc)?)
 }
 
+/// The form of a word.
 fn form_of(alloc: Global, word: &str) -> io::Result<Form> {
     let fields = fields_of(alloc, word)?;
-    match *fields.as_slice() {
+    order_of(alloc, fields.as_slice())
+}
+
+/// The form of a name and its fields.
+fn order_of(alloc: Global, fields: &[&str]) -> io::Result<Form> {
+    match *fields {
         ["R", locate, stock] => Ok(Form::R(number(locate)?, stock_of(alloc, stock)?)),
         ["A", order_no, price] => Ok(Form::A(number(order_no)?, number(price)?)),
         ["F", order_no, price] => Ok(Form::F(number(order_no)?, number(price)?)),
         ["U", old, new, price] => Ok(Form::U(number(old)?, number(new)?, number(price)?)),
         ["B", trade_no] => Ok(Form::B(number(trade_no)?)),
+        _ => sale_of(fields),
+    }
+}
+
+/// The same, but of no order, break or directory entry.
+fn sale_of(fields: &[&str]) -> io::Result<Form> {
+    match *fields {
         ["E", order_no, shares, trade_no] => Ok(Form::E(
             number(order_no)?,
             number(shares)?,
             number(trade_no)?,
         )),
-        ["C", order_no, shares, trade_no, printable, price] => {
-            let printable = printable.as_bytes().first().copied().unwrap_or(b' ');
-            let (order_no, shares) = (number(order_no)?, number(shares)?);
-            Ok(Form::C(
-                order_no,
-                shares,
-                number(trade_no)?,
-                printable,
-                number(price)?,
-            ))
-        }
+        ["C", order_no, shares, trade_no, printable, price] => Ok(Form::C(
+            number(order_no)?,
+            number(shares)?,
+            number(trade_no)?,
+            printable.as_bytes().first().copied().unwrap_or(b' '),
+            number(price)?,
+        )),
         ["P", shares, price, trade_no] => {
             Ok(Form::P(number(shares)?, number(price)?, number(trade_no)?))
         }

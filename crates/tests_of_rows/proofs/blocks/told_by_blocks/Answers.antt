@@ -1,5 +1,5 @@
 use Rattle.block_scan.proofs.BlocksAndAttempts.{attempts_of}
-use Rattle.tests_of_bytes.proofs.blocks.told_by_blocks.Goals as goal
+use Rattle.tests_of_rows.proofs.blocks.told_by_blocks.Goals as goal
 
 pub join-requires : goal.join-requires
 join-requires g c =
