@@ -67,10 +67,7 @@ impl Asked<'_> {
                 text = other;
                 usual = text.len();
             } else if text.get(..usual) != Some(other.as_slice()) {
-                text.extend_from_slice(b"but by ")?;
-                text.extend_from_slice(way.as_bytes())?;
-                text.push(b'\n')?;
-                text.extend_from_slice(other.as_slice())?;
+                append_other(&mut text, way.as_str(), other.as_slice())?;
             }
         }
         Ok(text)
@@ -99,6 +96,14 @@ impl Asked<'_> {
         }
         append_values(alloc, out, from, to, last.as_slice())
     }
+}
+
+/// Appends the answer by another way.
+fn append_other(text: &mut Vec<u8>, way: &str, other: &[u8]) -> io::Result<()> {
+    text.extend_from_slice(b"but by ")?;
+    text.extend_from_slice(way.as_bytes())?;
+    text.push(b'\n')?;
+    Ok(text.extend_from_slice(other)?)
 }
 
 /// Appends an answer and the values that have it, if there is one.

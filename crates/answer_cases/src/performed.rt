@@ -23,6 +23,19 @@ pub(crate) fn append_performed<R: Threads + Wait + Sync>(
     day: &[u8],
     out: &mut Vec<u8>,
 ) -> io::Result<()> {
+    let words = words_of(alloc, given, query)?;
+    let streamed = performed(rt, alloc, words.as_slice(), day, Reading::Stream)?;
+    out.extend_from_slice(streamed.as_slice())?;
+    let blocks = performed(rt, alloc, words.as_slice(), day, Reading::Blocks)?;
+    if blocks.as_slice() != streamed.as_slice() {
+        out.extend_from_slice("but by blocks\n".as_bytes())?;
+        out.extend_from_slice(blocks.as_slice())?;
+    }
+    Ok(())
+}
+
+/// The words of a command line, in which the query stands for `QUERY`.
+fn words_of(alloc: Global, given: &[String], query: &str) -> io::Result<Vec<String>> {
     let mut words = Vec::new(alloc);
     words.push(String::from_str(alloc, "itch_bars")?)?;
     for word in given {
@@ -33,14 +46,7 @@ pub(crate) fn append_performed<R: Threads + Wait + Sync>(
         };
         words.push(String::from_str(alloc, word)?)?;
     }
-    let streamed = performed(rt, alloc, words.as_slice(), day, Reading::Stream)?;
-    out.extend_from_slice(streamed.as_slice())?;
-    let blocks = performed(rt, alloc, words.as_slice(), day, Reading::Blocks)?;
-    if blocks.as_slice() != streamed.as_slice() {
-        out.extend_from_slice("but by blocks\n".as_bytes())?;
-        out.extend_from_slice(blocks.as_slice())?;
-    }
-    Ok(())
+    Ok(words)
 }
 
 /// The status of a command line, and what it writes.

@@ -79,9 +79,23 @@ fn by_parsed<R: Threads + Wait + Sync>(
     if name == "plain" {
         return append_answer(alloc, out, &plain(alloc, &file, query)?);
     }
+    by_cut(rt, alloc, case, query, &file, name, settings, out)
+}
+
+/// Appends what comes of it if the day is cut first.
+fn by_cut<R: Threads + Wait + Sync>(
+    rt: &R,
+    alloc: Global,
+    case: &Case,
+    query: &Query,
+    file: &DayFile,
+    name: &str,
+    settings: Settings,
+    out: &mut Vec<u8>,
+) -> io::Result<()> {
     let made = match &case.ends {
-        Some(ends) => cut_at(alloc, &file, ends.as_slice()),
-        None => cut(alloc, &file, settings.morsel),
+        Some(ends) => cut_at(alloc, file, ends.as_slice()),
+        None => cut(alloc, file, settings.morsel),
     };
     match made {
         Err(fault) => append_fault(alloc, out, &run_fault_of(fault)),
