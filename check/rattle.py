@@ -128,11 +128,11 @@ def without_success(clause):
 
 
 def says_what_is_left(clause, name):
-    """Whether a clause says what refusals leave of something borrowed, and not just that one part of it stays."""
+    """Whether a clause says what refusals leave of something borrowed, and not just that one part of it stays, or several."""
     clause = without_success(clause)
-    part = rf"(length {name}\.new|{name}\.new\.\w+) ≡ (length )?{name}\.old[.\w]*"
+    part = rf"\(?(?:length {name}\.new|{name}\.new\.\w+) ≡ (?:length )?{name}\.old[.\w]*\)?"
     is_tied = re.search(rf"\bresult\b|\b{name}\.old\b", clause)
-    return bool(re.search(rf"\b{name}\.new\b", clause) and is_tied and not re.search(rf"\{{\s*{part}\s*\}}$", clause))
+    return bool(re.search(rf"\b{name}\.new\b", clause) and is_tied and not re.search(rf"\{{\s*{part}(?:\s*×\s*{part})*\s*\}}$", clause))
 
 
 def is_silent_on_refusals(function):
