@@ -57,7 +57,7 @@ impl Case {
             "first" => append_events(alloc, self.first.get_or_insert(Vec::new(alloc)), rest),
             "second" => append_events(alloc, self.second.get_or_insert(Vec::new(alloc)), rest),
             "plain" | "run" | "run_blocks" | "answer" | "answer_blocks" | "rehearse" => {
-                Ok(self.ways.push(String::from_str(alloc, line)?)?)
+                append_word(alloc, &mut self.ways, line)
             }
             _ => Err(not_written_so()),
         }
@@ -86,11 +86,17 @@ fn append_quoted(alloc: Global, out: &mut Vec<u8>, text: &str) -> io::Result<()>
     Ok(out.extend_from_slice(piece.as_slice())?)
 }
 
-fn append_words(alloc: Global, words: &mut Vec<String>, text: &str) -> io::Result<()> {
+/// Appends the words of a text.
+pub(crate) fn append_words(alloc: Global, words: &mut Vec<String>, text: &str) -> io::Result<()> {
     for word in text.split_whitespace() {
-        words.push(String::from_str(alloc, word)?)?;
+        append_word(alloc, words, word)?;
     }
     Ok(())
+}
+
+/// Appends one word, which may be any text.
+pub(crate) fn append_word(alloc: Global, words: &mut Vec<String>, word: &str) -> io::Result<()> {
+    Ok(words.push(String::from_str(alloc, word)?)?)
 }
 
 fn append_numbers(out: &mut Vec<u64>, text: &str) -> io::Result<()> {

@@ -59,18 +59,33 @@ impl Asked<'_> {
         day: &[u8],
         morsel: Option<u64>,
     ) -> io::Result<Vec<u8>> {
-        let mut text: Vec<u8> = Vec::new(alloc);
+        let mut text = Vec::new(alloc);
         let mut usual = 0;
         for way in self.ways {
-            let other = answer_by(rt, alloc, self.case, self.query, day, way.as_str(), morsel)?;
-            if text.is_empty() {
-                text = other;
+            self.append_way(rt, alloc, day, morsel, way.as_str(), usual, &mut text)?;
+            if usual == 0 {
                 usual = text.len();
-            } else if text.get(..usual) != Some(other.as_slice()) {
-                append_other(&mut text, way.as_str(), other.as_slice())?;
             }
         }
         Ok(text)
+    }
+
+    /// Appends the answer by a way, if it isn't the usual one, which has so many bytes.
+    fn append_way<R: Threads + Wait + Sync>(
+        &self,
+        rt: &R,
+        alloc: Global,
+        day: &[u8],
+        morsel: Option<u64>,
+        way: &str,
+        usual: usize,
+        text: &mut Vec<u8>,
+    ) -> io::Result<()> {
+        let mut other = Vec::new(alloc);
+        answer_by(
+            rt, alloc, self.case, self.query, day, way, morsel, &mut other,
+        )?;
+        append_if_other(text, usual, way, other.as_slice())
     }
 
     /// Appends what comes of each of the values. Values that follow one another and have one answer are told together.
@@ -98,11 +113,16 @@ impl Asked<'_> {
     }
 }
 
-/// Appends the answer by another way.
-fn append_other(text: &mut Vec<u8>, way: &str, other: &[u8]) -> io::Result<()> {
-    text.extend_from_slice(b"but by ")?;
-    text.extend_from_slice(way.as_bytes())?;
-    text.push(b'\n')?;
+/// Appends an answer if it isn't the usual one, which has so many bytes, behind the way that it is by; or the first.
+fn append_if_other(text: &mut Vec<u8>, usual: usize, way: &str, other: &[u8]) -> io::Result<()> {
+    if usual > 0 && text.get(..usual) == Some(other) {
+        return Ok(());
+    }
+    if usual > 0 {
+        text.extend_from_slice(b"but by ")?;
+        text.extend_from_slice(way.as_bytes())?;
+        text.push(b'\n')?;
+    }
     Ok(text.extend_from_slice(other)?)
 }
 

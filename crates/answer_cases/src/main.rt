@@ -15,7 +15,7 @@ mod performed;
 mod values;
 mod ways;
 
-use case::Case;
+use case::{Case, append_word};
 use found_answers::append_answers;
 use std::alloc::Global;
 use std::io::{self, BufRead, BufReader, Write};
@@ -97,7 +97,7 @@ impl Copied {
             return append_answers(rt, alloc, &self.case, self.usual.as_slice(), &mut self.text);
         }
         match line.strip_prefix("usually ") {
-            Some(way) => Ok(self.usual.push(String::from_str(alloc, way)?)?),
+            Some(way) => append_word(alloc, &mut self.usual, way),
             None => self.case.read(alloc, line),
         }
     }

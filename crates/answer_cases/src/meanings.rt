@@ -27,18 +27,27 @@ pub(crate) fn append_meaning(alloc: Global, out: &mut Vec<u8>, text: &str) -> io
 fn append_read(alloc: Global, out: &mut Vec<u8>, text: &str) -> io::Result<Vec<u8>> {
     let mut written = Vec::new(alloc);
     match parse(alloc, text) {
-        Ok(query) => {
-            write(&mut written, &query)?;
-            if written.len() > LONG_TEXT && written.as_slice() == text.as_bytes() {
-                out.extend_from_slice(b"the very text")?;
-            } else {
-                out.extend_from_slice(written.as_slice())?;
-            }
-            append_numbers(alloc, out, &query)?;
-        }
+        Ok(query) => append_query(alloc, out, &query, text, &mut written)?,
         Err(fault) => append_fault(alloc, out, &RunFault::Query(fault))?,
     }
     Ok(written)
+}
+
+/// Appends the line of a query that was read from a text, and writes its canonical text.
+fn append_query(
+    alloc: Global,
+    out: &mut Vec<u8>,
+    query: &Query,
+    text: &str,
+    written: &mut Vec<u8>,
+) -> io::Result<()> {
+    write(written, query)?;
+    if written.len() > LONG_TEXT && written.as_slice() == text.as_bytes() {
+        out.extend_from_slice(b"the very text")?;
+    } else {
+        out.extend_from_slice(written.as_slice())?;
+    }
+    append_numbers(alloc, out, query)
 }
 
 /// Appends the line of a fault.

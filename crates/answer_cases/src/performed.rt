@@ -1,4 +1,5 @@
 //! What comes of a command line.
+use crate::case::append_word;
 use command_line::{Counted, CountedSink, Job, command, explain, perform, perform_blocks};
 use std::alloc::Global;
 use std::io;
@@ -37,14 +38,14 @@ pub(crate) fn append_performed<R: Threads + Wait + Sync>(
 /// The words of a command line, in which the query stands for `QUERY`.
 fn words_of(alloc: Global, given: &[String], query: &str) -> io::Result<Vec<String>> {
     let mut words = Vec::new(alloc);
-    words.push(String::from_str(alloc, "itch_bars")?)?;
+    append_word(alloc, &mut words, "itch_bars")?;
     for word in given {
         let word = if word.as_str() == "QUERY" {
             query
         } else {
             word.as_str()
         };
-        words.push(String::from_str(alloc, word)?)?;
+        append_word(alloc, &mut words, word)?;
     }
     Ok(words)
 }

@@ -1,5 +1,5 @@
 //! Each way in which a case is answered.
-use crate::case::Case;
+use crate::case::{Case, append_words};
 use crate::events::falling;
 use crate::meanings::append_fault;
 use command_line::command;
@@ -14,8 +14,8 @@ use std::sync::{Arc, Wait};
 use std::thread::Threads;
 use tests_support::{in_memory, not_written_so};
 
-/// The answer, or the line of the fault, in a way: the name of a call, and the options of the program's words; with
-/// this size of morsels in place of its own, if there is one.
+/// Appends the answer, or the line of the fault, in a way: the name of a call, and the options of the program's words;
+/// with this size of morsels in place of its own, if there is one.
 pub(crate) fn answer_by<R: Threads + Wait + Sync>(
     rt: &R,
     alloc: Global,
@@ -24,32 +24,28 @@ pub(crate) fn answer_by<R: Threads + Wait + Sync>(
     day: &[u8],
     way: &str,
     morsel: Option<u64>,
-) -> io::Result<Vec<u8>> {
+    out: &mut Vec<u8>,
+) -> io::Result<()> {
     let (name, options) = way.split_once(' ').unwrap_or((way, ""));
     let settings = settings_of(alloc, options, morsel)?;
-    let mut out = Vec::new(alloc);
     match name {
-        "run" => by_run(rt, alloc, day, query, settings, &mut out)?,
-        "run_blocks" => by_run_blocks(rt, alloc, day, query, settings, &mut out)?,
+        "run" => by_run(rt, alloc, day, query, settings, out),
+        "run_blocks" => by_run_blocks(rt, alloc, day, query, settings, out),
         _ => match parse(alloc, query) {
-            Err(fault) => append_fault(alloc, &mut out, &RunFault::Query(fault))?,
-            Ok(query) => by_parsed(rt, alloc, case, &query, day, name, settings, &mut out)?,
+            Err(fault) => append_fault(alloc, out, &RunFault::Query(fault)),
+            Ok(query) => by_parsed(rt, alloc, case, &query, day, name, settings, out),
         },
     }
-    Ok(out)
 }
 
 /// The settings that options of the program's words give.
 fn settings_of(alloc: Global, options: &str, morsel: Option<u64>) -> io::Result<Settings> {
     let mut words = Vec::new(alloc);
-    for word in ["itch_bars", "-", "sales"] {
-        words.push(String::from_str(alloc, word)?)?;
-    }
-    for word in options.split_whitespace() {
-        words.push(String::from_str(alloc, word)?)?;
-    }
+    append_words(alloc, &mut words, "itch_bars - sales")?;
+    append_words(alloc, &mut words, options)?;
     if let Some(morsel) = morsel {
-        words.push(format!(in alloc; "--morsel={morsel}")?)?;
+        let word = format!(in alloc; "--morsel={morsel}")?;
+        append_words(alloc, &mut words, word.as_str())?;
     }
     match command(alloc, words.as_slice()) {
         Ok(job) => Ok(job.settings),
