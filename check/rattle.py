@@ -128,19 +128,19 @@ def without_success(clause):
 
 
 def says_what_is_left(clause, name):
-    """Whether a clause says what refusals leave of something borrowed, and not just that one part of it stays, or several."""
+    """Whether a clause says what refusals leave of something borrowed, and not just that some parts of it stay."""
     clause = without_success(clause)
-    part = rf"\(?(?:length {name}\.new|{name}\.new\.\w+) ≡ (?:length )?{name}\.old[.\w]*\)?"
-    is_tied = re.search(rf"\bresult\b|\b{name}\.old\b", clause)
-    return bool(re.search(rf"\b{name}\.new\b", clause) and is_tied and not re.search(rf"\{{\s*{part}(?:\s*×\s*{part})*\s*\}}$", clause))
+    body = re.sub(r"^[^{]*\{|\}$|\b(OnErr|IfErr) *result\b|λ *_\.|[()]", " ", clause.strip()).split("×")
+    part = rf" *(length +{name}\.new|{name}\.new\.(?!items\b)\w+) ≡ (length +)?{name}\.old[.\w]* *| *{name}\.new ≡ record {name}\.old \{{.*"
+    is_told = all(re.search(it, clause) for it in (rf"\b{name}\.new\b", rf"\bresult\b|\b{name}\.old\b"))
+    return is_told and not all(re.fullmatch(part, it, re.S) for it in body)
 
 
 def is_silent_on_refusals(function):
     """Whether a function can refuse, changes what it borrows, and no clause says what a refusal leaves of that."""
-    borrowed = re.findall(r"(\w+) *: *&(?:'\w+ )?mut\b", function.parameters)
-    borrowed += ["self"] if re.search(r"&(?:'\w+ )?mut self\b", function.parameters) else []
-    can_refuse = re.match(r"-> *(Result|Option<OutOfMemory)\b", function.result)
-    return can_refuse and any(not any(says_what_is_left(it, name) for it in function.ensures) for name in borrowed)
+    borrowed = [it[0] or it[1] for it in re.findall(r"(\w+) *: *&(?:'\w+ )?mut\b|&(?:'\w+ )?mut (self)\b", function.parameters)]
+    silent = [name for name in borrowed if not any(says_what_is_left(it, name) for it in function.ensures)]
+    return silent and re.match(r"-> *(Result|Option<OutOfMemory)\b", function.result)
 
 
 def ghost_members(path):

@@ -86,15 +86,14 @@ class OfProgram(Case):
 
     def test_readings_that_fail(self):
         """Each reading of a byte fails in turn, by an error of the device, an interruption, or want of bytes, until a run has fewer;
-        those behind it would be well, and a write takes few bytes. Several workers may read a block twice, and the first reading
-        counts."""
+        those behind it would be well, and a write takes few bytes."""
         failed, sales = Ran(4, b"", READING.encode()), Ran(0, SALE.encode(), b"")
         for way, error in itertools.product(WAYS, (5, 4, 11)):
             for reading in itertools.count(1):
                 ran, report = self.over(way, self.day, GIVES=1, TAKES=7, AT=reading, ERROR=error)
                 if all(call.count >= 0 for call in report.calls):
                     break
-                self.assertIn(ran, (failed, sales if way == SEVERAL else failed), f"{way}, reading {reading}, {error}")
+                self.assertEqual(ran, failed, f"{way}, reading {reading}, {error}")
             self.assertEqual((ran, reading > len(DAY)), (sales, True), way)
         # All of a stream is read before a fault is told: also a reading that fails behind it.
         for day in (DAY[:3], DAY + DAY):

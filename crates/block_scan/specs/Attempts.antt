@@ -13,6 +13,7 @@ use Rattle.day_file.specs.declared.source_fault.SourceFault.{SourceFault}
 use Rattle.block_scan.specs.declared.scanned_block.ScannedBlock.{ScannedBlock}
 use Rattle.block_scan.specs.declared.scanned_block.Tail.TheVariants.{More}
 use Rattle.block_scan.specs.declared.request.Request.{Request}
+use Rattle.block_scan.specs.declared.guessing.TheConstants.{LOOKED_AT}
 use Rattle.block_scan.specs.Pieces.{Asked, IsAskable}
 
 -- S is sources
@@ -56,11 +57,12 @@ module _ {S : Type 0} where
   abbrev pub AreOf : List (BlockView S) → List (AttemptView S) → Type 0
   AreOf blocks attempts = map (λ attempt. attempt.asked) attempts ≡ map (λ block. block.asked) blocks
 
-  -- what came of a block: of its source and request; a piece begins at or behind the block's start, and ends at or
-  -- behind its end, or where the source does
+  -- what came of a block: of its source and request; a piece begins at the block's start or a little behind it, and
+  -- ends at or behind its end, or where the source does
   pub record IsAttemptAt (block : BlockView S) (attempt : AttemptView S) : Type 0 where
     pub asked : attempt.asked ≡ block.asked
     pub from : IfOk attempt.found (λ piece. block.from ≤ piece.start)
+    pub near : IfOk attempt.found (λ piece. piece.start ≤ block.from + LOOKED_AT)
     pub to : IfOk attempt.found (λ piece. piece.tail ≡ More → block.to ≤ piece.end)
 
   -- there is at least one block, and all are of one source with one request, which may be made

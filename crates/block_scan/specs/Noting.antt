@@ -1,5 +1,5 @@
 -- What the word of a watch is a sign of.
--- Derived: it is used inside proofs, and the clauses of `Watched` say what follows from it.
+-- Derived: it is used inside proofs, and the clauses of `Watch` say what follows from it.
 use Rattle.std.specs.Prelude.{◌≡◌, ℕ, true, List, [], ◌∷◌}
 use Rattle.logbook.specs.Pages.{Book, Cell, Named, Step, View}
 

@@ -4,6 +4,7 @@ ghost use Rattle.base.specs.declared.limits.TheConstants.{LONGEST_FILE};
 ghost use Rattle.base.specs.Among.{AreBytes};
 ghost use Rattle.day_file.specs.declared.frame.TheConstants.{LONGEST_FRAME};
 ghost use Rattle.block_scan.specs.Blocks.{IsBlocksFault};
+ghost use Rattle.block_scan.specs.declared.guessing.TheConstants.{LOOKED_AT};
 ghost use Rattle.block_scan.specs.Pieces.{IsAskable, IsPiece, IsTried};
 ghost use Rattle.scanning.specs.Scans.{scan_of};
 
@@ -34,6 +35,7 @@ pub(crate) fn scan_block<S: BlockSource>(
 ) -> Result<ScannedBlock, SourceFault>
     ensures tried { IsTried S.BlockSource.own block.now.asked.source block.now.asked.request result }
     ensures from { IfOk result (λ piece. block.now.from ≤ piece.start) }
+    ensures near { IfOk result (λ piece. piece.start ≤ block.now.from + LOOKED_AT) }
     ensures to { IfOk result (λ piece. piece.tail ≡ Tail.More → block.now.to ≤ piece.end) }
 {
     let (source, request) = (&*block.source, block.request);

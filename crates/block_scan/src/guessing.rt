@@ -1,13 +1,14 @@
 //! Guesses of where a frame begins.
-ghost use Rattle.std.specs.Prelude.{◌≤◌, length, IfErr, IfOk};
+ghost use Rattle.std.specs.Prelude.{◌+◌, ◌≤◌, length, IfErr, IfOk};
 ghost use Rattle.base.specs.declared.limits.TheConstants.{LONGEST_FILE};
+ghost use Rattle.block_scan.specs.declared.guessing.TheConstants.{LOOKED_AT};
 
 use crate::block_source::BlockSource;
 use day_file::{DeviceFailed, Frames};
 use itch_messages::read;
 
 /// How many bytes are looked at for where a frame begins.
-const LOOKED_AT: usize = 4_096;
+pub(crate) const LOOKED_AT: usize = 4_096;
 
 /// How many frames in a row must look like messages.
 const FRAMES_IN_A_ROW: usize = 16;
@@ -17,12 +18,13 @@ const SHORTEST_BODY: usize = 12;
 
 const LONGEST_BODY: usize = 50;
 
-/// A place from this one on where a frame seems to begin, within the limit. Nothing more is
+/// A place from this one on where a frame seems to begin, not far from it and within the limit. Nothing more is
 /// promised of it: what is found from there on counts only if the piece before it ends there.
 pub(crate) fn guess<S: BlockSource>(source: &S, from: u64, limit: u64) -> Result<u64, DeviceFailed>
     requires from { from ≤ limit }
     ensures within { IfOk result (λ place. place ≤ limit) }
     ensures from { IfOk result (λ place. from ≤ place) }
+    ensures near { IfOk result (λ place. place ≤ from + LOOKED_AT) }
     ensures failed { IfErr result (λ _. S.FailsAt source.now from) }
 {
     if from == 0 {

@@ -11,6 +11,7 @@
 #![tactic(auto)]
 
 mod calls;
+pub mod refusal_laws;
 pub mod run_laws;
 
 pub use answers::{Answer, DayFault, Text};
