@@ -144,7 +144,7 @@ class Trusted(unittest.TestCase):
         self.assertEqual(sorted(re.findall(r"axioms=\d+|\S+=trusted|native=\S+", said[2])), sorted(stand))
 
     def test_threads_share_what_the_kit_gives_alone(self):
-        own = re.compile(r"\b(Atomic\w*|atomic|\w*Cell|cell|Mutex\w*|RwLock\w*|Condvar|Barrier|Once|OnceLock|LazyLock|Perch|static|unsafe)\b|\bOrdering::")
+        own = re.compile(r"\b(Atomic\w*|atomic|\w*Cell|cell|Mutex\w*|RwLock\w*|Condvar|Barrier|Once|OnceLock|LazyLock|Perch|static|unsafe|thread_local|mpsc|Rc)\b|\bOrdering::")
         for path in (path for crate in PRODUCT for path in sources(crate)):
             self.assertEqual([], [it[0] for it in own.finditer(re.sub(r"'static\b", "", code_of(path.read_text())))], path)
         for name, user in (("atomic_table", "dispatcher"), ("crossbeam_channel", "pipelines"), ("logbook", "block_scan")):
