@@ -1,7 +1,7 @@
 //! Claims and marks of a dispatcher: on one thread and on four, by turns, and while memory is refused.
-ghost use Rattle.std.specs.Prelude.{◌≡◌, ◌<◌, ◌≤◌, length, All, OnOk};
+ghost use Rattle.std.specs.Prelude.{◌≡◌, ◌*◌, ◌%◌, ◌<◌, ◌≤◌, length, All, Contains};
 ghost use Rattle.base.specs.declared.limits.TheConstants.{MOST_SEATS, MOST_TASKS};
-ghost use Rattle.dispatcher.specs.Seats.{tasks_of, seats_of, claims, IsSameSeat, IsSeatOf, IsUnused, MayClaim, WasGiven};
+ghost use Rattle.dispatcher.specs.Seats.{tasks_of, seats_of, claims, claim_of, IsSameSeat, IsSeatOf, IsUnused, MayClaim};
 
 use dispatcher::{Claim, Dispatcher, OutOfMemory, Seat, SettleRefused, Tally};
 use linked_list_allocator::LocalHeap;
@@ -13,10 +13,18 @@ use std::thread;
 use std::thread::Threads;
 use tests_support::{are_all, counts};
 
-/// Marks a task that the seat was given, if that is wanted.
-fn mark_if<A: Allocator>(dispatcher: &Dispatcher<A>, seat: &mut Seat, task: u32, marks: bool)
+/// Marks a task that the seat was given by this claim, if that is wanted.
+fn mark_if<A: Allocator>(
+    dispatcher: &Dispatcher<A>,
+    seat: &mut Seat,
+    claim: Claim,
+    task: u32,
+    marks: bool,
+)
     requires own { IsSeatOf dispatcher.now seat.old }
-    requires given { WasGiven (tasks_of dispatcher.now) seat.old task }
+    requires claimed { Contains (claims seat.old) (claim_of claim) }
+    requires more { claim_of claim < 2 * tasks_of dispatcher.now }
+    requires task { task ≡ claim_of claim % tasks_of dispatcher.now }
     ensures seat { IsSameSeat seat.old seat.new }
     ensures claims { claims seat.new ≡ claims seat.old }
 {
@@ -66,7 +74,6 @@ impl Noted {
 }
 
 /// A seat claims until no task is left, notes its claims, and marks what it was given if that is wanted.
-#[tactic(auto, using(dispatcher::proofs::Rising::above_snoc, dispatcher::proofs::Rising::above_le))]
 fn work(dispatcher: &Dispatcher, seat: &mut Seat, marks: bool, noted: &Noted)
     requires own { IsSeatOf dispatcher.now seat.old }
     requires unused { IsUnused seat.old }
@@ -78,7 +85,7 @@ fn work(dispatcher: &Dispatcher, seat: &mut Seat, marks: bool, noted: &Noted)
         let Claim::Task { claim: _, task } = claim else {
             return;
         };
-        mark_if(dispatcher, seat, task, marks);
+        mark_if(dispatcher, seat, claim, task, marks);
     }
 }
 
@@ -155,6 +162,7 @@ fn four_threads_share_the_claims(rt: HostRuntime) -> Result<(), Fail> {
 }
 
 /// A claim that gives a task, which is then marked if that is wanted.
+#[tactic(auto, using(std::proofs::lemmas::Grind::elements))]
 fn given<A: Allocator, R: Abort>(
     rt: &R,
     dispatcher: &Dispatcher<A>,
@@ -168,15 +176,16 @@ fn given<A: Allocator, R: Abort>(
     ensures seat { IsSameSeat seat.old seat.new }
     ensures more { MayClaim (tasks_of dispatcher.now) seat.new }
 {
+    let next = dispatcher.claim(seat);
     let Claim::Task {
         claim: number,
         task: own,
-    } = dispatcher.claim(seat)
+    } = next
     else {
         panic!(rt; "no task is left")
     };
     assert!(rt; number == claim && own == task);
-    mark_if(dispatcher, seat, own, marks);
+    mark_if(dispatcher, seat, next, own, marks);
 }
 
 /// Three tasks are given, and two of them marked.
@@ -241,24 +250,17 @@ fn turns<A: Allocator, R: Abort>(rt: &R, dispatcher: &Dispatcher<A>, a: &mut Sea
     done(rt, dispatcher, b, 7);
 }
 
-fn by_turns<A: Allocator, R: Abort>(
-    rt: &R,
-    dispatcher: &Dispatcher<A>,
-    seats: &mut Vec<Seat, A>,
-) -> Result<(), OutOfMemory>
+fn by_turns<A: Allocator, R: Abort>(rt: &R, dispatcher: &Dispatcher<A>, seats: &mut Vec<Seat, A>)
     requires size { tasks_of dispatcher.now ≡ 3 }
     requires count { length seats.old.items ≡ 2 }
     requires own { All (IsSeatOf dispatcher.now) seats.old.items }
     requires unused { All IsUnused seats.old.items }
-    ensures count { OnOk result (length seats.new.items ≡ 2) }
-    ensures own { OnOk result (All (IsSeatOf dispatcher.now) seats.new.items) }
+    ensures count { length seats.new.items ≡ 2 }
+    ensures own { All (IsSeatOf dispatcher.now) seats.new.items }
 {
-    let mut b = seats.pop().unwrap();
-    let mut a = seats.pop().unwrap();
-    turns(rt, dispatcher, &mut a, &mut b);
-    seats.push(a)?;
-    seats.push(b)?;
-    Ok(())
+    let (a, others) = seats.as_mut_slice().split_first_mut().unwrap();
+    let (b, _) = others.split_first_mut().unwrap();
+    turns(rt, dispatcher, a, b);
 }
 
 /// Whether the dispatcher ends with the tally of the turns.
@@ -268,10 +270,13 @@ fn has_tally_of_turns<A: Allocator + Clone>(dispatcher: Dispatcher<A>, seats: Ve
 {
     match dispatcher.settle(seats) {
         Ok(Tally { claims, marks }) => {
-            claims == 8
-                && (0..4)
-                    .map(|task| marks.holds(task))
-                    .eq([true, false, true, false])
+            let marked = (
+                marks.holds(0),
+                marks.holds(1),
+                marks.holds(2),
+                marks.holds(3),
+            );
+            claims == 8 && marked == (true, false, true, false)
         }
         Err(_) => false,
     }
@@ -280,7 +285,7 @@ fn has_tally_of_turns<A: Allocator + Clone>(dispatcher: Dispatcher<A>, seats: Ve
 #[test]
 fn two_seats_take_turns(rt: HostRuntime) -> Result<(), Fail> {
     let (dispatcher, mut seats) = Dispatcher::new(rt.alloc(), 3, 2)?;
-    by_turns(&rt, &dispatcher, &mut seats)?;
+    by_turns(&rt, &dispatcher, &mut seats);
     assert!(rt; has_tally_of_turns(dispatcher, seats));
     Ok(())
 }
@@ -288,7 +293,7 @@ fn two_seats_take_turns(rt: HostRuntime) -> Result<(), Fail> {
 /// Whether turns on this heap have their tally, for which memory is refused at first.
 fn is_settled_at_last<R: Abort>(rt: &R, heap: &LocalHeap) -> Result<bool, OutOfMemory> {
     let (dispatcher, mut seats) = Dispatcher::new(heap, 3, 2)?;
-    by_turns(rt, &dispatcher, &mut seats)?;
+    by_turns(rt, &dispatcher, &mut seats);
     let rest = Vec::<u8, &LocalHeap>::with_capacity(heap, heap.free())?;
     let Err(SettleRefused { dispatcher, seats }) = dispatcher.settle(seats) else {
         return Ok(false);

@@ -1,13 +1,15 @@
 //! Pipelines of two gatherers, by schedules.
-ghost use Rattle.std.specs.Prelude.{◌≡◌, ◌≤◌};
+ghost use Rattle.std.specs.Arc.{arc_value};
+ghost use Rattle.std.specs.Prelude.{◌≤◌};
+ghost use Rattle.schedules.specs.Schedules.{AreOver};
 
 use crate::link::OneAndTwo;
-use pipelines::{Gathering, OutOfMemory};
+use pipelines::{Gathering, Inputs, OutOfMemory};
 use schedules::{Event, Rehearsed, apply, rehearse_pair};
 use std::alloc::Global;
 use std::sync::Arc;
 use std::test::Fail;
-use tests_support::{NUMBERS, Watch, shared_inputs_of};
+use tests_support::{NUMBERS, Sum, Watch, shared_inputs_of};
 
 /// A task arrives at gatherer 0.
 fn at_0(task: u32) -> Event {
@@ -18,6 +20,12 @@ fn at_0(task: u32) -> Event {
 fn at_1(task: u32) -> Event {
     Event::Arrive { gatherer: 1, task }
 }
+
+/// Task 3 arrives at gatherer 1.
+const ARRIVAL: Event = Event::Arrive {
+    gatherer: 1,
+    task: 3,
+};
 
 /// Gatherer 1 is merged into gatherer 0.
 const MERGE: Event = Event::Merge { into: 0, other: 1 };
@@ -107,6 +115,32 @@ fn each_arrival_is_run_once_and_nothing_else(rt: HostRuntime) -> Result<(), Fail
     Ok(())
 }
 
+/// Whether an event is done or refused, as is wanted, after which these of the gatherings cover task 3.
+fn leaves(
+    alloc: Global,
+    gatherings: &mut Vec<Gathering<Sum>>,
+    inputs: &Arc<Inputs<Sum>, Global>,
+    event: &Event,
+    is_done: bool,
+    covered: [bool; 2],
+) -> bool
+    requires { AreOver (arc_value inputs.now) gatherings.old.items }
+    ensures { AreOver (arc_value inputs.now) gatherings.new.items }
+{
+    let is_right = apply(alloc, gatherings, inputs, event).is_ok() == is_done;
+    let now = gatherings.iter().map(|gathering| gathering.covers(3));
+    now.eq(covered) && is_right
+}
+
+/// Events of task 3, whether each is done, and which of two gatherings then cover the task.
+static ONE_BY_ONE: [(Event, bool, [bool; 2]); 5] = [
+    (ARRIVAL, false, [false, false]),
+    (ARRIVAL, true, [false, true]),
+    (Event::Lose { task: 3 }, true, [false, true]),
+    (MERGE, true, [true, false]),
+    (MERGE, true, [true, false]),
+];
+
 #[test]
 fn events_one_by_one(rt: HostRuntime) -> Result<(), Fail> {
     let alloc = rt.alloc();
@@ -116,16 +150,8 @@ fn events_one_by_one(rt: HostRuntime) -> Result<(), Fail> {
     let mut gatherings = Vec::new(alloc);
     gatherings.push(Gathering::new(alloc, Arc::try_clone(&inputs)?)?)?;
     gatherings.push(Gathering::new(alloc, Arc::try_clone(&inputs)?)?)?;
-    for (event, answers, covered) in [
-        (at_1(3), false, [false, false]),
-        (at_1(3), true, [false, true]),
-        (Event::Lose { task: 3 }, true, [false, true]),
-        (MERGE, true, [true, false]),
-        (MERGE, true, [true, false]),
-    ] {
-        let is_ok = apply(alloc, &mut gatherings, &inputs, &event).is_ok();
-        let now = gatherings.iter().map(|gathering| gathering.covers(3));
-        assert!(rt; now.eq(covered) && is_ok == answers);
+    for (event, is_done, covered) in &ONE_BY_ONE {
+        assert!(rt; leaves(alloc, &mut gatherings, &inputs, event, *is_done, *covered));
     }
     Ok(())
 }

@@ -108,21 +108,21 @@ fn is_ordered<R: Threads + Wait + Sync>(
     numbers: &[u64],
     halts: bool,
     crew: Crew,
-    gate: &Order,
+    holds: &'static [(Run, Run)],
     gives: Option<Sums>,
     rounds: [u64; 3],
 ) -> Result<bool, OutOfMemory>
     requires { length numbers.now ≤ MOST_TASKS }
 {
+    let gate = Order::new(holds);
     let watch = Watch::refusing(alloc, 0..refuses)?;
-    let got = sums(rt, alloc, &watch, &watch, numbers, halts, crew, gate).ok();
+    let got = sums(rt, alloc, &watch, &watch, numbers, halts, crew, &gate).ok();
     Ok(got == gives && gate.rounds() == rounds && !gate.gave_up())
 }
 
 #[test]
 fn what_each_gathered_is_merged(rt: HostRuntime) -> Result<(), Fail> {
     let (alloc, crew, three) = (rt.alloc(), TWO_AND_TWO, &NUMBERS[..3]);
-    let (overlap, turns) = (Order::new(&OVERLAP), Order::new(&TURNS));
     let (both, first) = (Some((3, 255)), Some((7, 0)));
     assert!(rt;
         is_ordered(
@@ -132,12 +132,12 @@ fn what_each_gathered_is_merged(rt: HostRuntime) -> Result<(), Fail> {
             &NUMBERS,
             false,
             crew,
-            &overlap,
+            &OVERLAP,
             both,
             [10, 2, 0]
         )?
     );
-    assert!(rt; is_ordered(&rt, alloc, 0, three, true, crew, &turns, first, [3, 1, 0])?);
+    assert!(rt; is_ordered(&rt, alloc, 0, three, true, crew, &TURNS, first, [3, 1, 0])?);
     Ok(())
 }
 
@@ -170,11 +170,10 @@ fn is_made_again<R: Threads + Wait + Sync>(
     alloc: Global,
     crew: Crew,
 ) -> Result<bool, OutOfMemory> {
-    let (gate, other) = (Order::new(&[]), Order::new(&[]));
     let (four, sums) = (&NUMBERS[..4], Some((15, 0)));
     Ok(
-        is_ordered(rt, alloc, 8, four, true, crew, &gate, sums, [4, 4, 4])?
-            && is_ordered(rt, alloc, 9, four, true, crew, &other, None, [4, 4, 1])?,
+        is_ordered(rt, alloc, 8, four, true, crew, &[], sums, [4, 4, 4])?
+            && is_ordered(rt, alloc, 9, four, true, crew, &[], None, [4, 4, 1])?,
     )
 }
 
@@ -218,12 +217,18 @@ fn ends_with<R: Wait>(rt: &R, alloc: Global, pieces: &[Sent]) -> Result<bool, Ou
     Ok(gathering.first_missing().is_none() && are_sent)
 }
 
+/// One that is sent again, one of another task's input, and one of a task that there isn't.
+static ONE_TOO_MANY: [[Sent; 3]; 3] = [
+    [(0, 0, 1), (0, 0, 1), (0, 1, 2)],
+    [(0, 0, 2), (0, 0, 1), (0, 1, 2)],
+    [(0, 2, 2), (0, 1, 2), (0, 0, 1)],
+];
+
 #[test]
 fn gathering_ends_with_the_last_task(rt: HostRuntime) -> Result<(), Fail> {
-    // One that is sent again, one of another task's input, and one of a task that there isn't.
-    assert!(rt; ends_with(&rt, rt.alloc(), &[(0, 0, 1), (0, 0, 1), (0, 1, 2)])?);
-    assert!(rt; ends_with(&rt, rt.alloc(), &[(0, 0, 2), (0, 0, 1), (0, 1, 2)])?);
-    assert!(rt; ends_with(&rt, rt.alloc(), &[(0, 2, 2), (0, 1, 2), (0, 0, 1)])?);
+    for pieces in &ONE_TOO_MANY {
+        assert!(rt; ends_with(&rt, rt.alloc(), pieces)?);
+    }
     Ok(())
 }
 
