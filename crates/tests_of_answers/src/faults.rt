@@ -4,7 +4,7 @@ use executor::{CountedSink, DayFault, QueryFault, RunFault};
 use std::alloc::Global;
 use std::test::Fail;
 
-const FAULTS: [(RunFault, u8, &str); 6] = [
+static FAULTS: [(RunFault, u8, &str); 6] = [
     (RunFault::ReadFailed, 4, "fault: reading failed\n"),
     (RunFault::OutOfMemory, 3, "fault: out of memory\n"),
     (
@@ -29,7 +29,7 @@ const FAULTS: [(RunFault, u8, &str); 6] = [
     ),
 ];
 
-const QUERY_FAULTS: [(QueryFault, &str); 7] = [
+static QUERY_FAULTS: [(QueryFault, &str); 7] = [
     (
         QueryFault::UnknownWord { at: 0 },
         "fault: query byte 0: unknown word\n",
@@ -54,7 +54,7 @@ const QUERY_FAULTS: [(QueryFault, &str); 7] = [
     (QueryFault::OutOfMemory, "fault: out of memory\n"),
 ];
 
-const DAY_FAULTS: [(DayFault, &str); 6] = [
+static DAY_FAULTS: [(DayFault, &str); 6] = [
     (
         DayFault::Truncated { place: 41 },
         "fault: place 41: message runs past the end\n",
@@ -112,17 +112,17 @@ fn is_told(alloc: Global, fault: RunFault, status: u8, line: &str) -> Result<boo
 
 #[test]
 fn faults_have_their_texts(rt: HostRuntime) -> Result<(), Fail> {
-    for (fault, status, line) in FAULTS {
-        assert!(rt; is_told(rt.alloc(), fault, status, line)?);
+    for (fault, status, line) in &FAULTS {
+        assert!(rt; is_told(rt.alloc(), *fault, *status, line)?);
     }
     Ok(())
 }
 
 #[test]
 fn faults_of_queries_have_their_texts(rt: HostRuntime) -> Result<(), Fail> {
-    for (fault, line) in QUERY_FAULTS {
+    for (fault, line) in &QUERY_FAULTS {
         assert!(rt;
-            is_told(rt.alloc(), RunFault::Query(fault), 2, line)?,
+            is_told(rt.alloc(), RunFault::Query(*fault), 2, line)?,
             "{line}"
         );
     }
@@ -131,9 +131,9 @@ fn faults_of_queries_have_their_texts(rt: HostRuntime) -> Result<(), Fail> {
 
 #[test]
 fn faults_of_days_have_their_texts(rt: HostRuntime) -> Result<(), Fail> {
-    for (fault, line) in DAY_FAULTS {
+    for (fault, line) in &DAY_FAULTS {
         assert!(rt;
-            is_told(rt.alloc(), RunFault::Day(fault), 1, line)?,
+            is_told(rt.alloc(), RunFault::Day(*fault), 1, line)?,
             "{line}"
         );
     }

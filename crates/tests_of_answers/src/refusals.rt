@@ -2,10 +2,11 @@
 //! refused in turn: what comes is the right answer, or want of memory.
 use crate::answering::{is_told, settings_of};
 use executor::{
-    Counted, CountedSink, DayFault, DayFile, LONGEST_FILE, OutOfMemory, RunFault, parse, plain, run,
+    Counted, CountedSink, DayFault, DayFile, LONGEST_FILE, OutOfMemory, Query, RunFault, parse,
+    plain, run,
 };
 use linked_list_allocator::LocalHeap;
-use std::alloc::{AllocError, Global};
+use std::alloc::{AllocError, Allocator, Global};
 use std::io::{self, Write};
 use std::sync::Wait;
 use std::test::Fail;
@@ -14,17 +15,29 @@ use tests_support::{Day, Form, MSFT, NAMED, NAMED_TEXT, UNNAMED, UNNAMED_TEXT, f
 
 const QUERY: &str = "sales where symbol in MSFT";
 
-/// Whether `plain`, with all that it keeps in this heap, answers all sales of `NAMED`.
+/// Whether `plain`, with all that it keeps in this room, answers so.
+fn is_told_in<A: Allocator + Copy>(
+    alloc: Global,
+    room: A,
+    file: &DayFile<A>,
+    query: &Query<A>,
+    want: Result<&str, DayFault>,
+) -> Result<bool, OutOfMemory> {
+    let answer = plain(room, file, query)?;
+    is_told(alloc, &answer, want)
+}
+
+/// Whether it answers all sales of `NAMED`, of which the file and the query are in this heap too.
 fn is_told_within(alloc: Global, heap: &LocalHeap, bytes: &[u8]) -> Result<bool, OutOfMemory> {
     let bytes = Vec::from_slice(heap, bytes)?;
-    let Ok(query) = parse(heap, QUERY) else {
-        return Err(AllocError);
-    };
     if bytes.len() as u64 > LONGEST_FILE {
         return Ok(false);
     }
-    let answer = plain(heap, &DayFile::of_bytes(bytes), &query)?;
-    is_told(alloc, &answer, Ok(NAMED_TEXT))
+    let file = DayFile::of_bytes(bytes);
+    match parse(heap, QUERY) {
+        Ok(query) => is_told_in(alloc, heap, &file, &query, Ok(NAMED_TEXT)),
+        Err(_) => Err(AllocError),
+    }
 }
 
 #[test]
@@ -62,7 +75,7 @@ type AskedRow = (
 );
 
 /// Queries of symbols.
-const ASKED: [AskedRow; 3] = [
+static ASKED: [AskedRow; 3] = [
     (
         "sales where symbol in MSFT,#9,MSFT",
         &SOLD,
@@ -95,8 +108,7 @@ fn is_told_by_plain(alloc: Global, asked: &AskedRow) -> Result<bool, Fail> {
     let (query, forms, want) = asked;
     let file = file_of(Day::of(alloc, forms)?.bytes)?;
     let query = parse(alloc, query)?;
-    let answer = plain(alloc, &file, &query)?;
-    Ok(is_told(alloc, &answer, *want)?)
+    Ok(is_told_in(alloc, alloc, &file, &query, *want)?)
 }
 
 /// Run also with each allocation of the process refused in turn.

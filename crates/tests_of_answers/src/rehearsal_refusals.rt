@@ -2,7 +2,7 @@
 //! answer, or want of memory.
 use crate::answering::{HEADER, is_told};
 use day_file::cut_at;
-use executor::{Cut, Event, OutOfMemory, Rehearsal, parse, rehearse};
+use executor::{Cut, Event, OutOfMemory, Query, Rehearsal, parse, rehearse};
 use std::alloc::Global;
 use std::test::Fail;
 use tests_support::{BROKEN_EARLIER, Day, Form, MSFT, file_of};
@@ -20,6 +20,19 @@ fn cut_of(alloc: Global, forms: &[Form], ends: &[u64]) -> Result<Cut, Fail> {
 }
 
 /// Whether a rehearsal with three partitions and two gatherers has this text, or misses this task of a pipeline.
+fn is_rehearsed_of(
+    alloc: Global,
+    cut: &Cut,
+    query: &Query,
+    first: &[Event],
+    second: &[Event],
+    want: Result<&str, (u8, u32)>,
+) -> Result<bool, OutOfMemory> {
+    let rehearsal = rehearse(alloc, cut, query, 3, 2, first, second)?;
+    is_so(alloc, &rehearsal, want)
+}
+
+/// The same of what is asked.
 fn is_rehearsed(
     alloc: Global,
     asked: Asked,
@@ -30,8 +43,7 @@ fn is_rehearsed(
     let (query, forms, ends) = asked;
     let query = parse(alloc, query)?;
     let cut = cut_of(alloc, forms, ends)?;
-    let rehearsal = rehearse(alloc, &cut, &query, 3, 2, first, second)?;
-    Ok(is_so(alloc, &rehearsal, want)?)
+    Ok(is_rehearsed_of(alloc, &cut, &query, first, second, want)?)
 }
 
 fn is_so(
@@ -64,7 +76,7 @@ const MINUTES: [Form; 3] = [
 ];
 
 /// What is asked, and the answers.
-const ASKED: [(Asked, &str); 3] = [
+static ASKED: [(Asked, &str); 3] = [
     (SALES, HEADER),
     (
         ("sales", &MINUTES, &[41, 87]),
@@ -94,8 +106,8 @@ fn answers_or_want_of_memory(rt: HostRuntime) -> Result<(), Fail> {
         at(0, 1),
     ];
     let second = [at(1, 1), at(0, 1), MERGE, at(1, 0), at(0, 2), at(1, 1)];
-    for (asked, want) in ASKED {
-        assert!(rt; is_rehearsed(rt.alloc(), asked, &first, &second, Ok(want))?);
+    for (asked, want) in &ASKED {
+        assert!(rt; is_rehearsed(rt.alloc(), *asked, &first, &second, Ok(want))?);
     }
     Ok(())
 }

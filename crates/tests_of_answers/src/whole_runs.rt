@@ -71,7 +71,7 @@ type Calling = (
     Result<usize, DeviceFailed>,
 );
 
-const CALLINGS: [Calling; 6] = [
+static CALLINGS: [Calling; 6] = [
     (1, 0, Some(b"ab"), Err(DeviceFailed)),
     (0, 1, Some(b"ab"), Err(DeviceFailed)),
     (0, 1, Some(b""), Ok(0)),

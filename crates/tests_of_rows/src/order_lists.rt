@@ -11,7 +11,7 @@ use std::test::Fail;
 const FAR: u64 = 1 << 33;
 
 /// References and places of lists: of lean rows, and of some that aren't near the first row.
-const LISTS: [&[(u64, u64)]; 8] = [
+static LISTS: [&[(u64, u64)]; 8] = [
     &[(3, 100), (4, 140), (2, 180)],
     &[(3, 100), (FAR, 140), (4, 180)],
     &[(3, 100), (FAR, 140), (4, 100 + FAR), (5, 180), (6, 220)],
@@ -85,7 +85,7 @@ fn all_pushed(alloc: Global, heap: &LocalHeap, rows: &[(u64, u64)]) -> Result<Ca
 /// Whether each row is refused as long as there is no memory, and the list then has those before it.
 #[test]
 fn a_row_that_is_refused_leaves_the_list(rt: HostRuntime) -> Result<(), Fail> {
-    for rows in LISTS {
+    for rows in &LISTS {
         let enough = enough_for(rt.alloc(), |alloc, heap| all_pushed(alloc, heap, rows))?;
         assert!(rt; enough > 0);
     }

@@ -21,7 +21,7 @@ const TOP: u64 = FAR + (1 << 23) - 1;
 
 /// References and places of lists, and the least and the greatest reference of those that rise and whose rows aren't
 /// too far apart.
-const BOUNDS: [(&[(u64, u64)], Option<(u64, u64)>); 12] = [
+static BOUNDS: [(&[(u64, u64)], Option<(u64, u64)>); 12] = [
     (&[(7, 0)], Some((7, 7))),
     (&[(3, 100), (4, 140), (8, 180), (9, 220)], Some((3, 9))),
     (&[(FAR, 7), (FAR + 1, 8), (TOP, 9)], Some((FAR, TOP))),
@@ -38,8 +38,8 @@ const BOUNDS: [(&[(u64, u64)], Option<(u64, u64)>); 12] = [
 
 #[test]
 fn a_list_that_rises_is_searched_where_it_lies(rt: HostRuntime) -> Result<(), Fail> {
-    for (rows, bounds) in BOUNDS {
-        assert!(rt; bounds_of(rt.alloc(), rows)? == bounds);
+    for (rows, bounds) in &BOUNDS {
+        assert!(rt; bounds_of(rt.alloc(), rows)? == *bounds);
     }
     Ok(())
 }

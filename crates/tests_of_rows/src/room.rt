@@ -185,14 +185,19 @@ fn partitions_keep_their_rows_when_room_is_given_back(rt: HostRuntime) -> Result
     Ok(())
 }
 
-/// The same in a heap, of an order too, and whether the room that no row took is free then. It is refused if there is
-/// no memory for three partitions and their room.
-fn are_kept_in(heap: &LocalHeap) -> Result<bool, AllocError> {
-    let mut rows = MorselRows::new(heap, 3, 24)?;
+/// The same of an order too, and whether the room in the heap that no row took is free then.
+fn are_kept_with_order(
+    heap: &LocalHeap,
+    rows: &mut MorselRows<&LocalHeap>,
+) -> Result<bool, AllocError> {
     let taken = heap.used();
     rows.add_counted(None, 2, &replaced(5))?;
-    let is_kept = are_kept(&mut rows)? && orders_in(&rows, 2) == Some(1);
-    Ok(is_kept && heap.used() < taken)
+    Ok(are_kept(rows)? && orders_in(rows, 2) == Some(1) && heap.used() < taken)
+}
+
+/// The same in a heap. It is refused if there is no memory for three partitions and their room.
+fn are_kept_in(heap: &LocalHeap) -> Result<bool, AllocError> {
+    are_kept_with_order(heap, &mut MorselRows::new(heap, 3, 24)?)
 }
 
 /// In the smallest heaps there is no memory to copy rows to, so that lists give their room back where they lie.
