@@ -49,7 +49,7 @@ class OfMemory(Case):
     def took(self, file, query, workers, way="file", **more):
         """The KiB that a run holds at most and asks for, its allocations, readings and writes."""
         words = ["-" if way == "stream" else file, query, "--workers", workers]
-        # The caller frees all rows while the text is made: its first thread, the next after those of the second pipeline, is late.
+        # The caller frees all rows before the text is made, or meanwhile: so the thread behind those of the second pipeline is late.
         given, late = file if way == "stream" else b"", {"LATE": 2 * workers + 1}
         ran, report = self.counted(program(), *words, *more.pop("words", []), input=given, preload=late, **more)
         self.assertEqual((ran.status, ran.errors), (0, b""), words)
@@ -113,18 +113,18 @@ class OfMemory(Case):
 
 
 FIGURES = """
-rising         file    1       4307      20215       3379         53          6
+rising         file    1       4192      21649       3761         53         11
 rising         file   64       6159      25812       7993        105         59
-rising         stream  1       8410      37171       3932         86          6
-scattered      file    1       5203      25145       3820         53          6
-scattered      stream  1       9306      42192       4441         86          6
-one_order      file    1      20631      52186       1188         37         16
-trades         file    1      15812      40068       2612         39         12
-trades         file    4      19797      54514       4729         77         13
-trades         stream  1      15790      54225       3244         65         12
-names          file    1       7252      17846       1467         39          2
-names          stream  1       7234      32048       1750         65          2
-breaks         file    1       5054      23202       3537         57          2
-breaks         stream  1      10639      41620       3822         93          2
+rising         stream  1       8688      37171       4380         86         11
+scattered      file    1       5203      27161       4202         53         11
+scattered      stream  1      10031      42192       4895         86         11
+one_order      file    1      14162      38392       1205         37         31
+trades         file    1      10682      29167       2636         39         23
+trades         file    4      13400      39700       4760         77         25
+trades         stream  1      10642      40859       3269         65         23
+names          file    1       7255      17846       1469         39          2
+names          stream  1       7244      32048       1750         65          2
+breaks         file    1       5055      23202       3537         57          2
+breaks         stream  1      10642      41620       3823         93          2
 breaks         stream  4      13953      49517       5114        116          5
 """

@@ -1,15 +1,17 @@
 //! A program that answers queries over small days in many ways (`plain`, `rehearse`, `answer`, `run`, `answer_blocks`,
-//! `run_blocks`), does what command lines ask for (`perform`, `perform_blocks`), and says what queries mean. The head
+//! `run_blocks`), does what command lines ask for over files in memory (`start`), and says what queries mean. The head
 //! of `stdin` says how a case is written, and which answers were written by hand and which are those of
 //! `fuzz/slow_reader.rs`, a reader in plain Rust that shares no code with the product. It writes the text again with
 //! the answers that it finds, and `stdout` is a copy of `stdin`: the first line that differs is wrong.
 //!
-//! No contract: the stored run compares. `fuzz/run stored` compares all but the command lines' with the reader's.
+//! No contract but that of `start_over`: the stored run compares. `fuzz/run stored` compares all but the command lines'
+//! with the reader's.
 #![tactic(auto)]
 
 mod case;
 mod events;
 mod found_answers;
+mod held_days;
 mod meanings;
 mod performed;
 mod values;

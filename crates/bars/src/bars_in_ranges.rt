@@ -24,7 +24,7 @@ use time_and_sales::{Names, numbers_of, texts_in_ranges, within};
 
 /// About how many sales and bars a range has at most. Their keys then stay in a processor's nearer caches while they
 /// are sorted, and take little memory.
-const LONG_RANGE: usize = 8_192;
+const LONG_RANGE: usize = 4_096;
 
 /// The lines of the bars of all tables, those of one locate and start joined, in pieces that are one text when they are
 /// put together. Each piece is of the bars in a range of locates. At most `threads` threads join and write them, each

@@ -15,7 +15,7 @@ use std::alloc::Global;
 use time_and_sales::{Name, Names};
 
 /// How many bytes most lines have at most.
-pub(crate) const USUAL_LINE: usize = 72;
+pub(crate) const USUAL_LINE: usize = 80;
 
 /// The lines of the bars of sales in order of their keys, each under the name of its locate. No bar
 /// is made but the one that the next line is of.

@@ -89,8 +89,34 @@ impl BatchReader {
         ensures next { IfOk result (IsNextBatch S.Source source.old source.new self.old self.new) }
         ensures same { (self.new.limit ≡ self.old.limit) × (self.new.target ≡ self.old.target) }
 
-        // After a refusal the source may have been read in part, and of the bytes that were in no batch yet some may be
-        // lost: no clause says anything of a batch that is asked for then.
+        // After a refusal the reader has read what its batches have, and nothing more: what else it had read is lost.
+        ensures left { OnErr result ((runs : List (List ℕ)) (bytes : List ℕ)
+            → HasRead self.old runs bytes → HasRead self.new runs (concat runs)) }
+        ensures fault { IfErr result (λ fault. (before : S) (runs : List (List ℕ))
+            → IsReadTo S.Source before source.old runs self.old
+            → IsSourceFault (of_stream S.Source self.old.limit self.old.target before source.new) fault) }
+        ensures failed { IsErrOf result SourceFault.ReadFailed ↔ (S.has_failed source.new ≡ true) }
+    {
+        let read = self.read_batch(source);
+        if read.is_err() {
+            self.cutter = Cutter::new(self.alloc, self.target);
+        }
+        read
+    }
+
+    /// Takes a batch that isn't needed any more: the next morsels stand in the vectors of those of its morsels that
+    /// nobody else holds.
+    pub fn reuse(&mut self, batch: Batch)
+        ensures { self.new ≡ self.old }
+    {
+        self.cutter.reuse(batch.cut);
+    }
+
+    // Reads and cuts the next batch. A refusal may leave bytes in the cutter that were in no batch, or take them away.
+    fn read_batch<S: Source>(&mut self, source: &mut S) -> Result<Batch, SourceFault>
+        requires source { S.has_failed source.old ≡ false }
+        ensures next { IfOk result (IsNextBatch S.Source source.old source.new self.old self.new) }
+        ensures same { (self.new.limit ≡ self.old.limit) × (self.new.target ≡ self.old.target) }
         ensures left { OnErr result (self.new ≡ record self.old { cutter = self.new.cutter }) }
         ensures fault { IfErr result (λ fault. (before : S) (runs : List (List ℕ))
             → IsReadTo S.Source before source.old runs self.old
@@ -105,14 +131,6 @@ impl BatchReader {
         let none = Cutter::new(self.alloc, self.target);
         let cutter = mem::replace(&mut self.cutter, none);
         last_batch(cutter, self.first, self.start)
-    }
-
-    /// Takes a batch that isn't needed any more: the next morsels stand in the vectors of those of its morsels that
-    /// nobody else holds.
-    pub fn reuse(&mut self, batch: Batch)
-        ensures { self.new ≡ self.old }
-    {
-        self.cutter.reuse(batch.cut);
     }
 
     // Feeds the cutter what one call of the source gives, and says whether it gave any byte.

@@ -9,6 +9,7 @@ ghost use Rattle.runs.specs.Steps.{IsOutcomeOf};
 
 use crate::OutOfMemory;
 use crate::calls::made::Made;
+use crate::calls::trades::are_mostly_trades;
 use answers::{Answer, DayFault};
 use buckets::{BucketTotal, DayNames, Plan};
 use day_file::Cut;
@@ -68,7 +69,8 @@ pub(crate) fn answer_of_outcome<R: Threads + Sync>(
 }
 
 /// The answer that the total of all buckets gives (`answer_in_ranges`). Threads make its text while the caller frees
-/// what the scans found; if none can be made, or none is asked for, the caller frees it first.
+/// what the scans found; if none can be made, or none is asked for, the caller frees it first. It also does on a day of
+/// trades, whose text may be longer than the file, and then stands where the rows were.
 fn answer_and_free<R: Threads + Sync>(
     rt: &R,
     alloc: Global,
@@ -86,6 +88,12 @@ fn answer_and_free<R: Threads + Sync>(
         drop(plan);
         return answer_in_ranges(rt, alloc, query, total, names, threads);
     }
+    let plan = if are_mostly_trades(plan.rows.as_slice()) {
+        drop(plan);
+        None
+    } else {
+        Some(plan)
+    };
     let make = move || -> Result<Answer, OutOfMemory>
         requires { (messages : List Placed) × AreGatheredOf query.now total.now names.now messages }
         ensures { IfOk result (λ answer. (messages : List Placed) →

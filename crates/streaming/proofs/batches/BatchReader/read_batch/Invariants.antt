@@ -1,6 +1,6 @@
 use Rattle.std.proofs.Common.{◌≡◌, ℕ, ◌≤◌, ◌-◌, List, false}
 use Rattle.streaming.specs.Batches.{IsReadTo, read_length}
-use Rattle.streaming.proofs.batches.BatchReader.next_batch.Given as goal
+use Rattle.streaming.proofs.batches.BatchReader.read_batch.Given as goal
 
 -- what was read goes on, and no batch is taken yet
 abbrev pub invariant-loop-self : goal.invariant-loop-self
