@@ -113,18 +113,18 @@ class OfMemory(Case):
 
 
 FIGURES = """
-rising         file    1       4192      21649       3761         53         11
+rising         file    1       3708      22380       3822         53         11
 rising         file   64       6159      25812       7993        105         59
-rising         stream  1       8688      37171       4380         86         11
-scattered      file    1       5203      27161       4202         53         11
-scattered      stream  1      10031      42192       4895         86         11
-one_order      file    1      14162      38392       1205         37         31
-trades         file    1      10682      29167       2636         39         23
+rising         stream  1       8688      37171       4442         86         11
+scattered      file    1       5203      27893       4263         53         11
+scattered      stream  1      10031      42530       4960         86         11
+one_order      file    1      12100      69068       1226         37         31
+trades         file    1       8908      30929       2701         39         23
 trades         file    4      13400      39700       4760         77         25
-trades         stream  1      10642      40859       3269         65         23
-names          file    1       7255      17846       1469         39          2
+trades         stream  1       8885      42616       3330         65         23
+names          file    1       7255      17846       1470         39          2
 names          stream  1       7244      32048       1750         65          2
-breaks         file    1       5055      23202       3537         57          2
-breaks         stream  1      10642      41620       3823         93          2
+breaks         file    1       5055      23202       3538         57          2
+breaks         stream  1      10642      41620       3824         93          2
 breaks         stream  4      13953      49517       5114        116          5
 """

@@ -18,8 +18,8 @@ use Rattle.time_and_sales.proofs.SortedByPlace.{no_sale, place_of}
 use Rattle.bars.specs.Bars.{Key, Bar, all_bars, has_key, bar_of, interval_start, joined_all, joined_bar, key_cmp}
 use Rattle.bars.specs.Bars.{AreBarsOf, AreBarsOfEach, IsTraded, IsUnionOf}
 use Rattle.bars.specs.declared.kept_form.Form.{Form}
-use Rattle.bars.specs.declared.kept_form.Form.TheVariants.{Sales, Bars}
-use Rattle.bars.specs.Steps.{AreJoinedAlike, AreOfForm, bars_of_form, bar_of_one, bars_of}
+use Rattle.bars.specs.declared.kept_form.Form.TheVariants.{Ticks, Sales, Bars}
+use Rattle.bars.specs.Steps.{AreJoinedAlike, AreOfForm, bars_of_form, bar_of_one, bars_of, sale_of_tick}
 use Rattle.bars.proofs.Bars.{AreBarsOf-permutation, AreBarsOf-unique, has, made}
 use Rattle.bars.proofs.JoinedTables.{alike_from, alike_parts, by_parts, filter-map, joined_traded, put_union, table_has, together, union_alike, union_of_one}
 
@@ -122,12 +122,14 @@ bars_traded width sales table traded are =
 
 -- so is each of the bars that are kept in a form
 pub form_traded : (form : Form) → AreOfForm form → All IsTraded (bars_of_form form)
+form_traded (Ticks ticks width) of =
+    let sales = map sale_of_tick ticks.items in bars_traded width sales (bars_of width sales) of.traded (bars_of_are width sales)
 form_traded (Sales sales width) of = bars_traded width sales.items (bars_of width sales.items) of.traded (bars_of_are width sales.items)
 form_traded (Bars table) of = of.1
 
 -- ---- sales by locate and time
 
-start_rises : (width a b : ℕ) → 0 < width → a ≤ b → interval_start width a ≤ interval_start width b
+pub start_rises : (width a b : ℕ) → 0 < width → a ≤ b → interval_start width a ≤ interval_start width b
 start_rises width a b some h = grind (arith, div-mul-le_self, mul-le-mul_right, le-div)
 
 pub ones_rise : {F : Type 0} {g : Mut F (Bor Sale × Unit {0}) (ℕ × ℕ)} {f : F} (width : ℕ) (sales : List Sale) → 0 < width

@@ -5,3 +5,5 @@ pub mod JoinedTables
 pub mod LastBar
 pub mod SumsAreBounded
 pub mod BarsOfSales
+pub mod Seconds
+pub mod Ticks

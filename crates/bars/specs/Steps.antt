@@ -1,16 +1,18 @@
 -- What the steps of making tables compute: the bar of one sale, a bar put into a table, bars in order.
 -- To be believed of a crate used by itself: the table of a bucket is defined by them.
-use Rattle.std.specs.Prelude.{◌≡◌, ℕ, ◌<◌, ◌≤◌, All, List, [], ◌∷◌, None, length, if◌then◌else◌}
+use Rattle.std.specs.Prelude.{◌≡◌, ℕ, ◌+◌, ◌*◌, ◌/◌, ◌^◌, ◌<◌, ◌≤◌, All, List, [], ◌∷◌, None, length, map, if◌then◌else◌}
 use Rattle.std.specs.List.Sorted.{IsNonDecreasingBy}
 use Rattle.std.specs.Ordering.{is_eq, is_lt}
-use Rattle.base.specs.declared.limits.TheConstants.{SECONDS_OF_DAY, TRADE_LIMIT}
+use Rattle.base.specs.declared.limits.TheConstants.{NANOSECONDS, SECONDS_OF_DAY, TRADE_LIMIT}
+use Rattle.row_types.specs.declared.trade.Kind.TheVariants.{E}
 use Rattle.row_types.specs.declared.trade.Sale.{Sale}
 use Rattle.time_and_sales.specs.Lent.{AreApart}
 use Rattle.bars.specs.Bars.{Bar, IsByKey, IsTraded, Key, bar_from, interval_start, key_cmp, joined_all, joined_bar, under}
 use Rattle.bars.specs.declared.kept_form.Form.{Form}
-use Rattle.bars.specs.declared.kept_form.Form.TheVariants.{Sales, Bars}
+use Rattle.bars.specs.declared.kept_form.Form.TheVariants.{Ticks, Sales, Bars}
 use Rattle.bars.specs.declared.keyed.Keyed.{Keyed}
-use Rattle.bars.specs.declared.keyed.Keyed.TheVariants.{OfSale, OfBar}
+use Rattle.bars.specs.declared.keyed.Keyed.TheVariants.{OfSale, OfTick, OfBar}
+use Rattle.bars.specs.declared.tick.Tick.{Tick}
 
 -- the bar of one sale
 abbrev pub bar_of_one : ℕ → Sale → Bar
@@ -31,6 +33,30 @@ bars_of width (sale ∷ sales) = put (bar_of_one width sale) (bars_of width sale
 
 -- ---- bars that are made, or only when their lines are written
 
+-- a sale as bars need it: its time in whole seconds, neither its kind nor its match number
+abbrev pub in_seconds : Sale → Sale
+in_seconds sale = record sale { time = sale.time / NANOSECONDS * NANOSECONDS; kind = E; trade_no = 0 }
+
+-- its second and its shares have 32 bits, and its place 48
+abbrev pub HasTick : Sale → Type 0
+HasTick sale = (sale.time / NANOSECONDS < 2 ^ 32) × (sale.place < 2 ^ 48) × (sale.shares < 2 ^ 32)
+
+-- what a tick keeps of its sale
+abbrev pub sale_of_tick : Tick → Sale
+sale_of_tick tick = record {
+  place = tick.place_high * 2 ^ 32 + tick.place_low;
+  time = tick.second * NANOSECONDS;
+  locate = tick.locate;
+  kind = E;
+  price = tick.price;
+  shares = tick.shares;
+  trade_no = 0;
+}
+
+-- the bar of one tick
+abbrev pub bar_of_tick : ℕ → Tick → Bar
+bar_of_tick width tick = bar_of_one width (sale_of_tick tick)
+
 -- sales that their bars can be made of: their places differ, they are fewer than a file has room for and each of some
 -- shares, their locates rise, the width is one of a day's, and the bar of each is traded
 pub record AreUnmade (width : ℕ) (sales : List Sale) : Type 0 where
@@ -43,17 +69,20 @@ pub record AreUnmade (width : ℕ) (sales : List Sale) : Type 0 where
 
 -- the bars that are kept in a form
 abbrev pub bars_of_form : Form → List Bar
+bars_of_form (Ticks ticks width) = bars_of width (map sale_of_tick ticks.items)
 bars_of_form (Sales sales width) = bars_of width sales.items
 bars_of_form (Bars table) = table
 
--- sales that their bars can be made of, or bars by key, each of which is traded
+-- ticks or sales that their bars can be made of, or bars by key, each of which is traded
 abbrev pub AreOfForm : Form → Type 0
+AreOfForm (Ticks ticks width) = AreUnmade width (map sale_of_tick ticks.items)
 AreOfForm (Sales sales width) = AreUnmade width sales.items
 AreOfForm (Bars table) = IsByKey table × All IsTraded table
 
--- the bar of one sale that stands beside its key, or the bar that stands there
+-- the bar of one sale or tick that stands beside its key, or the bar that stands there
 abbrev pub bar_at : Keyed → Bar
 bar_at (OfSale locate start sale) = bar_from (record { locate = locate; start = start }) sale.now []
+bar_at (OfTick locate start tick) = bar_from (record { locate = locate; start = start }) (sale_of_tick tick.now) []
 bar_at (OfBar locate start bar) = record bar.now { locate = locate; start = start }
 
 -- of each key the bars of two lists, joined, are one bar

@@ -17,7 +17,7 @@ use crate::by_locate::ByLocate;
 use crate::grid::Grid;
 use crate::joined_lines::joined_lines;
 use crate::kept_form::Form;
-use crate::keyed::{Keyed, append_bars, append_sales};
+use crate::keyed::{Keyed, append_bars, append_sales, append_ticks};
 use std::alloc::Global;
 use std::thread::Threads;
 use time_and_sales::{Names, numbers_of, texts_in_ranges, within};
@@ -44,6 +44,9 @@ pub fn lines_in_ranges<R: Threads + Sync>(
 {
     let ranges = count_ranges(tables, threads);
     let locates = match longest(tables) {
+        Some(Form::Ticks { ticks, .. }) => {
+            numbers_of::<ByLocate, _>(alloc, ticks.as_slice(), ranges)?
+        }
         Some(Form::Sales { sales, .. }) => {
             numbers_of::<ByLocate, _>(alloc, sales.as_slice(), ranges)?
         }
@@ -102,15 +105,15 @@ fn range_lines(
 /// The width in seconds, unless all bars are made.
 fn width_of(tables: &[&BucketBars]) -> Option<u32> {
     for table in tables {
-        if let Form::Sales { width, .. } = table.form() {
+        if let Form::Ticks { width, .. } | Form::Sales { width, .. } = table.form() {
             return Some(*width);
         }
     }
     None
 }
 
-/// The lines of what there is, each sale or bar beside its key, those of one key joined: in the slots of a grid, or
-/// where that would be too large, one after the other in order of their keys.
+/// The lines of what there is, each sale, tick or bar beside its key, those of one key joined: in the slots of a grid,
+/// or where that would be too large, one after the other in order of their keys.
 fn lines_of(
     alloc: Global,
     mut keyed: Vec<Keyed>,
@@ -131,7 +134,7 @@ fn lines_of(
     joined_lines(alloc, keyed.as_slice(), names)
 }
 
-/// What is kept of all tables of locates in the first range, each sale or bar beside its key.
+/// What is kept of all tables of locates in the first range, each sale, tick or bar beside its key.
 #[tactic(auto, using(crate::proofs::BarsInRanges::gathering))]
 fn gathered<'a>(
     alloc: Global,
@@ -152,7 +155,7 @@ fn gathered<'a>(
 }
 
 /// Appends what is kept in a form of locates in the first range.
-#[tactic(auto, using(crate::proofs::BarsInRanges::locates_rise))]
+#[tactic(auto, using(crate::proofs::BarsInRanges::locates_rise, crate::proofs::Ticks::tick_locates_rise))]
 fn append_within<'a>(
     keyed: &mut Vec<Keyed<'a>>,
     form: &'a Form,
@@ -165,6 +168,13 @@ fn append_within<'a>(
         (All IsTraded (map bar_at keyed.old.items) → All IsTraded (map bar_at keyed.new.items)) }
 {
     match form {
+        Form::Ticks { ticks, width } => {
+            append_ticks(
+                keyed,
+                within::<ByLocate, _>(ticks.as_slice(), bounds),
+                *width,
+            )
+        }
         Form::Sales { sales, width } => {
             append_sales(
                 keyed,
@@ -177,11 +187,12 @@ fn append_within<'a>(
 }
 
 /// How much is kept of all tables of locates in the first range, for room for it to be made.
-#[tactic(auto, using(crate::proofs::BarsInRanges::locates_rise))]
+#[tactic(auto, using(crate::proofs::BarsInRanges::locates_rise, crate::proofs::Ticks::tick_locates_rise))]
 fn count_within(tables: &[&BucketBars], bounds: &[u64]) -> usize {
     let mut count = 0usize;
     for table in tables {
         let more = match table.form() {
+            Form::Ticks { ticks, .. } => within::<ByLocate, _>(ticks.as_slice(), bounds).len(),
             Form::Sales { sales, .. } => within::<ByLocate, _>(sales.as_slice(), bounds).len(),
             Form::Bars(bars) => within::<ByLocate, _>(bars.items(), bounds).len(),
         };

@@ -1,12 +1,14 @@
-//! Bars that are only to be joined and written: made, or kept as the sales that they are of.
-ghost use Rattle.std.specs.Prelude.{◌≡◌, ◌<◌, ◌≤◌, All, IfOk, length};
+//! Bars that are only to be joined and written: made, or kept as what they need of their sales.
+ghost use Rattle.std.specs.Prelude.{◌≡◌, ◌<◌, ◌≤◌, All, IfOk, length, map};
+ghost use Rattle.std.specs.List.Sorted.{IsSorted};
 ghost use Rattle.time_and_sales.specs.Lent.{AreApart};
-ghost use Rattle.bars.specs.Bars.{AreBarsOf, IsTraded};
-ghost use Rattle.bars.specs.Steps.{AreOfForm, bars_of_form};
+ghost use Rattle.bars.specs.Bars.{AreBarsOf, IsTraded, key_cmp};
+ghost use Rattle.bars.specs.Steps.{AreOfForm, bar_of_tick, bars_of_form, sale_of_tick};
 
 use crate::OutOfMemory;
 use crate::bar_table::{BarTable, put_in_order};
 use crate::kept_form::Form;
+use crate::tick::{Tick, put_ticks_in_order, sales_of, ticks_of};
 use base::limits::{SECONDS_OF_DAY, TRADE_LIMIT};
 use row_types::Sale;
 use std::alloc::Global;
@@ -17,7 +19,7 @@ use std::marker::Model;
 const SALES_A_BAR: usize = 16;
 
 /// The bars of some sales, in the form that takes less: where the sales of one key are in many
-/// tables, each has nearly a bar a sale, and a sale has less than half the bytes of a bar.
+/// tables, each has nearly a bar a sale, and a tick has about a fifth of the bytes of a bar.
 #[derive(Drop)]
 pub struct BucketBars {
     form: Form,
@@ -36,11 +38,10 @@ impl Model for BucketBars {
 }
 
 impl BucketBars {
-    /// The bars of the sales, in whatever order they are, at a width in seconds. They are made where
-    /// there are sixteen sales a bar or more, and memory for them; otherwise the sales are kept, which
-    /// are put in order in place and have no more room than they need.
-    #[tactic(auto, using(std::proofs::lemmas::List::Sorted::length_permutation))]
-    pub fn of_vec(mut sales: Vec<Sale>, width: u32) -> BucketBars
+    /// The bars of the sales, in whatever order they are, at a width in seconds. They are made where there are sixteen
+    /// sales a bar or more, and memory for them; otherwise ticks are kept. If a sale has no tick, or there is no memory
+    /// for them, the sales are, which are put in order in place and have no more room than they need.
+    pub fn of_vec(sales: Vec<Sale>, width: u32) -> BucketBars
         requires places { AreApart sales.items }
         requires count { length sales.items < TRADE_LIMIT }
         requires shares { All (λ sale. 0 < sale.shares) sales.items }
@@ -48,16 +49,47 @@ impl BucketBars {
         ensures bars { AreBarsOf width sales.items result }
         ensures traded { All IsTraded result }
     {
-        let count = put_in_order(&mut sales, width);
-        sales.shrink_to_fit();
-        if count <= sales.len() / SALES_A_BAR {
-            let alloc = *sales.allocator();
-            if let Ok(bars) = BarTable::of_sorted(alloc, sales.as_slice(), width, count) {
+        let alloc = *sales.allocator();
+        match ticks_of(sales) {
+            Ok(ticks) => BucketBars::of_ticks(alloc, ticks, width),
+            Err(sales) => BucketBars::of_sales(sales, width),
+        }
+    }
+
+    /// The bars of ticks, made or not.
+    fn of_ticks(alloc: Global, mut ticks: Vec<Tick>, width: u32) -> BucketBars
+        requires places { AreApart (map sale_of_tick ticks.items) }
+        requires count { length ticks.items < TRADE_LIMIT }
+        requires shares { All (λ sale. 0 < sale.shares) (map sale_of_tick ticks.items) }
+        requires width { (1 ≤ width) × (width ≤ SECONDS_OF_DAY) }
+        requires traded { All (λ tick. IsTraded (bar_of_tick width tick)) ticks.items }
+        ensures bars { AreBarsOf width (map sale_of_tick ticks.items) result }
+        ensures traded { All IsTraded result }
+    {
+        let count = put_ticks_in_order(&mut ticks, width);
+        if count <= ticks.len() / SALES_A_BAR {
+            if let Ok(bars) = table_of(alloc, ticks.as_slice(), width, count) {
                 return BucketBars {
                     form: Form::Bars(bars),
                 };
             }
         }
+        BucketBars {
+            form: Form::Ticks { ticks, width },
+        }
+    }
+
+    /// The bars of sales that have no ticks, not made.
+    fn of_sales(mut sales: Vec<Sale>, width: u32) -> BucketBars
+        requires places { AreApart sales.items }
+        requires count { length sales.items < TRADE_LIMIT }
+        requires shares { All (λ sale. 0 < sale.shares) sales.items }
+        requires width { (1 ≤ width) × (width ≤ SECONDS_OF_DAY) }
+        ensures bars { AreBarsOf width sales.items result }
+        ensures traded { All IsTraded result }
+    {
+        put_in_order(&mut sales, width);
+        sales.shrink_to_fit();
         BucketBars {
             form: Form::Sales { sales, width },
         }
@@ -74,14 +106,30 @@ impl BucketBars {
         &self.form
     }
 
-    /// The bars, made. It is refused if there is no memory for them, or to sort the sales.
+    /// The bars, made. It is refused if there is no memory for them, or for the sales that are sorted.
     #[tactic(auto, using(crate::proofs::BarsOfSales::table_is))]
     pub fn table(&self, alloc: Global) -> Result<BarTable, OutOfMemory>
         ensures { IfOk result (λ table. table ≡ self.now) }
     {
         match self.form() {
+            Form::Ticks { ticks, width } => {
+                BarTable::of_vec(alloc, sales_of(alloc, ticks.as_slice())?, *width)
+            }
             Form::Sales { sales, width } => BarTable::of_sales(alloc, sales.as_slice(), *width),
             Form::Bars(bars) => bars.copied(alloc),
         }
     }
+}
+
+/// The table of sorted ticks, of about `room` bars.
+fn table_of(alloc: Global, ticks: &[Tick], width: u32, room: usize) -> Result<BarTable, OutOfMemory>
+    requires rise { IsSorted key_cmp (map (bar_of_tick width) ticks.now) }
+    requires count { length ticks.now < TRADE_LIMIT }
+    requires traded { All (λ tick. IsTraded (bar_of_tick width tick)) ticks.now }
+    requires width { (1 ≤ width) × (width ≤ SECONDS_OF_DAY) }
+    ensures bars { IfOk result (λ table. AreBarsOf width (map sale_of_tick ticks.now) table) }
+    ensures traded { IfOk result (λ table. All IsTraded table) }
+{
+    let sales = sales_of(alloc, ticks)?;
+    BarTable::of_sorted(alloc, sales.as_slice(), width, room)
 }

@@ -1,10 +1,11 @@
 //! What is of a locate, in the order of locates.
 
 use crate::bar::Bar;
+use crate::tick::Tick;
 use row_types::Sale;
 use time_and_sales::Numbered;
 
-/// The order of sales and of bars by locate.
+/// The order of sales, of ticks and of bars by locate.
 pub(crate) struct ByLocate;
 
 impl Numbered<Sale> for ByLocate {
@@ -13,6 +14,15 @@ impl Numbered<Sale> for ByLocate {
     #[inline]
     fn number(sale: &Sale) -> u64 {
         u64::from(sale.locate)
+    }
+}
+
+impl Numbered<Tick> for ByLocate {
+    ghost number_of = { λ tick. tick.locate };
+
+    #[inline]
+    fn number(tick: &Tick) -> u64 {
+        u64::from(tick.locate)
     }
 }
 

@@ -1,12 +1,19 @@
 //! In which form bars are kept.
 
 use crate::bar_table::BarTable;
+use crate::tick::Tick;
 use row_types::Sale;
 
-/// What is kept of bars: they themselves, or the sales that they are of.
+/// What is kept of bars: they themselves, or what they are made of.
 #[derive(Drop)]
 pub enum Form {
-    /// By locate, and of one locate by time.
+    /// What they need of their sales, by locate, and of one locate by time.
+    Ticks {
+        ticks: Vec<Tick>,
+        /// Of the bars, in seconds.
+        width: u32,
+    },
+    /// The sales themselves, in the same order, if one of them has no tick, or there was no memory for ticks.
     Sales {
         sales: Vec<Sale>,
         /// Of the bars, in seconds.
@@ -16,9 +23,10 @@ pub enum Form {
 }
 
 impl Form {
-    /// How many sales are kept, or bars.
+    /// How many ticks or sales are kept, or bars.
     pub(crate) fn len(&self) -> usize {
         match self {
+            Form::Ticks { ticks, .. } => ticks.len(),
             Form::Sales { sales, .. } => sales.len(),
             Form::Bars(bars) => bars.items().len(),
         }

@@ -1,13 +1,14 @@
-//! Sales and bars beside their keys.
+//! Sales, ticks and bars beside their keys.
 ghost use Rattle.std.specs.Prelude.{◌≡◌, ◌<◌, ◌++◌, OnOk, map};
-ghost use Rattle.bars.specs.Steps.{bar_at, bar_of_one};
+ghost use Rattle.bars.specs.Steps.{bar_at, bar_of_one, bar_of_tick};
 
 use crate::OutOfMemory;
 use crate::bar::{Bar, interval_start};
+use crate::tick::Tick;
 use row_types::Sale;
 
-/// A sale or a bar beside its key, so that they are sorted by key without a look at them. The locate
-/// comes first, beside which kind it is: so either has 24 bytes.
+/// A sale, a tick or a bar beside its key, so that they are sorted by key without a look at them. The locate
+/// comes first, beside which kind it is: so each has 24 bytes.
 #[derive(Clone, Copy)]
 pub(crate) enum Keyed<'a> {
     /// A sale. The start is where the interval of its bar starts, in nanoseconds since midnight.
@@ -15,6 +16,12 @@ pub(crate) enum Keyed<'a> {
         locate: u16,
         start: u64,
         sale: &'a Sale,
+    },
+    /// A tick.
+    OfTick {
+        locate: u16,
+        start: u64,
+        tick: &'a Tick,
     },
     /// A bar.
     OfBar {
@@ -32,11 +39,12 @@ impl<'a> Keyed<'a> {
     {
         match self {
             Keyed::OfSale { locate, start, .. } => (*locate, *start),
+            Keyed::OfTick { locate, start, .. } => (*locate, *start),
             Keyed::OfBar { locate, start, .. } => (*locate, *start),
         }
     }
 
-    /// The bar, or that of the sale alone.
+    /// The bar, or that of the sale or tick alone.
     #[inline]
     pub(crate) fn bar(&self) -> Bar
         ensures { result ≡ bar_at self.now }
@@ -47,6 +55,11 @@ impl<'a> Keyed<'a> {
                 start,
                 sale,
             } => Bar::of_one(sale, *locate, *start),
+            Keyed::OfTick {
+                locate,
+                start,
+                tick,
+            } => Bar::of_one(&tick.sale(), *locate, *start),
             Keyed::OfBar { locate, start, bar } => Bar {
                 locate: *locate,
                 start: *start,
@@ -71,6 +84,26 @@ pub(crate) fn append_sales<'a>(
             locate: sale.locate,
             start: interval_start(sale.time, width),
             sale,
+        })?;
+    }
+    Ok(())
+}
+
+/// Appends each of the ticks, beside the key of its bar at a width in seconds.
+pub(crate) fn append_ticks<'a>(
+    keyed: &mut Vec<Keyed<'a>>,
+    ticks: &'a [Tick],
+    width: u32,
+) -> Result<(), OutOfMemory>
+    requires { 0 < width }
+    ensures { OnOk result
+        (map bar_at keyed.new.items ≡ map bar_at keyed.old.items ++ map (bar_of_tick width) ticks.now) }
+{
+    for tick in ticks {
+        keyed.push(Keyed::OfTick {
+            locate: tick.locate,
+            start: tick.start(width),
+            tick,
         })?;
     }
     Ok(())

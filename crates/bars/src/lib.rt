@@ -1,8 +1,8 @@
 //! Bars: the first, high, low and last price of one locate in one interval of the day, the volume, the notional, the
 //! number of trades and the exact average (`Bar`). A `BarTable` has one bar for each locate and interval with sales,
 //! whatever their order, and tables of two lists of sales merge into the table of both. A `BucketBars` holds its bars
-//! as bars, or as the sales that they are of if these are fewer than sixteen a bar; contracts see bars either way.
-//! That no sum wraps is an invariant of the types.
+//! as bars, or as what they need of their sales (`Tick`) if these are fewer than sixteen a bar; contracts see bars
+//! either way. That no sum wraps is an invariant of the types.
 //!
 //! Not proved: which form a bucket takes, which thread writes which range of locates, and whether it joins them in a
 //! grid or by sorted keys. The text is the same.
@@ -20,6 +20,7 @@ mod joined_lines;
 mod kept_form;
 mod keyed;
 mod texts;
+mod tick;
 
 pub use bar::Bar;
 pub use bar_table::BarTable;
@@ -29,4 +30,5 @@ pub use bucket_bars::BucketBars;
 pub use kept_form::Form;
 pub use row_types::Sale;
 pub use texts::{write_bar, write_header};
+pub use tick::Tick;
 pub use time_and_sales::Name;

@@ -68,7 +68,7 @@ fn minutes(alloc: Global, rows: &[Row], last: u16) -> Result<BucketBars, OutOfMe
     Ok(table)
 }
 
-/// Sales of five bars, which are kept as sales.
+/// Sales of five bars, which are kept as ticks.
 const FEW: [Row; 7] = [
     (10, 7, 1, 20_000),
     (20, 7, 3, 26_000),
@@ -118,7 +118,11 @@ fn count_bars(alloc: Global, bars: &BucketBars) -> usize {
 /// Whether the bars of these sales are made or not, and are this many.
 fn are(alloc: Global, rows: &[Row], are_made: bool, count: usize) -> Result<bool, OutOfMemory> {
     let bars = minutes(alloc, rows, 12)?;
-    let is_form = matches!(bars.form(), Form::Bars(_)) == are_made;
+    let is_form = match bars.form() {
+        Form::Ticks { .. } => !are_made,
+        Form::Sales { .. } => false,
+        Form::Bars(_) => are_made,
+    };
     Ok(is_form && count_bars(alloc, &bars) == count)
 }
 

@@ -2,7 +2,7 @@ use Rattle.std.proofs.Common.{map-id, None, rules, refl, sym, ap}
 use Rattle.std.proofs.lemmas.Result.{IfOk-weaker}
 use Rattle.bars.specs.Bars.{Bar, joined_all}
 use Rattle.bars.specs.Steps.{AreJoinedAlike}
-use Rattle.bars.proofs.JoinedTables.{IsOrderOf, ordered, union_alike}
+use Rattle.bars.proofs.JoinedTables.{ordered, union_alike}
 use Rattle.bars.proofs.LastBar.{no_bar}
 use Rattle.bars.proofs.SumsAreBounded.{fits_in_order}
 use Rattle.bars.proofs.bar_table.unite.Goals as goal

@@ -1,0 +1,126 @@
+-- A sale in whole seconds has the same bar, so ticks have the bars of their sales.
+use Rattle.std.proofs.Common.{◌≡◌, ℕ, ◌+◌, ◌<◌, ◌≤◌, All, Bor, List, [], ◌∷◌, length, map, filter, get_or, refl, sym, ap, ap₂, ◌∙◌, subst, arith}
+use Rattle.std.proofs.Common.{◌++◌, IsPermutation, append_assoc, drop, nat_eq, take}
+use Rattle.std.specs.Fn.{Mut, Called, ComputesKey}
+use Rattle.std.specs.List.{IsDistinct}
+use Rattle.std.specs.List.Sorted.{IsNonDecreasingBy, IsSorted, IsSortedByKey}
+use Rattle.std.proofs.lemmas.Bool.Decides.{nat_tests}
+use Rattle.std.proofs.lemmas.List.{get_or-map, length-map, map-append, take-append-drop}
+use Rattle.std.proofs.lemmas.List.Elements.{All-map, filter_agree}
+use Rattle.std.proofs.lemmas.List.Sorted.{All-permutation, answers_always, IsPermutation-append_comm, IsPermutation-append_right, IsPermutation-map, IsPermutation-trans, length_permutation}
+use Rattle.std.proofs.lemmas.Simd.{map-map}
+use Rattle.base.specs.declared.limits.TheConstants.{SECONDS_OF_DAY, TRADE_LIMIT}
+use Rattle.row_types.specs.declared.trade.Sale.{Sale}
+use Rattle.time_and_sales.specs.Lent.{AreApart}
+use Rattle.time_and_sales.specs.Ranges.{is_in_first}
+use Rattle.time_and_sales.proofs.RangesJoined.{in_first_alike}
+use Rattle.time_and_sales.proofs.SortedByPlace.{differ_in_order, no_sale}
+use Rattle.bars.specs.Bars.{AreBarsOf, Bar, IsTraded, interval_start, key_cmp}
+use Rattle.bars.specs.Steps.{AreJoinedAlike, AreUnmade, bar_of_one, bar_of_tick, bars_of, in_seconds, put, sale_of_tick}
+use Rattle.bars.specs.declared.tick.Tick.{Tick}
+use Rattle.bars.proofs.BarsInRanges.{locate_of, sales_in_range}
+use Rattle.bars.proofs.BarsOfSales.{bars_of_are, locates_rise, start_rises, table_is}
+use Rattle.bars.proofs.JoinedTables.{by_parts, filter-map}
+use Rattle.bars.proofs.Seconds.{start_in_seconds}
+
+-- ---- the bar of a sale in whole seconds
+
+bar_in_seconds : (width : ℕ) (sale : Sale) → bar_of_one width (in_seconds sale) ≡ bar_of_one width sale
+bar_in_seconds width sale = ap (λ m. record (bar_of_one width sale) { start = m }) (start_in_seconds width sale.time)
+
+pub table_in_seconds : (width : ℕ) (sales : List Sale) → bars_of width (map in_seconds sales) ≡ bars_of width sales
+table_in_seconds width [] = refl
+table_in_seconds width (x ∷ xs) = ap₂ put (bar_in_seconds width x) (table_in_seconds width xs)
+
+places_in_seconds : (sales : List Sale) → map (λ (s : Sale). s.place) (map in_seconds sales) ≡ map (λ (s : Sale). s.place) sales
+places_in_seconds [] = refl
+places_in_seconds (x ∷ xs) = ap (λ l. x.place ∷ l) (places_in_seconds xs)
+
+-- so a table of sales in whole seconds is that of the sales
+pub bars_in_seconds : (width : ℕ) (sales : List Sale) (table : List Bar) → AreBarsOf width (map in_seconds sales) table → AreBarsOf width sales table
+bars_in_seconds width sales table are =
+    subst (AreBarsOf width sales) (sym (table_is width (map in_seconds sales) table are ∙ table_in_seconds width sales)) (bars_of_are width sales)
+
+pub shares_in_seconds : (sales : List Sale) → All (λ sale. 0 < sale.shares) sales → All (λ sale. 0 < sale.shares) (map in_seconds sales)
+shares_in_seconds sales some = All-map (λ (s : Sale). 0 < s.shares) in_seconds sales some
+
+pub apart_in_seconds : (sales : List Sale) → AreApart sales → AreApart (map in_seconds sales)
+apart_in_seconds sales apart = subst (IsDistinct nat_eq) (sym (places_in_seconds sales)) apart
+
+-- what is turned from a sale into its tick, from a place on, is there still
+pub turned : (from : ℕ) (all ticks sales : List Sale) → IsPermutation all (ticks ++ map in_seconds sales)
+    → IsPermutation all ((ticks ++ map in_seconds (drop from sales)) ++ map in_seconds (take from sales))
+turned from all ticks sales perm =
+    let first = map in_seconds (take from sales) in
+    let rest = map in_seconds (drop from sales) in
+    let parts : map in_seconds sales ≡ first ++ rest =
+    ap (map in_seconds) (sym (take-append-drop from sales)) ∙ map-append in_seconds (take from sales) (drop from sales) in
+    rw append_assoc (IsPermutation-trans all (ticks ++ (first ++ rest)) (ticks ++ (rest ++ first)) (subst (λ l. IsPermutation all (ticks ++ l)) parts perm)
+    (IsPermutation-append_right ticks (first ++ rest) (rest ++ first) (IsPermutation-append_comm first rest)))
+
+-- ---- sorted ticks
+
+no_tick : Tick
+no_tick = record { second = 0; price = 0; shares = 0; place_low = 0; place_high = 0; locate = 0 }
+
+pub ticks_rise : {F : Type 0} {g : Mut F (Bor Tick × Unit {0}) (ℕ × ℕ)} {f : F} (width : ℕ) (ticks : List Tick) → 0 < width
+    → ((key : Tick → ℕ × ℕ) → ComputesKey g key f → IsSortedByKey key by_parts ticks)
+    → ((f : F) (a : Bor Tick × Unit {0}) (r : ℕ × ℕ) (f' : F) → Called g f a r f' → r ≡ (a.0.now.locate, a.0.now.second))
+    → IsSorted key_cmp (map (bar_of_tick width) ticks)
+ticks_rise {g = g} {f = f} width ticks some up h k d low within =
+    let one = bar_of_tick width in
+    let n = length-map ticks one in
+    let a = get_or ticks k no_tick in
+    let b = get_or ticks (k + 1) no_tick in
+    let turn = up (λ t. (t.locate, t.second)) (answers_always g (λ a r. r ≡ (a.0.now.locate, a.0.now.second)) f h) k no_tick low (omega (arith, n)) in
+    let times : a.second ≤ b.second → interval_start width (sale_of_tick a).time ≤ interval_start width (sale_of_tick b).time =
+    λ up. start_rises width (sale_of_tick a).time (sale_of_tick b).time some (omega (arith, up)) in
+    rw (get_or-map one ticks k no_tick d (omega (arith, n)), get_or-map one ticks (k + 1) no_tick d (omega (arith, n)))
+    (grind (arith, nat_tests))
+
+-- bars can be made of sorted ticks
+pub unmade_ticks : (width : ℕ) (ticks sorted : List Tick) → IsPermutation ticks sorted → AreApart (map sale_of_tick ticks) → length ticks < TRADE_LIMIT
+    → All (λ sale. 0 < sale.shares) (map sale_of_tick ticks) → (1 ≤ width) × (width ≤ SECONDS_OF_DAY) → IsSorted key_cmp (map (bar_of_tick width) sorted)
+    → All (λ tick. IsTraded (bar_of_tick width tick)) ticks → AreUnmade width (map sale_of_tick sorted)
+unmade_ticks width ticks sorted perm apart count shares within rise traded =
+    let sales = map sale_of_tick sorted in
+    let order = IsPermutation-map sale_of_tick ticks sorted perm in
+    record {
+      places = differ_in_order (map sale_of_tick ticks) sales order apart;
+      count = omega (arith, length_permutation ticks sorted perm, length-map sorted sale_of_tick, count);
+      shares = All-permutation (λ (s : Sale). 0 < s.shares) (map sale_of_tick ticks) sales order shares;
+      within_day = within;
+      locates = locates_rise width sales (rw (map-map (bar_of_one width) sale_of_tick sorted) rise);
+      traded = All-map (λ (s : Sale). IsTraded (bar_of_one width s)) sale_of_tick sorted
+          (All-permutation (λ (t : Tick). IsTraded (bar_of_tick width t)) ticks sorted perm traded);
+    }
+
+-- ---- ticks of a range
+
+-- the locates of ticks rise as those of what they keep of their sales
+pub tick_locates_rise : (ticks : List Tick) → IsNonDecreasingBy (λ (s : Sale). s.locate) (map sale_of_tick ticks) → IsNonDecreasingBy (λ (t : Tick). t.locate) ticks
+tick_locates_rise ticks up i j d low within =
+    let n = length-map ticks sale_of_tick in
+    rw (get_or-map sale_of_tick ticks i d no_sale (omega arith), get_or-map sale_of_tick ticks j d no_sale (omega arith)) at
+    (up i j no_sale low (omega (arith, n)))
+
+-- and their bars are traded as those of what they keep
+pub ticks_traded : (width : ℕ) (ticks : List Tick) → All (λ sale. IsTraded (bar_of_one width sale)) (map sale_of_tick ticks)
+    → All (λ tick. IsTraded (bar_of_tick width tick)) ticks
+ticks_traded width ticks traded k d within =
+    let n = length-map ticks sale_of_tick in
+    rw (get_or-map sale_of_tick ticks k d no_sale within) at (traded k no_sale (omega (arith, n)))
+
+-- the bars of one tick each of a range are joined alike with the range of their table
+pub ticks_in_range : (bounds : List ℕ) (width : ℕ) (ticks : List Tick)
+    → AreJoinedAlike (map (bar_of_tick width) (filter (is_in_first (λ (t : Tick). t.locate) bounds) ticks))
+    (filter (is_in_first locate_of bounds) (bars_of width (map sale_of_tick ticks)))
+ticks_in_range bounds width ticks =
+    let one = bar_of_one width in
+    let test = is_in_first (λ (s : Sale). s.locate) bounds in
+    let ours = is_in_first (λ (t : Tick). t.locate) bounds in
+    let same = λ (t : Tick). in_first_alike (λ (s : Sale). s.locate) (λ (t : Tick). t.locate) bounds (sale_of_tick t) t refl in
+    let those : filter test (map sale_of_tick ticks) ≡ map sale_of_tick (filter ours ticks) =
+    filter-map sale_of_tick test ticks ∙ ap (map sale_of_tick) (filter_agree (λ t. test (sale_of_tick t)) ours same ticks) in
+    subst (λ l. AreJoinedAlike l (filter (is_in_first locate_of bounds) (bars_of width (map sale_of_tick ticks))))
+    (ap (map one) those ∙ map-map one sale_of_tick (filter ours ticks)) (sales_in_range bounds width (map sale_of_tick ticks))
