@@ -128,9 +128,10 @@ def without_success(clause):
 
 
 def says_what_is_left(clause, name):
-    """Whether a clause says what refusals leave of something borrowed, and not just that some parts of it stay."""
+    """Whether a clause says what refusals leave of something borrowed, and not just that some parts of it stay, either way written."""
     clause = without_success(clause)
     body = re.sub(r"^[^{]*\{|\}$|\b(OnErr|IfErr) *result\b|λ *_\.|[()]", " ", clause.strip()).split("×")
+    body = [re.sub(rf"^ *([^≡]*\b{name}\.old\b[^≡]*?) *≡ *([^≡]*\b{name}\.new\b[^≡]*?) *$", r"\2 ≡ \1", it) for it in body]
     part = rf" *(length +{name}\.new|{name}\.new\.(?!items\b)\w+) ≡ (length +)?{name}\.old[.\w]* *| *{name}\.new ≡ record {name}\.old \{{.*"
     is_told = all(re.search(it, clause) for it in (rf"\b{name}\.new\b", rf"\bresult\b|\b{name}\.old\b"))
     return is_told and not all(re.fullmatch(part, it, re.S) for it in body)

@@ -42,7 +42,7 @@ class OfProgram(Case):
     # ---- words, statuses and streams
 
     def test_answers_and_faults(self):
-        for words, answer in (("./day sales --workers 64 --morsel=1 --partitions 256", SALE), ("/dev/null sales <day", HEADER),
+        for words, answer in (("./day sales --workers 64 --morsel=1 --partitions 256", SALE), ("<(:) sales <day", HEADER),
                               ("day 'sales as of 09:30:01'", HEADER), ("- sales", HEADER), ("- sales <day", SALE)):
             self.gives(self.shell(f'exec "$0" {words}'), 0, answer)
         for words, status, errors in FAULTS:
