@@ -129,10 +129,8 @@ def whole_day():
     day.add("B", MSFT, "14:52:00", day.traded("E", MSFT, "14:20:01", wrong, 100))
     day.add("B", AAPL, "20:01:00", day.hidden(AAPL, "15:58:30", 500, 1812500))
     # The closing, the late session, the end.
-    day.cross(MSFT, "16:00:00.3", 45000, 4078000, "C")
-    day.cross(AAPL, "16:00:00.5", 38000, 1897000, "C")
-    day.cross(NEWCO, "16:00:00.6", 9000, 318000, "C")
-    day.cross(IDLE, "16:00:00.7", 0, 0, "C")
+    for it, part, shares, price in ((MSFT, 3, 45000, 4078000), (AAPL, 5, 38000, 1897000), (NEWCO, 6, 9000, 318000), (IDLE, 7, 0, 0)):
+        day.cross(it, f"16:00:00.{part}", shares, price, "C")
     day.hidden(MSFT, "17:30:00", 20, 4081000)
     return day.bytes()
 

@@ -22,16 +22,11 @@ IMPORTS = [
 # Of each form its name in proofs/Days.antt and its fields, and the time that it has if none is given.
 EARLY, LATE = "09:30:00", "09:30:01.000000005"
 FORMS = {
-    "R": ("named stock", "00:00:00"),
-    "A": ("order reference price", EARLY),
-    "F": ("attributed reference price", EARLY),
-    "U": ("replaced reference reference price", EARLY),
-    "B": ("broken number", EARLY),
-    "E": ("executed reference shares number", LATE),
-    "C": ("executed_at reference shares number printable price", LATE),
-    "P": ("trade shares price number", LATE),
+    "R": ("named stock", "00:00:00"), "A": ("order reference price", EARLY), "F": ("attributed reference price", EARLY),
+    "U": ("replaced reference reference price", EARLY), "B": ("broken number", EARLY), "E": ("executed reference shares number", LATE),
+    "C": ("executed_at reference shares number printable price", LATE), "P": ("trade shares price number", LATE),
     "Q": ("cross volume price number", LATE),
-}
+}  # fmt: skip
 ESCAPES = str.maketrans({"\n": "\\n", "\0": "\\0", '"': '\\"', "\\": "\\\\"})
 Case = collections.namedtuple("Case", "comment words query answer")
 

@@ -1,5 +1,6 @@
 """Holds the documents against the code: what has to be believed, which functions have no clause, what pages name and quote; and
-sees that each edit applies. `python3 check/test_definitions.py write` writes the tables of docs/DEFINITIONS.md, and the proved cases.
+sees that each edit applies. `python3 check/test_definitions.py write` writes the tables of docs/DEFINITIONS.md, and the proved cases;
+with the path of a log, those of docs/TRUSTED.md too.
 
 A definition of specs/ is of the kind `program` if a clause of a call that the program makes, or a member of one of its devices,
 cites it, or cites a definition that rests on it; of the kind `crate` if another public contract rests on it; and of the kind
@@ -130,18 +131,38 @@ class NoClause(unittest.TestCase):
                 self.assertIn(edit.stem.partition("__")[0], names, edit)
 
 
+TRUSTED, LOG = TOP / "docs/TRUSTED.md", TOP / "crates/itch_bars/out/build.log"
+# The tables of docs/TRUSTED.md, and where a log of `rt check --list-axioms` in crates/itch_bars has what they are about.
+WORDS = ["Word", "What it means", "In a build"], r"\b(?:axioms=\d+|native=\S+|\S+=trusted)"
+FUNCTIONS = ["Function", "The program", "What is assumed of it"], r"(?m)^  ([\w:]+) +reached$"
+
+
+def rows_of_table(heads):
+    return {words_in(row[0])[0]: row[1:] for row in rows_below(TRUSTED, f"| {' | '.join(heads)} |")}
+
+
+def trusted(log):
+    """docs/TRUSTED.md as such a log has it. What a row says stays; a new one says nothing yet."""
+    text = TRUSTED.read_text()
+    for heads, pattern in (WORDS, FUNCTIONS):
+        said = {name.partition("=")[0]: cells for name, cells in rows_of_table(heads).items()}
+        rows = [[f"`{name}`", *said.get(name.partition("=")[0], ["", ""])] for name in re.findall(pattern, log)]
+        text = re.sub(rf"(?m)^\| {heads[0]} \|.*\n(\|.*\n)+", lambda _: "\n".join(table(heads, rows)) + "\n", text)
+    counts = "".join(f"    {line}\n" for line in re.findall(r"(?m)^axioms \w+: .*", log))
+    return re.sub(r"(?m)(^    axioms .*\n)+", lambda _: counts, text)
+
+
 class Trusted(unittest.TestCase):
     def test_the_page_says_what_the_log_says(self):
-        page, log = TOP / "docs/TRUSTED.md", TOP / "crates/itch_bars/out/build.log"
-        said = re.search(r"(?ms)^== itch_bars\n.*?((?:^axioms [^\n]*\n)+)logic=proved [^\n]*? (axioms=\d+ [^\n]*)$", log.read_text() if log.exists() else "")
+        """A build's log has the first three functions of each crate, and their number."""
+        words, functions = (rows_of_table(heads) for heads, _ in (WORDS, FUNCTIONS))
+        self.assertEqual([], [name for name, cells in {**words, **functions}.items() if not all(cells)], "their rows say nothing")
+        said = re.search(r"(?ms)^== itch_bars\n.*?((?:^axioms [^\n]*\n)+)logic=proved ([^\n]*)$", LOG.read_text() if LOG.exists() else "")
         said or self.skipTest("bin/build has kept no log of a build here")
-        self.assertEqual([], [line for line in said[1].splitlines() if f"\n    {line}\n" not in page.read_text()])
-        named = [words_in(row[0])[0] for row in rows_below(page, "| Function | What is assumed of it |")]
-        for crate, first, count in re.findall(r"(?m)^axioms (\w+): ([\w:, ]+), \.\.\. \((\d+) ", said[1]):
-            of_crate = [name for name in named if name.startswith(f"{crate}::")]
-            self.assertEqual((sorted(of_crate)[:3], len(set(of_crate))), (first.split(", "), int(count)), "all of its functions")
-        stand = [words_in(row[0])[0] for row in rows_below(page, "| Word | What it means | In a build |") if row[2] == "stands"]
-        self.assertEqual(sorted(re.findall(r"axioms=\d+|\S+=trusted|native=\S+", said[2])), sorted(stand))
+        for crate, first, count in re.findall(r"(?m)^axioms (\w+): (?:([\w:, ]+), \.\.\. \((\d+)|none)", said[1]):
+            of_crate = [name for name in functions if name.startswith(f"{crate}::")]
+            self.assertEqual((", ".join(of_crate[:3]), len(of_crate)), (first, int(count or 0)), "all of its functions")
+        self.assertEqual(re.findall(WORDS[1], said[2]), [name for name, cells in words.items() if cells[1] == "stands"])
 
     def test_threads_share_what_the_kit_gives_alone(self):
         own = re.compile(r"\b(Atomic\w*|atomic|\w*Cell|cell|Mutex\w*|RwLock\w*|Condvar|Barrier|Once|OnceLock|LazyLock|Perch|static|unsafe|thread_local|mpsc|Rc)\b|\bOrdering::")
@@ -237,6 +258,7 @@ class Pages(unittest.TestCase):
                         self.assertTrue(any(it.has(clause) for it in found), f"{label} of {crate} has no clause {clause}")
 
 
-if __name__ == "__main__" and sys.argv[1:] == ["write"]:
-    for path, text in written().items():
+if __name__ == "__main__" and sys.argv[1:2] == ["write"]:
+    of_log = {TRUSTED: trusted(pathlib.Path(log).read_text()) for log in sys.argv[2:]}
+    for path, text in {**written(), **of_log}.items():
         path.write_text(text)

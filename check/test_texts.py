@@ -62,8 +62,7 @@ def readme():
 
 
 def written():
-    version = f"itch_bars {constant('VERSION')}\n"
-    return {"bin/help": help_text(), "bin/version": version, "man/itch_bars.1": page(), "README.md": readme()}
+    return {"bin/help": help_text(), "bin/version": f"itch_bars {constant('VERSION')}\n", "man/itch_bars.1": page(), "README.md": readme()}
 
 
 class Texts(unittest.TestCase):

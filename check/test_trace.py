@@ -17,24 +17,17 @@ def after(seconds, nanoseconds=0):
 # and is a test security; of 6 nothing says whether it is one.
 EDGES = [
     frame(b""), message("S", 0, after(-1), "O"), named(1, "AB", 0), named(3, "OLD", 0),
-    message("R", 5, 0, "A,B C", "Q", "N", 1, "N", "C", b"Z ", "T", "N", "N", "1", "N", 0, "N"),
-    named_alone(6, "LONGNAME"),
-    broken(113, 1, after(-1)),
-    order(1, 1, after(-1), 1_000_000), order(3, 1, after(-1), 4_294_967_295, 100, "MSFT", "NSDQ"),
+    message("R", 5, 0, "A,B C", "Q", "N", 1, "N", "C", b"Z ", "T", "N", "N", "1", "N", 0, "N"), named_alone(6, "LONGNAME"),
+    broken(113, 1, after(-1)), order(1, 1, after(-1), 1_000_000), order(3, 1, after(-1), 4_294_967_295, 100, "MSFT", "NSDQ"),
     order(7, 1, after(-1)), replaced(7, 8, 4_105_100, 1, after(-1)),
     executed(1, 100, 1, after(0, -1)), executed(1, 101, 1, after(0)), executed(1, 102, 2, after(0, 1)),
-    replaced(1, 2, 1_000_100, 1, after(1)),
-    executed(2, 103, 1, after(1)), executed(1, 104, 1, after(1)),
+    replaced(1, 2, 1_000_100, 1, after(1)), executed(2, 103, 1, after(1)), executed(1, 104, 1, after(1)),
     message("X", 1, after(1), 2, 100), message("D", 1, after(1), 2),
     executed(2, 105, 1, after(2)), executed(3, 106, 1, after(2), 4_294_967_295), executed(2, 107, 1, after(2), 0),
-    executed_at(1, 108, 999_900, 1, after(3)),
-    executed_at(1, 109, 999_800, 1, after(3), printable="N"),
-    executed_at(1, 110, 999_700, 1, after(3), printable="y"),
-    executed_at(99, 111, 999_600, 2, after(3), printable=" "),
-    trade(112, 1, after(4), 5), trade(113, 1, after(4), 0), trade(114, 1, after(4), 10_000, 0),
-    cross(115, 1, after(5), 1_000_200, 2**33),
-    cross(116, 1, after(5), 1_000_300, 0, sort="C"),
-    cross(117, 2, after(5), 1_000_400, 7, sort="H"),
+    executed_at(1, 108, 999_900, 1, after(3)), executed_at(1, 109, 999_800, 1, after(3), printable="N"),
+    executed_at(1, 110, 999_700, 1, after(3), printable="y"), executed_at(99, 111, 999_600, 2, after(3), printable=" "),
+    trade(112, 1, after(4), 5), trade(113, 1, after(4), 0), trade(114, 1, after(4), 10_000, 0), cross(115, 1, after(5), 1_000_200, 2**33),
+    cross(116, 1, after(5), 1_000_300, 0, sort="C"), cross(117, 2, after(5), 1_000_400, 7, sort="H"),
     broken(117, 0, after(6)), broken(109, 1, after(6)), broken(4_242, 1, after(6)),
     trade(118, 3, after(7)), trade(119, 4, after(7)), trade(120, 5, after(7)), trade(121, 6, after(7)),
     trade(122, 65_535, after(7)), trade(2**64 - 1, 0, after(7)),
@@ -43,8 +36,7 @@ EDGES = [
     # two trades of one number, broken twice
     trade(128, 1, after(61), 30_000), trade(128, 3, after(61), 30_100), broken(128, 1, after(62)), broken(128, 1, after(90)),
     broken(101, 1, after(62)), executed_at(1, 129, 30_200, 1, after(50)), broken(129, 1, after(3_600)),
-    named(2, "AB", after(31)), named(3, "NEW", after(31)),
-    named(9, "BACK"), named(9, "GONE"), named(9, "BACK"),
+    named(2, "AB", after(31)), named(3, "NEW", after(31)), named(9, "BACK"), named(9, "GONE"), named(9, "BACK"),
     frame(b"Z" * 36), frame(b"Y"), trade(130, 1, 2**48 - 1, 30_300), message("S", 0, 2**48 - 1, "C"), frame(b""),
 ]  # fmt: skip
 SYMBOLS = "AB OLD NEW #2 A?B?C LONGNAME LONG ab #0 #1 #4 #04 #65535 #65536".split()
@@ -54,25 +46,18 @@ MOMENTS = "00:00:00 09:30:02 09:30:08 09:30:09 09:30:31 09:31:02 10:29:59 10:30:
 # Days with a fault, each of which the trace of AB meets itself.
 AB, GIVEN, SALE = named(1, "AB"), order(1), executed(1, 1)
 FAULTY = {
-    "cut in a body": [AB, GIVEN, SALE[:-1]],
-    "cut in a length": [AB, GIVEN, b"\0"],
-    "cut at its head": [b"\0\5A"],
-    "wrong lengths": [AB, frame(b"E" * 30), frame(b"A" * 37)],
-    "wrong and cut": [frame(b"B"), AB, b"\0\1"],
-    "given twice": [AB, GIVEN, order(1, 2), SALE, order(1)],
-    "given by its replacement": [AB, GIVEN, SALE, replaced(1, 1, 6)],
+    "cut in a body": [AB, GIVEN, SALE[:-1]], "cut in a length": [AB, GIVEN, b"\0"], "cut at its head": [b"\0\5A"],
+    "wrong lengths": [AB, frame(b"E" * 30), frame(b"A" * 37)], "wrong and cut": [frame(b"B"), AB, b"\0\1"],
+    "given twice": [AB, GIVEN, order(1, 2), SALE, order(1)], "given by its replacement": [AB, GIVEN, SALE, replaced(1, 1, 6)],
     "given before two": [AB, GIVEN, order(2), executed(2, 2), SALE, order(2), order(1)],
-    "not given": [AB, GIVEN, SALE, executed(2, 2), executed(3, 3)],
-    "given below": [AB, SALE, GIVEN],
-    "replaced and not given": [AB, replaced(1, 2, 5), SALE],
-    "unknown and twice": [AB, executed(2, 2), GIVEN, SALE, GIVEN],
-    "unknown and broken": [AB, executed(2, 2), broken(2)],
-    "unknown and of no shares": [AB, executed(2, 2, shares=0)],
+    "not given": [AB, GIVEN, SALE, executed(2, 2), executed(3, 3)], "given below": [AB, SALE, GIVEN],
+    "replaced and not given": [AB, replaced(1, 2, 5), SALE], "unknown and twice": [AB, executed(2, 2), GIVEN, SALE, GIVEN],
+    "unknown and broken": [AB, executed(2, 2), broken(2)], "unknown and of no shares": [AB, executed(2, 2, shares=0)],
     **{f"wrong length of {kind}": [AB, frame(kind.encode() * 12)] for kind in "AFECUPQBR"},
     # faulty as of an earlier moment only, and as of a later one only: times need not rise
     "late order": [order(1, time=after(9)), executed(1, 1, time=after(3)), AB],
     "late repeat": [AB, GIVEN, SALE, order(1, time=after(9))],
-}
+}  # fmt: skip
 # Frames that lie across the end of what is read at once, and an empty one before a length that begins with the letter A.
 FRAMES = {f"across {back}": [AB, *[frame(bytes(65_534))] * 15, frame(bytes(65_493 - back)), GIVEN, SALE] for back in range(4)}
 FRAMES["empty before long"] = [AB, frame(b""), frame(b"Z" * (ord("A") << 8)), GIVEN, SALE]
@@ -151,8 +136,7 @@ class Trace(Case):
             # by a pipe that gives a few bytes at a time
             drips = run("sh", "-c", f"dd bs=7 status=none <{edges} | {TOOL} - {words}")
             self.gives(drips, 0, self.traced(edges, *words.split()))
-        nothing = "bytes: 0\nmessages: 0\nleast time: none\ngreatest time: none\nlast system event: none\n"
-        self.assertEqual(self.traced("-", "--summary"), nothing)
+        self.assertEqual(self.traced("-", "--summary"), "bytes: 0\nmessages: 0\nleast time: none\ngreatest time: none\nlast system event: none\n")
         for words in (["AB", *WHOLE_DAY], ["--number", "117"], ["--breaks"]):
             refused = run(TOOL, "-", *words, input=day)
             self.assertEqual((refused.status, refused.out, b"can't be a pipe" in refused.errors), (2, b"", True))
@@ -181,11 +165,9 @@ class Trace(Case):
     def test_memory(self):
         """With 30 megabytes of what isn't asked for below it, a day is traced in the same memory."""
         few = [AB, GIVEN, SALE, broken(2), trade(2, price=5), named(2, "XY")]
-        others = [
-            order(it, 1, price=7) + order(2**60 + it, 2, OPEN, 7, 100, "MSFT", "NSDQ") + executed(it, it, 2) + trade(it, 1, after(60)) + cross(it, 2)
-            + named(2, f"X{it}") + message("S", 0, OPEN, "S")
-            for it in range(10, 120_000)
-        ]  # fmt: skip
+        each = lambda it: (order(it, 1, price=7), order(2**60 + it, 2, OPEN, 7, 100, "MSFT", "NSDQ"), executed(it, it, 2), trade(it, 1, after(60)),
+                           cross(it, 2), named(2, f"X{it}"), message("S", 0, OPEN, "S"))  # fmt: skip
+        others = (frame for it in range(10, 120_000) for frame in each(it))
         days = self.file("small", *few), self.file("large", *few, *others)
         self.assertGreater(days[1].stat().st_size, 30_000_000)
         for words in (["AB", "09:30:00", "09:31:00"], ["--number", 1], ["--order", 1], ["--breaks"], ["--names"], ["--summary"]):
