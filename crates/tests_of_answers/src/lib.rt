@@ -10,11 +10,7 @@ mod answering;
 #[cfg(test)]
 mod blocks;
 #[cfg(test)]
-mod crew_refusals;
-#[cfg(test)]
 mod faults;
-#[cfg(test)]
-mod gatherers;
 #[cfg(test)]
 mod refusals;
 #[cfg(test)]

@@ -1,6 +1,6 @@
-//! `plain` in heaps that have room for more and more, and `plain` and `run` with each allocation of the process
-//! refused in turn: what comes is the right answer, or want of memory.
-use crate::answering::{is_told, settings_of};
+//! `plain` in heaps that have room for more and more, and `plain`, `run` and `answer` with each allocation of the
+//! process refused in turn, and with threads that can't be started: what comes is the right answer, or want of memory.
+use crate::answering::{BARS, SALES, TWO, is_answered_freely, is_told, settings_of};
 use executor::{
     Counted, CountedSink, DayFault, DayFile, LONGEST_FILE, OutOfMemory, Query, RunFault, parse,
     plain, run,
@@ -177,6 +177,16 @@ fn run_or_want_of_memory(rt: HostRuntime) -> Result<(), Fail> {
             return Err(Fail::from(AllocError));
         }
         assert!(rt; told == (want, 0));
+    }
+    Ok(())
+}
+
+/// `answer` by two workers, and by the caller's thread alone.
+#[test]
+fn answer_or_want_of_memory(rt: HostRuntime) -> Result<(), Fail> {
+    for crew in [Some(TWO), None] {
+        assert!(rt; is_answered_freely(&rt, rt.alloc(), SALES, 2, crew)?);
+        assert!(rt; is_answered_freely(&rt, rt.alloc(), BARS, 2, crew)?);
     }
     Ok(())
 }

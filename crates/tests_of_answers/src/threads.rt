@@ -1,6 +1,6 @@
-//! A day that is answered by few workers, while a gate holds or counts their runs.
+//! A day that is answered by few workers or by several gatherers, while a gate holds or counts runs.
 use crate::answering::{
-    SALES, TWO, WAYS, Way, answer_of_day, is_answered, is_answered_freely, is_answered_under,
+    BARS, SALES, TWO, WAYS, Way, answer_of_day, is_answered, is_answered_freely, is_answered_under,
 };
 use executor::{Answer, Crew, FreeGate, Gate};
 use std::alloc::Global;
@@ -145,4 +145,38 @@ fn is_shared_out(answer: &Answer, count: usize, most: usize) -> bool {
         }
     }
     text.pieces().len() == count
+}
+
+/// Two workers, and two gatherers.
+const PAIRS: Crew = Crew {
+    workers: 2,
+    gatherers: 2,
+};
+
+#[test]
+fn every_number_of_gatherers_gives_one_answer(rt: HostRuntime) -> Result<(), Fail> {
+    for (workers, gatherers) in [(1, 8), (2, 2), (3, 2), (64, 8)] {
+        let crew = Some(Crew { workers, gatherers });
+        assert!(rt; is_answered_freely(&rt, rt.alloc(), SALES, 64, crew)?);
+    }
+    Ok(())
+}
+
+/// One task of each pipeline is given again while its first run is held.
+#[test]
+fn overlap_over_two_gatherers(rt: HostRuntime) -> Result<(), Fail> {
+    let holds = [
+        Hold::first(1, 0, Heard::Again(1, 0)),
+        Hold::first(2, 1, Heard::Again(2, 1)),
+    ];
+    assert!(rt; is_answered_under(&rt, rt.alloc(), &holds, BARS, PAIRS, false)?);
+    Ok(())
+}
+
+/// With one gatherer the second pipeline wouldn't wait for a slow worker of the first.
+#[test]
+fn several_gatherers_wait_for_all_workers(rt: HostRuntime) -> Result<(), Fail> {
+    let holds = [Hold::first(1, 0, Heard::Pipeline(2))];
+    assert!(rt; is_answered_under(&rt, rt.alloc(), &holds, SALES, PAIRS, true)?);
+    Ok(())
 }
