@@ -9,7 +9,7 @@ use Rattle.probe.specs.Selection.{has_kind, has_time, kept}
 use Rattle.time_and_sales.specs.Names.{DirectoryRow, name_of}
 use Rattle.time_and_sales.specs.Texts.{listing_text}
 use Rattle.bars.specs.Bars.{AreBarsOf}
-use Rattle.bars.specs.declared.bar.Bar.{Bar}
+use Rattle.bar.specs.declared.bar.Bar.{Bar}
 use Rattle.bars.specs.Texts.{bars_text}
 use Rattle.meaning.specs.Meaning.{Meaning}
 use Rattle.meaning.specs.declared.query.What.TheVariants.{Bars, Sales}

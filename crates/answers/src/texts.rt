@@ -5,7 +5,7 @@ ghost use Rattle.base.specs.declared.limits.TheConstants.{TIME_LIMIT};
 ghost use Rattle.time_and_sales.specs.Ranges.{all_items};
 ghost use Rattle.bars.specs.Bars.{FitIfTraded, IsUnionOf, all_bars};
 ghost use Rattle.bars.specs.Texts.{IsWritable, bars_text};
-ghost use Rattle.bars.specs.declared.bar.Bar.{Bar as TheBar};
+ghost use Rattle.bar.specs.declared.bar.Bar.{Bar as TheBar};
 ghost use Rattle.row_types.specs.declared.trade.Sale.{Sale as TheSale};
 ghost use Rattle.row_types.specs.SalesByPlace.{IsByPlace};
 ghost use Rattle.time_and_sales.specs.Lent.{AreApart, all_sales, lent};

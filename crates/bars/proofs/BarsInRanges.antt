@@ -17,9 +17,11 @@ use Rattle.time_and_sales.specs.Ranges.{is_in_first}
 use Rattle.time_and_sales.proofs.RangesJoined.{in_first_alike, none_pass}
 use Rattle.row_types.specs.declared.trade.Sale.{Sale}
 use Rattle.time_and_sales.proofs.SortedByPlace.{no_sale}
-use Rattle.bars.specs.Bars.{Key, Bar, key_cmp, under, joined_all, joined_bar, IsByKey, IsUnionOf, AllSumsFit}
+use Rattle.bar.specs.declared.bar.Bar.{Bar}
+use Rattle.bar.specs.OneBar.{Key, key_cmp, joined_bar}
+use Rattle.bars.specs.Bars.{under, joined_all, IsByKey, IsUnionOf, AllSumsFit}
 use Rattle.bars.specs.Steps.{AreJoinedAlike, bar_of_one, bars_of}
-use Rattle.bars.proofs.Bars.{has, has_itself, key_of}
+use Rattle.bar.proofs.OneBar.{has, has_itself, key_of}
 use Rattle.bars.proofs.JoinedTables.{Adds, alike_from, alike_parts, filter-map, of, sum_together, union_from}
 use Rattle.bars.proofs.BarsOfSales.{ones_alike}
 

@@ -15,12 +15,14 @@ use Rattle.base.proofs.Order.{TellsApart-from_distinct}
 use Rattle.row_types.specs.declared.trade.Sale.{Sale}
 use Rattle.time_and_sales.specs.Lent.{AreApart, all_sales}
 use Rattle.time_and_sales.proofs.SortedByPlace.{no_sale, place_of}
-use Rattle.bars.specs.Bars.{Key, Bar, all_bars, has_key, bar_of, interval_start, joined_all, joined_bar, key_cmp}
-use Rattle.bars.specs.Bars.{AreBarsOf, AreBarsOfEach, IsTraded, IsUnionOf}
+use Rattle.bar.specs.declared.bar.Bar.{Bar}
+use Rattle.bar.specs.OneBar.{Key, has_key, bar_of, interval_start, joined_bar, key_cmp, IsTraded}
+use Rattle.bars.specs.Bars.{AreBarsOf, AreBarsOfEach, IsUnionOf, all_bars, joined_all}
 use Rattle.bars.specs.declared.kept_form.Form.{Form}
 use Rattle.bars.specs.declared.kept_form.Form.TheVariants.{Ticks, Sales, Bars}
 use Rattle.bars.specs.Steps.{AreJoinedAlike, AreOfForm, bars_of_form, bar_of_one, bars_of, sale_of_tick}
-use Rattle.bars.proofs.Bars.{AreBarsOf-permutation, AreBarsOf-unique, has, made}
+use Rattle.bar.proofs.OneBar.{has, made}
+use Rattle.bars.proofs.Bars.{AreBarsOf-permutation, AreBarsOf-unique}
 use Rattle.bars.proofs.JoinedTables.{alike_from, alike_parts, by_parts, filter-map, joined_traded, put_union, table_has, together, union_alike, union_of_one}
 
 -- ---- bars of one sale each

@@ -11,11 +11,14 @@ use Rattle.std.proofs.lemmas.List.{get_or-replicate, get_or-set_other, get_or-se
 use Rattle.std.proofs.lemmas.Nat.{le-div, mul-add-lt}
 use Rattle.std.proofs.Math.Nat.{div-mul-le_self, mul-le-mul_right}
 use Rattle.base.proofs.Order.{Contains_head}
-use Rattle.bars.specs.Bars.{Bar, IsByKey, IsUnionOf, joined_bar, key_cmp}
+use Rattle.bar.specs.declared.bar.Bar.{Bar}
+use Rattle.bar.specs.OneBar.{joined_bar, key_cmp}
+use Rattle.bars.specs.Bars.{IsByKey, IsUnionOf}
 use Rattle.bars.specs.Grids.{AreInSlots, IsIn, bar_in, bars_in, column, no_bar}
 use Rattle.bars.specs.Steps.{AreJoinedAlike}
 use Rattle.bars.specs.declared.grid.Grid.{Grid}
-use Rattle.bars.proofs.JoinedTables.{alike_parts, joined_none, none_above, pair_alike, together-append, together_cons, union_from}
+use Rattle.bar.proofs.OneBar.{joined_none}
+use Rattle.bars.proofs.JoinedTables.{alike_parts, none_above, pair_alike, together-append, together_cons, union_from}
 
 -- ---- the slot of a bar
 

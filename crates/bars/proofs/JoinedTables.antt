@@ -14,20 +14,14 @@ use Rattle.std.proofs.lemmas.List.Sorted.{answers_always, IsPermutation-map}
 use Rattle.std.proofs.lemmas.Map.Keys.{sorted_head, sorted_tail}
 use Rattle.base.proofs.Lists.{flat_map_push}
 use Rattle.time_and_sales.specs.Lent.{lent}
-use Rattle.bars.specs.Bars.{Key, Bar, key_cmp, found, joined_bar, joined, joined_all, under, all_bars, IsByKey, IsUnionOf, IsTraded}
+use Rattle.bar.specs.declared.bar.Bar.{Bar}
+use Rattle.bar.specs.OneBar.{Key, key_cmp, joined_bar, joined, IsTraded}
+use Rattle.bars.specs.Bars.{found, joined_all, under, all_bars, IsByKey, IsUnionOf}
 use Rattle.bars.specs.Steps.{AreJoinedAlike, put}
-use Rattle.bars.proofs.Bars.{found_itself, has, higher_misses, key_of, key_total, same_has, tables_agree}
+use Rattle.bar.proofs.OneBar.{has, higher_misses, joined_none, joined_three, key_of, key_total, same_has}
+use Rattle.bars.proofs.Bars.{found_itself, tables_agree}
 
 -- ---- bars joined, one after another
-
-joined_bars : (a b c : Bar) → joined_bar (joined_bar a b) c ≡ joined_bar a (joined_bar b c)
-joined_bars a b c = grind (arith, nat_tests)
-
-pub joined_none : (before : Option Bar) → joined before None ≡ before
-joined_none before = grind arith
-
-pub joined_three : (a b c : Option Bar) → joined (joined a b) c ≡ joined a (joined b c)
-joined_three a b c = grind (arith, joined_bars)
 
 -- what there was before is joined to all the others
 joined_before : (before : Option Bar) (bars : List Bar) → joined_all before bars ≡ joined before (joined_all None bars)

@@ -9,9 +9,11 @@ use Rattle.std.proofs.lemmas.List.Elements.{Contains-get_or, All-get_or}
 use Rattle.std.proofs.lemmas.List.Sorted.{ranks_by, sorted_far}
 use Rattle.std.proofs.lemmas.List.{set_at}
 use Rattle.std.proofs.lemmas.Map.Keys.{Less-from_sorted, sorted_from_all_adjacent}
-use Rattle.bars.specs.Bars.{Bar, key_cmp, joined_bar, AllSumsFit, CanJoin, IsByKey, IsUnionOf}
+use Rattle.bar.specs.declared.bar.Bar.{Bar}
+use Rattle.bar.specs.OneBar.{key_cmp, joined_bar, CanJoin}
+use Rattle.bars.specs.Bars.{AllSumsFit, IsByKey, IsUnionOf}
 pub use Rattle.bars.specs.Grids.{no_bar}
-use Rattle.bars.proofs.Bars.{key_total}
+use Rattle.bar.proofs.OneBar.{key_total}
 use Rattle.bars.proofs.JoinedTables.{alike_parts, pair_alike, table_has, union_from, union_itself, union_more, union_of_one}
 use Rattle.bars.proofs.SumsAreBounded.{next_fits}
 

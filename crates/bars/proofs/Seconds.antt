@@ -2,7 +2,7 @@
 use Rattle.std.proofs.Common.{◌≡◌, ℕ, ◌*◌, ◌/◌, ◌<◌, zero, sym, ap, ◌∙◌, arith}
 use Rattle.std.proofs.Math.Nat.{div-div-eq-div-mul, mul-div_cancel, mul_assoc, mul_comm}
 use Rattle.base.specs.declared.limits.TheConstants.{NANOSECONDS}
-use Rattle.bars.specs.Bars.{interval_start}
+use Rattle.bar.specs.OneBar.{interval_start}
 
 -- whole units in intervals of that many units
 units : (n w s : ℕ) → zero < n → s * n / (w * n) ≡ s / w

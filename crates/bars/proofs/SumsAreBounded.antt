@@ -1,18 +1,20 @@
 -- The sums of a bar: how large they can be, and what they mean for the text of a bar.
-use Rattle.std.proofs.Common.{◌≡◌, ℕ, ◌+◌, ◌-◌, ◌*◌, ◌/◌, ◌^◌, ◌<◌, ◌≤◌, true, All, List, [], ◌∷◌, ◌++◌, length, map, take, drop, get_or, Some}
+use Rattle.std.proofs.Common.{◌≡◌, ℕ, ◌+◌, ◌-◌, ◌*◌, ◌^◌, ◌<◌, ◌≤◌, true, All, List, [], ◌∷◌, ◌++◌, length, map, take, drop, get_or, Some}
 use Rattle.std.proofs.Common.{Contains, Equal, None, append_assoc, refl, sym, ap, ◌∙◌, arith, sum_by}
 use Rattle.std.proofs.lemmas.List.{take-append-drop}
 use Rattle.std.proofs.lemmas.List.Sums.{count_by-le-length, length-filter, sum_by-append, sum_by-cons}
 use Rattle.std.proofs.lemmas.List.Elements.{All-filter, All-head, All-map, All-tail, All-weaker, filter-append, filter_more}
-use Rattle.std.proofs.Math.Nat.{div-mul-le_self, div-le_of_le-mul}
+use Rattle.std.proofs.Math.Nat.{div-mul-le_self}
 use Rattle.base.specs.declared.limits.TheConstants.{NANOSECONDS, TIME_LIMIT, TRADE_LIMIT}
 use Rattle.row_types.specs.declared.trade.Sale.{Sale}
 use Rattle.time_and_sales.specs.Lent.{all_sales}
-use Rattle.bars.specs.Bars.{Key, Bar, interval_start, has_key, bar_of, key_cmp, AreBarsOf, AreBarsOfEach, CanJoin, IsUnionOf, AllSumsFit}
-use Rattle.bars.specs.Bars.{IsTraded, joined_all, under, all_bars}
+use Rattle.bar.specs.declared.bar.Bar.{Bar}
+use Rattle.bar.specs.OneBar.{Key, interval_start, has_key, bar_of, key_cmp, CanJoin, IsTraded}
+use Rattle.bars.specs.Bars.{AreBarsOf, AreBarsOfEach, IsUnionOf, AllSumsFit, joined_all, under, all_bars}
 use Rattle.bars.specs.Steps.{AreJoinedAlike, bar_of_one}
 use Rattle.bars.specs.Texts.{IsWritable}
-use Rattle.bars.proofs.Bars.{found_itself, has, has_itself, key_of, same_has}
+use Rattle.bar.proofs.OneBar.{average_fits, has, has_itself, key_of, same_has}
+use Rattle.bars.proofs.Bars.{found_itself}
 use Rattle.bars.proofs.JoinedTables.{Adds, IsOrderOf, alike_from, of, sum_of_joined, sum_together}
 use Rattle.bars.proofs.BarsInRanges.{starts_alike}
 use Rattle.bars.proofs.BarsOfSales.{each_alike, ones_union, together_ones}
@@ -87,9 +89,6 @@ fits_in_order bars sorted order fit = record {
 }
 
 -- ---- what the text of a bar asks
-
-pub average_fits : (bar : Bar) → IsTraded bar → bar.notional / bar.volume < 2 ^ 32
-average_fits bar has = let quotient : bar.notional / bar.volume ≤ 2 ^ 32 - 1 = div-le_of_le-mul bar.volume has.1 in omega (arith, quotient)
 
 -- bars that are joined as those of sales whose times are below the limit start at such times
 pub starts_of_sales : (width : ℕ) (sales : List Sale) (bars : List Bar) → AreJoinedAlike bars (map (bar_of_one width) sales)

@@ -15,7 +15,9 @@ use Rattle.time_and_sales.specs.Lent.{AreApart}
 use Rattle.time_and_sales.specs.Ranges.{is_in_first}
 use Rattle.time_and_sales.proofs.RangesJoined.{in_first_alike}
 use Rattle.time_and_sales.proofs.SortedByPlace.{differ_in_order, no_sale}
-use Rattle.bars.specs.Bars.{AreBarsOf, Bar, IsTraded, interval_start, key_cmp}
+use Rattle.bar.specs.declared.bar.Bar.{Bar}
+use Rattle.bar.specs.OneBar.{IsTraded, interval_start, key_cmp}
+use Rattle.bars.specs.Bars.{AreBarsOf}
 use Rattle.bars.specs.Steps.{AreJoinedAlike, AreUnmade, bar_of_one, bar_of_tick, bars_of, in_seconds, put, sale_of_tick}
 use Rattle.bars.specs.declared.tick.Tick.{Tick}
 use Rattle.bars.proofs.BarsInRanges.{locate_of, sales_in_range}

@@ -2,7 +2,7 @@
 -- Derived: no public clause cites it.
 use Rattle.std.specs.Prelude.{◌≡◌, ℕ, ◌+◌, ◌-◌, ◌*◌, ◌/◌, ◌<◌, ◌≤◌, ◌^◌, List, [], ◌∷◌, length, get_or, Option, Some, None}
 use Rattle.std.specs.List.{flat_map}
-use Rattle.bars.specs.Bars.{Bar}
+use Rattle.bar.specs.declared.bar.Bar.{Bar}
 use Rattle.bars.specs.declared.grid.Grid.{Grid}
 
 -- the column of a start

@@ -7,7 +7,9 @@ use Rattle.base.specs.declared.limits.TheConstants.{NANOSECONDS, SECONDS_OF_DAY,
 use Rattle.row_types.specs.declared.trade.Kind.TheVariants.{E}
 use Rattle.row_types.specs.declared.trade.Sale.{Sale}
 use Rattle.time_and_sales.specs.Lent.{AreApart}
-use Rattle.bars.specs.Bars.{Bar, IsByKey, IsTraded, Key, bar_from, interval_start, key_cmp, joined_all, joined_bar, under}
+use Rattle.bar.specs.declared.bar.Bar.{Bar}
+use Rattle.bar.specs.OneBar.{IsTraded, Key, bar_from, interval_start, key_cmp, joined_bar}
+use Rattle.bars.specs.Bars.{IsByKey, joined_all, under}
 use Rattle.bars.specs.declared.kept_form.Form.{Form}
 use Rattle.bars.specs.declared.kept_form.Form.TheVariants.{Ticks, Sales, Bars}
 use Rattle.bars.specs.declared.keyed.Keyed.{Keyed}

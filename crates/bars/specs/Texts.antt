@@ -5,7 +5,7 @@ use Rattle.std.specs.List.{flat_map}
 use Rattle.std.specs.Fmt.{decimal}
 use Rattle.base.specs.declared.limits.TheConstants.{TIME_LIMIT}
 use Rattle.time_and_sales.specs.Texts.{price_text, seconds_text}
-use Rattle.bars.specs.declared.bar.Bar.{Bar}
+use Rattle.bar.specs.declared.bar.Bar.{Bar}
 
 -- the average price, exact: notional over volume as a price, rounded down, then `+`, the rest, `/` and the volume; the
 -- fraction isn't reduced, and counts ten-thousandths of a dollar

@@ -2,17 +2,18 @@
 ghost use Rattle.std.specs.Prelude.{◌≡◌, ◌++◌, ◌∷◌, [], All, Contains, IfOk, IfSome, OnOk, List, map, true};
 ghost use Rattle.std.specs.declared.cmp.Ordering.TheVariants.{Equal};
 ghost use Rattle.time_and_sales.specs.Names.{names_by};
-ghost use Rattle.bars.specs.Bars.{AllSumsFit, CanJoin, IsUnionOf, key_cmp};
+ghost use Rattle.bar.specs.OneBar.{CanJoin, key_cmp};
+ghost use Rattle.bars.specs.Bars.{AllSumsFit, IsUnionOf};
 ghost use Rattle.bars.specs.Steps.{bar_at};
 ghost use Rattle.bars.specs.Texts.{IsWritable, lines_text};
-ghost use Rattle.bars.specs.declared.bar.Bar.{Bar as TheBar};
+ghost use Rattle.bar.specs.declared.bar.Bar.{Bar as TheBar};
 
 use crate::OutOfMemory;
-use crate::bar::Bar;
 use crate::grid::Grid;
 use crate::joined_lines::{USUAL_LINE, next_name};
 use crate::keyed::Keyed;
 use crate::texts::write_bar;
+use bar::Bar;
 use std::alloc::Global;
 use std::marker::Model;
 use time_and_sales::Names;
@@ -29,7 +30,7 @@ pub(crate) struct BarGrid {
 
 impl Model for BarGrid {
     ghost use Rattle.std.specs.Prelude.{List};
-    ghost use Rattle.bars.specs.declared.bar.Bar.{Bar as TheBar};
+    ghost use Rattle.bar.specs.declared.bar.Bar.{Bar as TheBar};
     ghost use Rattle.bars.specs.Grids.{AreInSlots, bars_in};
 
     ghost Value = { List TheBar };

@@ -6,13 +6,14 @@ ghost use Rattle.time_and_sales.specs.Lent.{AreApart, all_sales, lent};
 ghost use Rattle.std.specs.List.Sorted.{IsPermutation, IsSorted};
 ghost use Rattle.std.specs.Ordering.{is_gt};
 ghost use Rattle.std.specs.declared.cmp.Ordering.TheVariants.{Equal};
-ghost use Rattle.bars.specs.Bars.{AllSumsFit, AreBarsOf, AreBarsOfEach, CanJoin, IsByKey, IsTraded, IsUnionOf};
-ghost use Rattle.bars.specs.Bars.{FitIfTraded, all_bars, key_cmp};
+ghost use Rattle.bar.specs.OneBar.{CanJoin, IsTraded, key_cmp};
+ghost use Rattle.bars.specs.Bars.{AllSumsFit, AreBarsOf, AreBarsOfEach, FitIfTraded, IsByKey, IsUnionOf, all_bars};
 ghost use Rattle.bars.specs.Steps.{bar_of_one};
-ghost use Rattle.bars.specs.declared.bar.Bar.{Bar as TheBar};
+ghost use Rattle.bar.specs.declared.bar.Bar.{Bar as TheBar};
 
 use crate::OutOfMemory;
-use crate::bar::Bar;
+use crate::interval::bar_of_sale;
+use bar::Bar;
 use base::limits::{SECONDS_OF_DAY, TRADE_LIMIT};
 use row_types::Sale;
 use std::alloc::{Allocator, Global};
@@ -26,8 +27,9 @@ pub struct BarTable<A: Allocator = Global> {
 
 impl<A: Allocator> Model for BarTable<A> {
     ghost use Rattle.std.specs.Prelude.{All, List};
-    ghost use Rattle.bars.specs.declared.bar.Bar.{Bar as TheBar};
-    ghost use Rattle.bars.specs.Bars.{IsByKey, IsTraded};
+    ghost use Rattle.bar.specs.declared.bar.Bar.{Bar as TheBar};
+    ghost use Rattle.bar.specs.OneBar.{IsTraded};
+    ghost use Rattle.bars.specs.Bars.{IsByKey};
 
     ghost Value = { List TheBar };
 
@@ -120,7 +122,7 @@ impl<A: Allocator + Clone> BarTable<A> {
     {
         let mut bars = Vec::with_capacity(alloc, room)?;
         for sale in sales {
-            add(&mut bars, Bar::of_sale(sale, width))?;
+            add(&mut bars, bar_of_sale(sale, width))?;
         }
         Ok(BarTable { bars })
     }
@@ -189,7 +191,7 @@ pub(crate) fn put_in_order<A: Allocator>(sales: &mut Vec<Sale, A>, width: u32) -
     let mut last: Option<(u16, u64)> = None;
     let in_order = sales.as_slice();
     for sale in in_order {
-        let bar = Bar::of_sale(sale, width);
+        let bar = bar_of_sale(sale, width);
         let key = (bar.locate, bar.start);
         if last != Some(key) {
             count = count.saturating_add(1);

@@ -2,7 +2,8 @@
 ghost use Rattle.std.specs.Prelude.{◌≡◌, ◌<◌, ◌≤◌, All, IfOk, length, map};
 ghost use Rattle.std.specs.List.Sorted.{IsSorted};
 ghost use Rattle.time_and_sales.specs.Lent.{AreApart};
-ghost use Rattle.bars.specs.Bars.{AreBarsOf, IsTraded, key_cmp};
+ghost use Rattle.bar.specs.OneBar.{IsTraded, key_cmp};
+ghost use Rattle.bars.specs.Bars.{AreBarsOf};
 ghost use Rattle.bars.specs.Steps.{AreOfForm, bar_of_tick, bars_of_form, sale_of_tick};
 
 use crate::OutOfMemory;
@@ -27,7 +28,7 @@ pub struct BucketBars {
 
 impl Model for BucketBars {
     ghost use Rattle.std.specs.Prelude.{List};
-    ghost use Rattle.bars.specs.declared.bar.Bar.{Bar as TheBar};
+    ghost use Rattle.bar.specs.declared.bar.Bar.{Bar as TheBar};
     ghost use Rattle.bars.specs.Steps.{AreOfForm, bars_of_form};
 
     ghost Value = { List TheBar };

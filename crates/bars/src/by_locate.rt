@@ -1,7 +1,7 @@
 //! What is of a locate, in the order of locates.
 
-use crate::bar::Bar;
 use crate::tick::Tick;
+use bar::Bar;
 use row_types::Sale;
 use time_and_sales::Numbered;
 

@@ -2,8 +2,8 @@
 ghost use Rattle.std.specs.Prelude.{IfSome};
 ghost use Rattle.bars.specs.Grids.{IsIn};
 
-use crate::bar::Bar;
 use crate::keyed::Keyed;
+use bar::Bar;
 use base::limits::NANOSECONDS;
 
 /// How many slots a grid has at most. A list of them then takes a mebibyte at most.

@@ -3,10 +3,11 @@ ghost use Rattle.std.specs.Prelude.{◌≡◌, ◌<◌, All, IfOk, List, map};
 ghost use Rattle.std.specs.List.Sorted.{IsSorted};
 ghost use Rattle.base.specs.declared.limits.TheConstants.{TIME_LIMIT};
 ghost use Rattle.time_and_sales.specs.Names.{names_by};
-ghost use Rattle.bars.specs.Bars.{AllSumsFit, IsTraded, IsUnionOf, key_cmp};
+ghost use Rattle.bar.specs.OneBar.{IsTraded, key_cmp};
+ghost use Rattle.bars.specs.Bars.{AllSumsFit, IsUnionOf};
 ghost use Rattle.bars.specs.Steps.{bar_at};
 ghost use Rattle.bars.specs.Texts.{lines_text};
-ghost use Rattle.bars.specs.declared.bar.Bar.{Bar as TheBar};
+ghost use Rattle.bar.specs.declared.bar.Bar.{Bar as TheBar};
 
 use crate::OutOfMemory;
 use crate::keyed::{Keyed, count_keys};

@@ -3,8 +3,9 @@ ghost use Rattle.std.specs.Prelude.{◌≡◌, ◌<◌, ◌++◌, OnOk, map};
 ghost use Rattle.bars.specs.Steps.{bar_at, bar_of_one, bar_of_tick};
 
 use crate::OutOfMemory;
-use crate::bar::{Bar, interval_start};
+use crate::interval::interval_start;
 use crate::tick::Tick;
+use bar::Bar;
 use row_types::Sale;
 
 /// A sale, a tick or a bar beside its key, so that they are sorted by key without a look at them. The locate

@@ -1,21 +1,19 @@
-//! Bars: the first, high, low and last price of one locate in one interval of the day, the volume, the notional, the
-//! number of trades and the exact average (`Bar`). A `BarTable` has one bar for each locate and interval with sales,
-//! whatever their order, and tables of two lists of sales merge into the table of both. A `BucketBars` holds its bars
-//! as bars, or as what they need of their sales (`Tick`) if these are fewer than sixteen a bar; contracts see bars
+//! Tables of bars, and their texts. A `BarTable` has one bar (`Bar`, of the crate `bar`) for each locate and interval with
+//! sales, whatever their order, and tables of two lists of sales merge into the table of both. A `BucketBars` holds its
+//! bars as bars, or as what they need of their sales (`Tick`) if these are fewer than sixteen a bar; contracts see bars
 //! either way. That no sum wraps is an invariant of the types.
 //!
 //! Not proved: which form a bucket takes, which thread writes which range of locates, and whether it joins them in a
 //! grid or by sorted keys. The text is the same.
 #![tactic(auto)]
 
-mod average;
-mod bar;
 mod bar_grid;
 mod bar_table;
 mod bars_in_ranges;
 mod bucket_bars;
 mod by_locate;
 mod grid;
+mod interval;
 mod joined_lines;
 mod kept_form;
 mod keyed;

@@ -1,7 +1,7 @@
 //! What a bar needs of a sale.
 ghost use Rattle.std.specs.Prelude.{◌≡◌, ◌↔◌, ℕ, ◌+◌, ◌++◌, ◌<◌, ◌≤◌, All, IfErr, IfOk, IsTrue, length, map, vec_capacity, vec_len};
 ghost use Rattle.std.specs.List.Sorted.{IsPermutation, IsSorted};
-ghost use Rattle.bars.specs.Bars.{IsTraded, key_cmp};
+ghost use Rattle.bar.specs.OneBar.{IsTraded, key_cmp};
 ghost use Rattle.bars.specs.Steps.{HasTick, bar_of_tick, in_seconds, sale_of_tick};
 
 use crate::OutOfMemory;

@@ -6,7 +6,7 @@ pub use Rattle.std.proofs.lemmas.Result.{IfOk-weaker as on_ok}
 use Rattle.base.specs.declared.limits.TheConstants.{TIME_LIMIT}
 use Rattle.row_types.specs.declared.trade.Sale.{Sale}
 use Rattle.bars.specs.Bars.{AreBarsOfEach, FitIfTraded, IsUnionOf, all_bars}
-use Rattle.bars.specs.declared.bar.Bar.{Bar}
+use Rattle.bar.specs.declared.bar.Bar.{Bar}
 use Rattle.bars.specs.Steps.{bars_of}
 use Rattle.bars.proofs.BarsOfSales.{bars_of_are, each_alike, union_of_bars}
 use Rattle.bars.proofs.SumsAreBounded.{all_sums_fit, starts_of_sales}

@@ -11,7 +11,7 @@ use Rattle.time_and_sales.specs.Lent.{AreApart, all_sales}
 use Rattle.time_and_sales.specs.Texts.{Sale, listing_text}
 use Rattle.row_types.specs.declared.directory.DirectoryRow.{DirectoryRow}
 use Rattle.bars.specs.Bars.{AreBarsOf}
-use Rattle.bars.specs.declared.bar.Bar.{Bar}
+use Rattle.bar.specs.declared.bar.Bar.{Bar}
 use Rattle.bars.specs.Texts.{bars_text}
 use Rattle.meaning.specs.Meaning.{Meaning}
 use Rattle.meaning.specs.declared.query.What.TheVariants.{Bars, Sales}

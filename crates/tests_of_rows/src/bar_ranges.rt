@@ -3,7 +3,8 @@ ghost use Rattle.std.specs.Prelude.{◌≡◌, ℕ, ◌<◌, All, IfOk, IsTrue, 
 ghost use Rattle.base.specs.declared.limits.TheConstants.{TIME_LIMIT};
 ghost use Rattle.row_types.specs.declared.trade.Sale.{Sale as TheSale};
 ghost use Rattle.time_and_sales.specs.Lent.{AreApart};
-ghost use Rattle.bars.specs.Bars.{AllSumsFit, AreBarsOf, IsTraded, all_bars};
+ghost use Rattle.bar.specs.OneBar.{IsTraded};
+ghost use Rattle.bars.specs.Bars.{AllSumsFit, AreBarsOf, all_bars};
 
 use bars::{BucketBars, Form, OutOfMemory, Sale, lines_in_ranges};
 use probe::Kind;

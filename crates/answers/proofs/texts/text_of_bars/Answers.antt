@@ -1,7 +1,7 @@
 use Rattle.std.proofs.Common.{ap, get_or}
 use Rattle.time_and_sales.specs.Names.{names_by}
 use Rattle.bars.proofs.LastBar.{no_bar}
-use Rattle.bars.specs.declared.bar.Bar.{Bar}
+use Rattle.bar.specs.declared.bar.Bar.{Bar}
 use Rattle.bars.specs.Texts.{bar_line, bars_header}
 use Rattle.answers.proofs.AnswerOfSteps.{line_more}
 use Rattle.answers.proofs.texts.text_of_bars.Goals as goal

@@ -1,6 +1,6 @@
 use Rattle.std.proofs.Common.{All, ◌<◌, take}
 use Rattle.row_types.specs.declared.trade.Sale.{Sale}
-use Rattle.bars.specs.Bars.{IsTraded}
+use Rattle.bar.specs.OneBar.{IsTraded}
 use Rattle.bars.specs.Steps.{bar_of_one}
 use Rattle.bars.proofs.bar_table.put_in_order.Given as goal
 

@@ -1,6 +1,7 @@
 use Rattle.std.proofs.Common.{map-id, None, rules, refl, sym, ap}
 use Rattle.std.proofs.lemmas.Result.{IfOk-weaker}
-use Rattle.bars.specs.Bars.{Bar, joined_all}
+use Rattle.bar.specs.declared.bar.Bar.{Bar}
+use Rattle.bars.specs.Bars.{joined_all}
 use Rattle.bars.specs.Steps.{AreJoinedAlike}
 use Rattle.bars.proofs.JoinedTables.{ordered, union_alike}
 use Rattle.bars.proofs.LastBar.{no_bar}

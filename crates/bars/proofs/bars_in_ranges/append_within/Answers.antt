@@ -3,7 +3,7 @@ use Rattle.std.proofs.lemmas.List.Elements.{All-filter, All-map}
 use Rattle.std.proofs.lemmas.Result.{on_ok_weaker}
 use Rattle.time_and_sales.specs.Ranges.{is_in_first}
 use Rattle.row_types.specs.declared.trade.Sale.{Sale}
-use Rattle.bars.specs.Bars.{IsTraded}
+use Rattle.bar.specs.OneBar.{IsTraded}
 use Rattle.bars.specs.Steps.{AreJoinedAlike, AreUnmade, bar_at, bar_of_one, bar_of_tick, bars_of_form, sale_of_tick}
 use Rattle.bars.proofs.BarsInRanges.{locate_of, sales_in_range}
 use Rattle.bars.proofs.JoinedTables.{alike_behind, traded_behind}

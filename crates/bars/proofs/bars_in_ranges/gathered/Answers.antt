@@ -3,7 +3,9 @@ use Rattle.std.proofs.lemmas.List.{take_more}
 use Rattle.std.proofs.lemmas.List.Elements.{All-nil}
 use Rattle.std.proofs.lemmas.List.Folds.{flat_map-map}
 use Rattle.time_and_sales.specs.Lent.{lent}
-use Rattle.bars.specs.Bars.{Bar, IsTraded, all_bars}
+use Rattle.bar.specs.declared.bar.Bar.{Bar}
+use Rattle.bar.specs.OneBar.{IsTraded}
+use Rattle.bars.specs.Bars.{all_bars}
 use Rattle.bars.specs.Steps.{bar_at}
 use Rattle.time_and_sales.specs.Ranges.{is_in_first}
 use Rattle.bars.proofs.BarsInRanges.{first_as_locate, gathering, locate_of, sums_within}

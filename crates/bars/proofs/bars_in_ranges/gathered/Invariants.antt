@@ -1,7 +1,9 @@
 use Rattle.std.proofs.Common.{List, map, take, filter, flat_map, Bor, All}
 use Rattle.time_and_sales.specs.Ranges.{is_in_first}
 use Rattle.time_and_sales.specs.Lent.{lent}
-use Rattle.bars.specs.Bars.{Bar, IsTraded, all_bars}
+use Rattle.bar.specs.declared.bar.Bar.{Bar}
+use Rattle.bar.specs.OneBar.{IsTraded}
+use Rattle.bars.specs.Bars.{all_bars}
 use Rattle.bars.specs.Steps.{AreJoinedAlike, bar_at}
 use Rattle.bars.proofs.BarsInRanges.{locate_of}
 use Rattle.bars.proofs.bars_in_ranges.gathered.Given as goal

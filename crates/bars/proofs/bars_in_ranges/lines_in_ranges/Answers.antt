@@ -1,7 +1,7 @@
 use Rattle.std.proofs.Common.{rules}
 use Rattle.std.proofs.lemmas.Result.{IfOk-weaker}
 use Rattle.time_and_sales.specs.Names.{names_by}
-use Rattle.bars.specs.Bars.{Bar}
+use Rattle.bar.specs.declared.bar.Bar.{Bar}
 use Rattle.bars.specs.Texts.{bar_line}
 use Rattle.bars.proofs.BarsInRanges.{locate_of, locates_rise}
 use Rattle.bars.proofs.bars_in_ranges.lines_in_ranges.Goals as goal

@@ -4,13 +4,16 @@ use Rattle.std.proofs.lemmas.List.Sorted.{All-permutation}
 use Rattle.std.proofs.lemmas.Result.{IfOk-weaker}
 use Rattle.base.specs.declared.limits.TheConstants.{TIME_LIMIT}
 use Rattle.time_and_sales.specs.Names.{names_by}
-use Rattle.bars.specs.Bars.{Bar, IsTraded, IsUnionOf, joined_all}
+use Rattle.bar.specs.declared.bar.Bar.{Bar}
+use Rattle.bar.specs.OneBar.{IsTraded}
+use Rattle.bars.specs.Bars.{IsUnionOf, joined_all}
 use Rattle.bars.specs.Steps.{AreJoinedAlike, bar_at}
 use Rattle.bars.specs.Texts.{IsWritable, lines_text}
 use Rattle.bars.specs.declared.keyed.Keyed.TheVariants.{OfBar}
 use Rattle.bars.proofs.LastBar.{no_bar}
 use Rattle.bars.proofs.JoinedTables.{joined_traded, one_union, ordered, table_has, union_alike}
-use Rattle.bars.proofs.SumsAreBounded.{average_fits, fits_in_order}
+use Rattle.bar.proofs.OneBar.{average_fits}
+use Rattle.bars.proofs.SumsAreBounded.{fits_in_order}
 use Rattle.bars.proofs.bars_in_ranges.lines_of.Goals as goal
 
 abbrev IsTold : Bar → Type 0

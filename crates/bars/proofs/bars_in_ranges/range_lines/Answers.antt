@@ -4,7 +4,8 @@ use Rattle.std.proofs.lemmas.List.Elements.{All-filter}
 use Rattle.base.specs.declared.limits.TheConstants.{TIME_LIMIT}
 use Rattle.time_and_sales.specs.Ranges.{is_in_first}
 use Rattle.time_and_sales.specs.Lent.{lent}
-use Rattle.bars.specs.Bars.{Bar, all_bars}
+use Rattle.bar.specs.declared.bar.Bar.{Bar}
+use Rattle.bars.specs.Bars.{all_bars}
 use Rattle.bars.proofs.BarsInRanges.{first_as_locate, IsUnionOf-within, locate_of, starts_alike}
 use Rattle.bars.proofs.JoinedTables.{union_alike}
 use Rattle.bars.proofs.bars_in_ranges.range_lines.Goals as goal

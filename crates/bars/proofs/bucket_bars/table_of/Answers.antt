@@ -1,7 +1,7 @@
 use Rattle.std.proofs.lemmas.List.Elements.{All-map}
 use Rattle.std.proofs.lemmas.Simd.{map-map}
 use Rattle.row_types.specs.declared.trade.Sale.{Sale}
-use Rattle.bars.specs.Bars.{IsTraded}
+use Rattle.bar.specs.OneBar.{IsTraded}
 use Rattle.bars.specs.Steps.{bar_of_one, sale_of_tick}
 use Rattle.bars.proofs.bucket_bars.table_of.Goals as goal
 

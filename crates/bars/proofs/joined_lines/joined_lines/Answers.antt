@@ -5,12 +5,14 @@ use Rattle.std.proofs.lemmas.List.Elements.{All-contains, All-take, Contains-pus
 use Rattle.base.specs.declared.limits.TheConstants.{TIME_LIMIT}
 use Rattle.base.proofs.Lists.{flat_map_push}
 use Rattle.time_and_sales.specs.Names.{names_by}
-use Rattle.bars.specs.Bars.{Bar, IsTraded, IsUnionOf, key_cmp}
+use Rattle.bar.specs.declared.bar.Bar.{Bar}
+use Rattle.bar.specs.OneBar.{IsTraded, key_cmp}
+use Rattle.bars.specs.Bars.{IsUnionOf}
 use Rattle.bars.specs.Steps.{bar_at}
 use Rattle.bars.specs.Texts.{IsWritable, bar_line}
 use Rattle.bars.proofs.LastBar.{equal_from, joined_to_last, next_bar, put_behind_last}
 use Rattle.bars.proofs.JoinedTables.{union_of_none, joined_traded, one_union, table_has, union_of_one}
-use Rattle.bars.proofs.SumsAreBounded.{average_fits}
+use Rattle.bar.proofs.OneBar.{average_fits}
 use Rattle.bars.proofs.joined_lines.joined_lines.Goals.{then-has_key_of, else-has_key_of+in_ok-write_bar}
 use Rattle.bars.proofs.joined_lines.joined_lines.Goals as goal
 

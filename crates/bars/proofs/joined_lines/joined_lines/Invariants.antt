@@ -1,6 +1,7 @@
 use Rattle.std.proofs.Common.{◌≡◌, List, [], ◌∷◌, ◌++◌, map, take}
 use Rattle.time_and_sales.specs.Names.{names_by}
-use Rattle.bars.specs.Bars.{Bar, IsUnionOf}
+use Rattle.bar.specs.declared.bar.Bar.{Bar}
+use Rattle.bars.specs.Bars.{IsUnionOf}
 use Rattle.bars.specs.Steps.{bar_at}
 use Rattle.bars.specs.Texts.{lines_text}
 use Rattle.bars.proofs.joined_lines.joined_lines.Given as goal

@@ -1,5 +1,5 @@
 use Rattle.std.proofs.Common.{◌≡◌, ℕ, ◌+◌, ◌++◌, All, map, take, vec_capacity, vec_len}
-use Rattle.bars.specs.Bars.{IsTraded}
+use Rattle.bar.specs.OneBar.{IsTraded}
 use Rattle.bars.specs.Steps.{bar_of_tick, in_seconds, sale_of_tick}
 use Rattle.bars.proofs.tick.append_ticks_of.Given as goal
 

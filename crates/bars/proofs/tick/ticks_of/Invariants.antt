@@ -1,5 +1,5 @@
 use Rattle.std.proofs.Common.{ℕ, ◌+◌, ◌<◌, ◌≤◌, ◌++◌, All, IsPermutation, length, map, vec_capacity, vec_len}
-use Rattle.bars.specs.Bars.{IsTraded}
+use Rattle.bar.specs.OneBar.{IsTraded}
 use Rattle.bars.specs.Steps.{HasTick, bar_of_tick, in_seconds, sale_of_tick}
 use Rattle.bars.proofs.tick.ticks_of.Given as goal
 

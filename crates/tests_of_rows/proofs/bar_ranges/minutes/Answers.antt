@@ -1,9 +1,10 @@
 use Rattle.std.proofs.Common.{ℕ, ◌<◌, ◌^◌, All, List}
 use Rattle.std.proofs.lemmas.List.Elements.{All-weaker}
 use Rattle.row_types.specs.declared.trade.Sale.{Sale}
-use Rattle.bars.specs.Bars.{AreBarsOf, IsTraded}
+use Rattle.bar.specs.OneBar.{IsTraded}
+use Rattle.bars.specs.Bars.{AreBarsOf}
 use Rattle.bars.specs.Texts.{IsWritable}
-use Rattle.bars.specs.declared.bar.Bar.{Bar}
+use Rattle.bar.specs.declared.bar.Bar.{Bar}
 use Rattle.bars.proofs.SumsAreBounded.{table_is_writable}
 use Rattle.tests_of_rows.proofs.bar_ranges.minutes.Goals as goal
 

@@ -1,8 +1,8 @@
 use Rattle.std.proofs.Common.{◌<◌, ◌^◌, [], ◌∷◌, subst, sym, All, ◌++◌, arith, length-append}
 use Rattle.std.proofs.lemmas.List.{append-nil}
 use Rattle.std.proofs.lemmas.List.Elements.{All-append}
-use Rattle.bars.specs.Bars.{IsTraded}
-use Rattle.bars.specs.declared.bar.Bar.{Bar}
+use Rattle.bar.specs.OneBar.{IsTraded}
+use Rattle.bar.specs.declared.bar.Bar.{Bar}
 use Rattle.bars.proofs.SumsAreBounded.{all_sums_fit}
 use Rattle.tests_of_rows.proofs.bar_ranges.tables.Goals as goal
 

@@ -2,7 +2,7 @@ use Rattle.std.proofs.Common.{rules, arith, [], ◌∷◌, subst, sym, All}
 use Rattle.std.specs.List.{IsDistinct}
 use Rattle.std.proofs.lemmas.List.{append-nil}
 use Rattle.std.proofs.lemmas.List.Elements.{All-append}
-use Rattle.bars.specs.Bars.{IsTraded}
+use Rattle.bar.specs.OneBar.{IsTraded}
 use Rattle.bars.proofs.SumsAreBounded.{all_sums_fit}
 use Rattle.tests_of_rows.proofs.tables.two_tables.Goals as goal
 

@@ -1,6 +1,6 @@
 use Rattle.std.proofs.Common.{◌≡◌, ◌<◌, None, Some, length, get_or, Equal, sym, ◌∙◌, arith}
 use Rattle.std.proofs.lemmas.List.{get_or_default}
-use Rattle.bars.specs.Bars.{key_cmp}
+use Rattle.bar.specs.OneBar.{key_cmp}
 use Rattle.bars.specs.Grids.{no_bar}
 use Rattle.bars.proofs.Grids.{join_in, kept_in, put_in}
 use Rattle.bars.proofs.LastBar.{equal_from}

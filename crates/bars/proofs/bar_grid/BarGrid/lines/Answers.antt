@@ -3,7 +3,7 @@ use Rattle.std.proofs.lemmas.Grind.{flat_map-append}
 use Rattle.std.proofs.lemmas.List.{get_or_default, take_all, take_more}
 use Rattle.std.proofs.lemmas.List.Elements.{All-contains}
 use Rattle.time_and_sales.specs.Names.{names_by}
-use Rattle.bars.specs.Bars.{Bar}
+use Rattle.bar.specs.declared.bar.Bar.{Bar}
 use Rattle.bars.specs.Grids.{bar_in, bars_in, no_bar}
 use Rattle.bars.specs.Texts.{IsWritable, bar_line, lines_text}
 use Rattle.bars.proofs.Grids.{kept_in}

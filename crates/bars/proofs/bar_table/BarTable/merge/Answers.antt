@@ -1,6 +1,6 @@
 use Rattle.std.proofs.Common.{◌++◌, ap₂, refl, ◌∙◌}
 use Rattle.std.proofs.lemmas.List.Elements.{All-append}
-use Rattle.bars.specs.Bars.{IsTraded}
+use Rattle.bar.specs.OneBar.{IsTraded}
 use Rattle.bars.proofs.BarsOfSales.{AreBarsOf-both}
 use Rattle.bars.proofs.JoinedTables.{joined_traded, table_has}
 use Rattle.bars.proofs.bar_table.BarTable.merge.Goals as goal

@@ -4,7 +4,9 @@ use Rattle.std.proofs.lemmas.List.{take_all}
 use Rattle.std.proofs.lemmas.List.Elements.{All-append}
 use Rattle.std.proofs.lemmas.List.Folds.{flat_map-map}
 use Rattle.time_and_sales.specs.Lent.{lent}
-use Rattle.bars.specs.Bars.{Bar, IsTraded, all_bars}
+use Rattle.bar.specs.declared.bar.Bar.{Bar}
+use Rattle.bar.specs.OneBar.{IsTraded}
+use Rattle.bars.specs.Bars.{all_bars}
 use Rattle.bars.proofs.BarsOfSales.{AreBarsOf-union}
 use Rattle.bars.proofs.JoinedTables.{joined_traded, table_has}
 use Rattle.bars.proofs.bar_table.BarTable.merge_all.Goals as goal

@@ -1,5 +1,6 @@
 use Rattle.std.proofs.Common.{◌≡◌, Bor, List, take, flat_map, All}
-use Rattle.bars.specs.Bars.{Bar, IsTraded}
+use Rattle.bar.specs.declared.bar.Bar.{Bar}
+use Rattle.bar.specs.OneBar.{IsTraded}
 use Rattle.bars.proofs.bar_table.BarTable.merge_all.Given as goal
 
 -- the bars of the tables so far

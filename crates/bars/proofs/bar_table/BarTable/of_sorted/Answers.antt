@@ -1,7 +1,7 @@
 use Rattle.std.proofs.Common.{map, refl, arith}
 use Rattle.std.proofs.lemmas.List.{length-map, take_all}
 use Rattle.std.proofs.lemmas.List.Elements.{All-map}
-use Rattle.bars.specs.Bars.{IsTraded}
+use Rattle.bar.specs.OneBar.{IsTraded}
 use Rattle.bars.specs.Steps.{bar_of_one}
 use Rattle.bars.proofs.BarsOfSales.{bars_from_ones, bars_traded}
 use Rattle.bars.proofs.LastBar.{next_bar}
@@ -13,8 +13,8 @@ add-requires g c =
     let one = bar_of_one c.args.width in
     let sales = c.args.sales.now in
     let fit = sums_of_few c.args.width sales (map one sales) (λ key. refl) (All-map IsTraded one sales c.requires.traded) c.requires.count in
-    let can = (next_bar one sales c.loop-sale.sale-index _ c.of_sale.result c.loop-sale.bars.items c.requires.rise fit c.loop-sale-test.true
-    c.of_sale.ensures.value c.loop-sale.invariant).0 in
+    let can = (next_bar one sales c.loop-sale.sale-index _ c.bar_of_sale.result c.loop-sale.bars.items c.requires.rise fit c.loop-sale-test.true
+    c.bar_of_sale.ensures.value c.loop-sale.invariant).0 in
     record { by_key = can.by_key; up_to = can.up_to; sums = can.sums }
 
 pub loop-sale-preserved : goal.loop-sale-preserved
@@ -22,8 +22,8 @@ loop-sale-preserved g c =
     let one = bar_of_one c.args.width in
     let sales = c.args.sales.now in
     let fit = sums_of_few c.args.width sales (map one sales) (λ key. refl) (All-map IsTraded one sales c.requires.traded) c.requires.count in
-    (next_bar one sales c.loop-sale.sale-index _ c.of_sale.result c.loop-sale.bars.items c.requires.rise fit c.loop-sale-test.true c.of_sale.ensures.value
-    c.loop-sale.invariant).1 _ c.in_ok-add.ensures
+    (next_bar one sales c.loop-sale.sale-index _ c.bar_of_sale.result c.loop-sale.bars.items c.requires.rise fit c.loop-sale-test.true
+    c.bar_of_sale.ensures.value c.loop-sale.invariant).1 _ c.in_ok-add.ensures
 
 pub returns-clause-bars : goal.returns-clause-bars
 returns-clause-bars g c =

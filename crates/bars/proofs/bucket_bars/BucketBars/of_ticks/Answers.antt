@@ -1,6 +1,6 @@
 use Rattle.std.proofs.Common.{map, arith}
 use Rattle.std.proofs.lemmas.List.Sorted.{All-permutation, IsPermutation-map, length_permutation}
-use Rattle.bars.specs.Bars.{IsTraded}
+use Rattle.bar.specs.OneBar.{IsTraded}
 use Rattle.bars.specs.Steps.{bar_of_tick, bars_of, sale_of_tick}
 use Rattle.bars.specs.declared.tick.Tick.{Tick}
 use Rattle.bars.proofs.BarsOfSales.{AreBarsOf-sorted, bars_of_are, bars_traded}

@@ -5,17 +5,17 @@ use crate::bar::Bar;
 
 /// An average price, exact: it is this price, and this rest over the volume.
 #[derive(Clone, Copy)]
-pub(crate) struct Average {
+pub struct Average {
     /// Rounded down, in ten-thousandths of a dollar.
-    pub(crate) price: u32,
+    pub price: u32,
     /// What is left of the notional, less than the volume.
-    pub(crate) rest: u128,
+    pub rest: u128,
 }
 
 impl Bar {
     /// The average price of the bar's sales: its notional divided by its volume.
     #[inline]
-    pub(crate) fn average(&self) -> Average
+    pub fn average(&self) -> Average
         requires volume { 0 < self.now.volume }
         requires average { self.now.notional / self.now.volume < 2 ^ 32 }
         ensures price { result.price ≡ self.now.notional / self.now.volume }
