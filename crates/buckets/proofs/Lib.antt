@@ -1,4 +1,3 @@
 pub mod ProductsOfSales
-pub mod OneBucketMore
 pub mod RowsOfPartitions
 pub mod RisingRows

@@ -46,7 +46,7 @@ impl Bucket {
     }
 
     /// Its partition in each morsel that has rows there, in the order of the file.
-    pub(crate) fn partitions(&self, alloc: Global) -> Result<Vec<&Partition>, OutOfMemory>
+    pub fn partitions(&self, alloc: Global) -> Result<Vec<&Partition>, OutOfMemory>
         ensures rows { IfOk result (λ partitions.
             rows_of_partitions partitions.items ≡ joined_partitions self.now.rows) }
         ensures by_place { IfOk result (λ partitions. AreRowsByPlace (rows_of_partitions partitions.items)) }
@@ -55,21 +55,21 @@ impl Bucket {
     }
 
     /// The breaks of the whole day.
-    pub(crate) fn breaks(&self) -> &Breaks
+    pub fn breaks(&self) -> &Breaks
         ensures { result.now ≡ self.now.breaks }
     {
         &self.plan.breaks
     }
 
     /// Which sales are asked for.
-    pub(crate) fn selection(&self) -> &Selection
+    pub fn selection(&self) -> &Selection
         ensures { result.now ≡ self.now.selection }
     {
         &self.plan.selection
     }
 
     /// What is listed of them.
-    pub(crate) fn what(&self) -> What
+    pub fn what(&self) -> What
         ensures what { result ≡ self.now.what }
         ensures width { HasWidth result }
     {

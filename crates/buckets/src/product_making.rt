@@ -12,7 +12,7 @@ use probe::Sale;
 use time_and_sales::Listing;
 
 /// The listing of the sales, or their bars.
-pub(crate) fn product(mut sales: Vec<Sale>, what: What) -> Product
+pub fn make_product(mut sales: Vec<Sale>, what: What) -> Product
     requires places { AreApart sales.items }
     requires count { length sales.items < TRADE_LIMIT }
     requires shares { All (λ sale. 0 < sale.shares) sales.items }

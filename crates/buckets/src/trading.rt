@@ -17,14 +17,17 @@ use std::alloc::Global;
 
 /// The trades of some rows, and the first rows that are at fault.
 #[derive(Drop)]
-pub(crate) struct Traded {
-    pub(crate) repeated: Option<Repeated>,
-    pub(crate) unknown: Option<Unknown>,
-    pub(crate) sales: Vec<Sale>,
+pub struct Traded {
+    /// The first order row of the partitions that repeats a reference.
+    pub repeated: Option<Repeated>,
+    /// The first execution of them that has no price.
+    pub unknown: Option<Unknown>,
+    /// The executions at their prices, and then the sales that have a price of their own.
+    pub sales: Vec<Sale>,
 }
 
 /// Prices the executions of the partitions by their orders, and adds the sales that have a price of their own.
-pub(crate) fn trade(alloc: Global, partitions: &[&Partition]) -> Result<Traded, OutOfMemory>
+pub fn trade(alloc: Global, partitions: &[&Partition]) -> Result<Traded, OutOfMemory>
     requires { AreRowsByPlace (rows_of_partitions partitions.now) }
     ensures repeated { IfOk result (λ traded. traded.repeated ≡ repeated_in (rows_of_partitions partitions.now)) }
     ensures unknown { IfOk result (λ traded. traded.unknown ≡ unknown_in (rows_of_partitions partitions.now)) }

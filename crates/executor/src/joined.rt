@@ -14,9 +14,9 @@ ghost use Rattle.planning.specs.AllBuckets.{AreGatheredOf, AreProductsOf, IsText
 use crate::OutOfMemory;
 use answers::{Answer, Text, text_of_bars, text_of_sales};
 use bars::{BarTable, BucketBars};
-use buckets::{BucketTotal, Product};
+use buckets::Product;
 use meaning::{Query, What};
-use planning::{DayPlan, fault_of, tables};
+use planning::{BucketTotal, DayPlan, fault_of, tables};
 use std::alloc::Global;
 use std::sync::Arc;
 use time_and_sales::{Listing, Names};

@@ -12,9 +12,8 @@ ghost use Rattle.scanning.specs.declared.wrong.WrongLength.{WrongLength as TheWr
 ghost use Rattle.buckets.specs.FoundRows.{TotalView};
 ghost use Rattle.executor.specs.Outcomes.{GaveTheSame};
 
-use buckets::BucketWork;
 use gathering::{Link, Work};
-use planning::PlanLink;
+use planning::{BucketWork, PlanLink};
 use scanning::ScanWork;
 
 /// The two pipelines of a cut, for one query and number of partitions, have one outcome: the same total of all

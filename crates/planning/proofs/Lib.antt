@@ -4,3 +4,4 @@ pub mod PlannedLists
 pub mod AnswerOfBuckets
 pub mod BucketsOfMessages
 pub mod ProductsJoined
+pub mod OneBucketMore

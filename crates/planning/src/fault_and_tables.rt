@@ -5,8 +5,9 @@ ghost use Rattle.time_and_sales.specs.Lent.{lent};
 ghost use Rattle.planning.specs.AllBuckets.{fault_from, table_of};
 
 use crate::OutOfMemory;
+use crate::bucket_total::BucketTotal;
 use bars::BucketBars;
-use buckets::{BucketTotal, Product};
+use buckets::Product;
 use order_table::Repeated;
 use outcomes::DayFault;
 use probe::Unknown;

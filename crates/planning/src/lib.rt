@@ -1,7 +1,8 @@
-//! What stands before the second pipeline, and behind it. `PlanLink`, the link between the two, makes names, breaks and
-//! the selection of all morsels once, and a bucket of each partition; the buckets share all rows. Or it halts at the
-//! first wrong length. `answer_in_ranges` makes the answer of what all buckets found: the first repeated reference,
-//! else the first unknown one, else the text, which threads make in ranges.
+//! The second pipeline, and what stands before and behind it. `PlanLink`, the link from the first one, makes names,
+//! breaks and the selection of all morsels once, and a bucket of each partition, which share all rows; or it halts at
+//! the first wrong length. `BucketWork` finds in a bucket a repeated or an unknown reference, and lists its sales that
+//! are asked for; a total keeps the fault of least place of each sort. `answer_in_ranges` answers with the first
+//! repeated reference of all buckets, else the first unknown one, else the text, which threads make in ranges.
 //!
 //! The answer rests on its lemmas. Partition b of the total has the rows of the whole list of messages that go to b
 //! (`partition_is`), and the total has its breaks and directory rows (`breaks_are`, `directory_is`) and the file's
@@ -9,6 +10,8 @@
 //! and their sales in some order the day's (`lists_are`), so their text is its text.
 #![tactic(auto)]
 
+mod bucket_total;
+mod bucket_work;
 mod day_plan;
 mod fault_and_tables;
 mod plan_link;
@@ -16,6 +19,8 @@ mod plan_making;
 mod ranged_answer;
 
 pub use base::OutOfMemory;
+pub use bucket_total::{BucketTotal, Found};
+pub use bucket_work::BucketWork;
 pub use buckets::DayNames;
 pub use day_plan::DayPlan;
 pub use fault_and_tables::{fault_of, tables};

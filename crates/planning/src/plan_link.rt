@@ -7,9 +7,10 @@ ghost use Rattle.morsel_rows.specs.Partitions.{AreRowsByPlace, joined_partitions
 ghost use Rattle.planning.specs.Planned.{LinkView, all_directory, linked_to, planned_buckets};
 
 use crate::OutOfMemory;
+use crate::bucket_work::BucketWork;
 use crate::day_plan::DayPlan;
 use crate::plan_making::{buckets_of, directory_of, plan};
-use buckets::{BucketWork, DayNames};
+use buckets::DayNames;
 use gathering::{Inputs, Link, Linked};
 use meaning::Query;
 use morsel_rows::MorselRows;

@@ -9,9 +9,10 @@ ghost use Rattle.day_rows.specs.Messages.{Placed};
 ghost use Rattle.planning.specs.AllBuckets.{AreGatheredOf, AreProductsOf, IsTextOfAll, listing_of};
 
 use crate::OutOfMemory;
+use crate::bucket_total::BucketTotal;
 use crate::fault_and_tables::{fault_of, tables};
 use answers::{Answer, Text, text_of_listings, text_of_tables};
-use buckets::{BucketTotal, DayNames, Product};
+use buckets::{DayNames, Product};
 use meaning::{Query, What};
 use std::alloc::Global;
 use std::sync::Arc;

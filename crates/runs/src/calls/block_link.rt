@@ -4,10 +4,9 @@ ghost use Rattle.runs.specs.Steps.{LinksAttempts, found_or_fault};
 
 use crate::OutOfMemory;
 use block_scan::{Attempts, BlockSource, BlockWork, SourceFault};
-use buckets::{BucketTotal, BucketWork};
 use gathering::{Inputs, Link, Linked};
 use pipelines::Outcome;
-use planning::{DayPlan, PlanLink};
+use planning::{BucketTotal, BucketWork, DayPlan, PlanLink};
 use scanning::WrongLength;
 use std::alloc::{AllocError, Global};
 

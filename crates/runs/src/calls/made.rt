@@ -5,8 +5,9 @@ ghost use Rattle.runs.specs.Runs.{IsHandedOver, is_write_failed};
 
 use crate::calls::ends::hand_over;
 use answers::Answer;
-use buckets::{BucketTotal, DayNames};
+use buckets::DayNames;
 use outcomes::RunFault;
+use planning::BucketTotal;
 use sinks::Sink;
 use std::marker::Model;
 use std::thread::{self, Threads};

@@ -16,11 +16,10 @@ use block_scan::{
     BlockSource, Division, Knowledge, NewWatch, SourceFault, Watch, WatchName, Watched,
     block_inputs,
 };
-use buckets::BucketTotal;
 use order_table::greatest_prime;
 use outcomes::{RunFault, Settings};
 use pipelines::{FreeGate, Gate, Outcome, run_pair};
-use planning::{DayPlan, PlanLink};
+use planning::{BucketTotal, DayPlan, PlanLink};
 use query::Query;
 use scanning::WrongLength;
 use sinks::Sink;

@@ -3,7 +3,7 @@ ghost use Rattle.std.specs.Prelude.{◌≡◌, map};
 ghost use Rattle.std.specs.Arc.{arc_value};
 ghost use Rattle.buckets.specs.FoundRows.{FoundView, TotalView};
 
-use crate::product::Product;
+use buckets::Product;
 use order_table::Repeated;
 use probe::Unknown;
 use std::alloc::Global;
@@ -48,21 +48,21 @@ impl Model for BucketTotal {
 
 impl BucketTotal {
     /// Of all order rows that repeat a reference, the first of the day.
-    pub fn repeated(&self) -> Option<Repeated>
+    pub(crate) fn repeated(&self) -> Option<Repeated>
         ensures { result ≡ self.now.repeated }
     {
         self.repeated
     }
 
     /// Of all executions whose reference nothing before them gives, the first of the day.
-    pub fn unknown(&self) -> Option<Unknown>
+    pub(crate) fn unknown(&self) -> Option<Unknown>
         ensures { result ≡ self.now.unknown }
     {
         self.unknown
     }
 
     /// What is listed of each bucket, in the order of their numbers.
-    pub fn products(&self) -> &[Arc<Product, Global>]
+    pub(crate) fn products(&self) -> &[Arc<Product, Global>]
         ensures { map arc_value result.now ≡ self.now.products }
     {
         self.products.as_slice()

@@ -8,8 +8,8 @@ use Rattle.morsel_rows.specs.Partitions.{AreRowsByPlace, PartitionView}
 use Rattle.buckets.specs.BucketRows.{rows_of_partitions}
 use Rattle.buckets.specs.FoundRows.{sales_in, trades_in}
 use Rattle.buckets.proofs.RowsOfPartitions.{few_sales, sales_apart}
-use Rattle.buckets.proofs.bucket_work.BucketWorkWork.run.Goals.{After-what}
-use Rattle.buckets.proofs.bucket_work.BucketWorkWork.run.Goals as goal
+use Rattle.planning.proofs.bucket_work.BucketWorkWork.run.Goals.{After-what}
+use Rattle.planning.proofs.bucket_work.BucketWorkWork.run.Goals as goal
 
 -- by some breaks and some selection, what is listed is kept of the trades
 KeptOfTrades : PartitionView → List Sale → Type 0
@@ -22,21 +22,21 @@ kept_are c = (_, _, c.keep.ensures ∙ ap (kept _ _) c.in_ok-repeated.ensures.sa
 by_place : (c : After-what) → AreRowsByPlace (rows_of_partitions c.as_slice.result.now)
 by_place c = subst (λ l. AreRowsByPlace (rows_of_partitions l)) (sym c.as_slice.ensures.value) c.in_ok-partitions.ensures.by_place
 
-pub product-product-requires-clause-places : goal.product-product-requires-clause-places
+pub make_product-product-requires-clause-places : goal.make_product-product-requires-clause-places
 unfolding KeptOfTrades
-product-product-requires-clause-places c =
+make_product-product-requires-clause-places c =
     let (breaks, selection, are) = kept_are c in
     subst AreApart (sym are) (sales_apart (rows_of_partitions c.as_slice.result.now) (by_place c) breaks selection)
 
-pub product-product-requires-clause-count : goal.product-product-requires-clause-count
+pub make_product-product-requires-clause-count : goal.make_product-product-requires-clause-count
 unfolding KeptOfTrades
-product-product-requires-clause-count c =
+make_product-product-requires-clause-count c =
     let (breaks, selection, are) = kept_are c in
     subst (λ (l : List Sale). length l < TRADE_LIMIT) (sym are) (few_sales (rows_of_partitions c.as_slice.result.now) (by_place c) breaks selection)
 
-pub product-product-requires-clause-shares : goal.product-product-requires-clause-shares
+pub make_product-product-requires-clause-shares : goal.make_product-product-requires-clause-shares
 unfolding KeptOfTrades
-product-product-requires-clause-shares c =
+make_product-product-requires-clause-shares c =
     let (breaks, selection, are) = kept_are c in
     subst (λ (l : List Sale). All (λ (s : Sale). 0 < s.shares) l) (sym are)
     (kept_have_shares breaks selection (trades_in (rows_of_partitions c.as_slice.result.now)))

@@ -1,8 +1,8 @@
 use Rattle.std.proofs.Common.{rules, sym, ap₂, ◌∙◌}
 use Rattle.std.proofs.lemmas.List.Sorted.{answers_always}
 use Rattle.std.specs.Arc.{arc_value}
-use Rattle.buckets.proofs.OneBucketMore.{products_more, total_found_more, with_found}
-use Rattle.buckets.proofs.bucket_work.BucketWorkWork.add.Goals as goal
+use Rattle.planning.proofs.OneBucketMore.{products_more, total_found_more, with_found}
+use Rattle.planning.proofs.bucket_work.BucketWorkWork.add.Goals as goal
 
 pub returns-clause-ok : goal.returns-clause-ok
 returns-clause-ok c before next was made begins =

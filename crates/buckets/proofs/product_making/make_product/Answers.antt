@@ -4,7 +4,7 @@ use Rattle.buckets.specs.Products.{product_of}
 use Rattle.buckets.specs.declared.product.Product.TheVariants.{Listed, Tabled}
 use Rattle.buckets.proofs.ProductsOfSales.{listing_is_by_place}
 use Rattle.bars.proofs.BarsOfSales.{table_is}
-use Rattle.buckets.proofs.product_making.product.Goals as goal
+use Rattle.buckets.proofs.product_making.make_product.Goals as goal
 
 pub of_vec-requires-clause-width : goal.of_vec-requires-clause-width
 of_vec-requires-clause-width c =

@@ -5,11 +5,9 @@ ghost use Rattle.base.proofs.Exact.{exact_list};
 ghost use Rattle.buckets.specs.Buckets.{AreNumbered, exact_bucket, found, total_found};
 
 use crate::OutOfMemory;
-use crate::bucket::Bucket;
 use crate::bucket_total::{BucketTotal, Found};
-use crate::product_making::product;
-use crate::trading::{Traded, trade};
 use base::earlier;
+use buckets::{Bucket, Traded, make_product, trade};
 use gathering::Work;
 use probe::keep;
 use std::alloc::Global;
@@ -44,7 +42,7 @@ impl Work for BucketWork {
             mut sales,
         } = trade(alloc, partitions.as_slice())?;
         keep(&mut sales, input.breaks(), input.selection());
-        let product = product(sales, input.what());
+        let product = make_product(sales, input.what());
         Ok(Found {
             repeated,
             unknown,
