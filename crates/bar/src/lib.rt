@@ -2,8 +2,8 @@
 //! notional, the number of trades and the exact average. It is made of one sale, or of two bars of its locate and
 //! interval. The crate `bars` has tables of bars, and their texts.
 //!
-//! Not proved: that two bars that are joined are of one locate and interval, which `has_key_of` tells; nor that a bar is of
-//! any sales. Callers show that, and that sums fit.
+//! Not proved: that two bars that are joined are of one locate and interval, which `has_key_of` tells, nor that a bar
+//! is of any sales. Callers show that, and that sums fit.
 #![tactic(auto)]
 
 mod average;

@@ -1,7 +1,7 @@
-//! Tables of bars, and their texts. A `BarTable` has one bar (`Bar`, of the crate `bar`) for each locate and interval with
-//! sales, whatever their order, and tables of two lists of sales merge into the table of both. A `BucketBars` holds its
-//! bars as bars, or as what they need of their sales (`Tick`) if these are fewer than sixteen a bar; contracts see bars
-//! either way. That no sum wraps is an invariant of the types.
+//! Tables of bars, and their texts. A `BarTable` has one bar (`Bar`, of the crate `bar`) for each locate and interval
+//! with sales, whatever their order, and tables of two lists of sales merge into the table of both. A `BucketBars`
+//! holds its bars as bars, or as what they need of their sales (`Tick`) if these are fewer than sixteen a bar;
+//! contracts see bars either way. That no sum wraps is an invariant of the types.
 //!
 //! Not proved: which form a bucket takes, which thread writes which range of locates, and whether it joins them in a
 //! grid or by sorted keys. The text is the same.
