@@ -4,4 +4,3 @@ pub mod PlannedLists
 pub mod AnswerOfBuckets
 pub mod BucketsOfMessages
 pub mod ProductsJoined
-pub mod OneBucketMore
