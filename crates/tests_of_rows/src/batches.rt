@@ -2,6 +2,7 @@
 ghost use Rattle.std.specs.Prelude.{◌≡◌, false};
 
 use crate::days::named;
+use crate::rows::pass_all;
 use day_file::{Counted, LONGEST_FILE, OutOfMemory, Source};
 use std::alloc::{AllocError, Global};
 use std::test::Fail;
@@ -69,13 +70,22 @@ fn is_batched(alloc: Global, bytes: &[u8], batched: Batched) -> bool {
     read_batches(alloc, &mut Counted::of(&mut reader), way) == Ok((morsels, 112, batches))
 }
 
+/// How many rows of the table, up to the first that isn't, are right.
+fn right_batches(alloc: Global) -> Result<usize, OutOfMemory> {
+    let bytes = named(alloc)?;
+    let mut right = 0usize;
+    for batched in &BATCHES {
+        if !is_batched(alloc, &bytes, *batched) {
+            break;
+        }
+        right = right.saturating_add(1);
+    }
+    Ok(right)
+}
+
 #[test]
 fn a_batch_ends_once_it_has_its_least_bytes(rt: HostRuntime) -> Result<(), Fail> {
-    let bytes = named(rt.alloc())?;
-    for batched in &BATCHES {
-        assert!(rt; is_batched(rt.alloc(), &bytes, *batched), "{batched:?}");
-    }
-    Ok(())
+    pass_all(right_batches(rt.alloc()), 13)
 }
 
 /// How many zeros a stream has, the limit, how many bytes are read, the calls of the reader, and how many it keeps.
@@ -110,16 +120,21 @@ fn length_of(read: Result<Read, SourceFault>) -> Result<u64, SourceFault> {
     Ok(read?.1)
 }
 
+/// How many rows of the table, up to the first that isn't, are right.
+fn right_asked(alloc: Global) -> Result<usize, OutOfMemory> {
+    let mut right = 0usize;
+    for asked in &ASKED {
+        if !(is_asked(alloc, *asked, 100)? && is_asked(alloc, *asked, u64::MAX)?) {
+            break;
+        }
+        right = right.saturating_add(1);
+    }
+    Ok(right)
+}
+
 #[test]
 fn batches_ask_for_no_more_than_the_limit_and_a_byte(rt: HostRuntime) -> Result<(), Fail> {
-    for asked in &ASKED {
-        let by_batches = is_asked(rt.alloc(), *asked, 100)?;
-        assert!(rt;
-            by_batches && is_asked(rt.alloc(), *asked, u64::MAX)?,
-            "{asked:?}"
-        );
-    }
-    Ok(())
+    pass_all(right_asked(rt.alloc()), 7)
 }
 
 /// How many bytes of `NAMED` are read, by which target, and what comes of them.
@@ -146,11 +161,20 @@ fn is_told(alloc: Global, (length, target, want): Told) -> Result<bool, OutOfMem
     }
 }
 
+/// How many rows of the table, up to the first that isn't, are right.
+fn right_told(alloc: Global) -> Result<usize, OutOfMemory> {
+    let mut right = 0usize;
+    for told in &TOLD {
+        if !is_told(alloc, *told)? {
+            break;
+        }
+        right = right.saturating_add(1);
+    }
+    Ok(right)
+}
+
 /// Run also with each allocation of the process refused in turn.
 #[test]
 fn batches_or_want_of_memory(rt: HostRuntime) -> Result<(), Fail> {
-    for told in &TOLD {
-        assert!(rt; is_told(rt.alloc(), *told)?, "{told:?}");
-    }
-    Ok(())
+    pass_all(right_told(rt.alloc()), 3)
 }

@@ -1,5 +1,6 @@
 //! Blocks of a file that gives few bytes a call, or fails at some places.
 use crate::days::broken_earlier;
+use crate::rows::pass_all;
 use base::limits::LONGEST_FILE;
 use block_scan::{
     BlockSource, BlockWork, DeviceFailed, Division, FileBlocks, OutOfMemory, ReadsAt, SourceFault,
@@ -10,7 +11,6 @@ use morsel_rows::{MorselRows, Partition};
 use pipelines::{Crew, FreeGate, run_first};
 use scanning::{ScanTotal, WrongLength};
 use std::alloc::Global;
-use std::process::Abort;
 use std::sync::{Arc, Wait};
 use std::test::Fail;
 use std::thread::Threads;
@@ -143,13 +143,18 @@ static DAYS: [(&[Form], u32, Told); 4] = [
     (&ROWS, 7, (56, None)),
 ];
 
+/// Adds these bytes `times` times.
+fn add_times(bytes: &mut Vec<u8>, once: &[u8], times: u32) -> Result<(), OutOfMemory> {
+    for _ in 0..times {
+        bytes.extend_from_slice(once)?;
+    }
+    Ok(())
+}
+
 /// The bytes of a day that has these frames `times` times.
 fn day_of(alloc: Global, forms: &[Form], times: u32) -> Result<Vec<u8>, OutOfMemory> {
-    let once = Day::of(alloc, forms)?.bytes;
     let mut bytes = Vec::new(alloc);
-    for _ in 0..times {
-        bytes.extend_from_slice(&once)?;
-    }
+    add_times(&mut bytes, &Day::of(alloc, forms)?.bytes, times)?;
     Ok(bytes)
 }
 
@@ -167,8 +172,14 @@ static READINGS: [(usize, u64, u32); 10] = [
     (10_000, LONGEST_FILE, 3),
 ];
 
-/// What is read of these bytes is told, by each way to read them.
-fn are_read<R: Threads + Wait + Sync + Abort>(rt: &R, alloc: Global, bytes: &[u8], want: Told) {
+/// How many of the ways to read these bytes, up to the first that doesn't, tell what they give.
+fn right_readings<R: Threads + Wait + Sync>(
+    rt: &R,
+    alloc: Global,
+    bytes: &[u8],
+    want: Told,
+) -> usize {
+    let mut right = 0usize;
     for (step, length, blocks) in &READINGS {
         let division = division_of(*length, *blocks);
         let disk = Disk {
@@ -176,36 +187,53 @@ fn are_read<R: Threads + Wait + Sync + Abort>(rt: &R, alloc: Global, bytes: &[u8
             step: *step,
             bad: u64::MAX,
         };
-        let told = told_by_blocks(rt, alloc, FileBlocks::of(disk), division);
-        assert!(rt; told == Ok(want), "{step} in {blocks}");
+        if told_by_blocks(rt, alloc, FileBlocks::of(disk), division) != Ok(want) {
+            break;
+        }
+        right = right.saturating_add(1);
     }
+    right
+}
+
+/// How many readings of all days, up to the first wrong one of a day, are right.
+fn right_days<R: Threads + Wait + Sync>(rt: &R, alloc: Global) -> Result<usize, OutOfMemory> {
+    let mut right = 0usize;
+    for (forms, times, want) in &DAYS {
+        let bytes = day_of(alloc, forms, *times)?;
+        right = right.saturating_add(right_readings(rt, alloc, &bytes, *want));
+    }
+    Ok(right)
 }
 
 #[test]
 fn a_file_that_gives_few_bytes_a_call(rt: HostRuntime) -> Result<(), Fail> {
-    for (forms, times, want) in &DAYS {
-        let bytes = day_of(rt.alloc(), forms, *times)?;
-        are_read(&rt, rt.alloc(), &bytes, *want);
-    }
-    Ok(())
+    pass_all(right_days(&rt, rt.alloc()), 4 * 10)
 }
 
 /// From which place on reading fails: at the start, in the first of three blocks and in the last one, and at the
 /// limit alone; and how many blocks there are.
 static FAILURES: [(u64, u32); 5] = [(0, 1), (20, 1), (20, 3), (120, 3), (10_000, 1)];
 
-#[test]
-fn a_reading_that_fails(rt: HostRuntime) -> Result<(), Fail> {
-    let bytes = broken_earlier(rt.alloc())?;
+/// How many of these, up to the first that isn't, are told as failures.
+fn right_failures<R: Threads + Wait + Sync>(rt: &R, alloc: Global) -> Result<usize, OutOfMemory> {
+    let bytes = broken_earlier(alloc)?;
+    let mut right = 0usize;
     for (bad, blocks) in &FAILURES {
         let disk = Disk {
             bytes: &bytes,
             step: 10,
             bad: *bad,
         };
-        let source = FileBlocks::of(disk);
-        let told = told_by_blocks(&rt, rt.alloc(), source, division_of(45, *blocks));
-        assert!(rt; told == Err(SourceFault::ReadFailed), "{bad} in {blocks}");
+        let told = told_by_blocks(rt, alloc, FileBlocks::of(disk), division_of(45, *blocks));
+        if told != Err(SourceFault::ReadFailed) {
+            break;
+        }
+        right = right.saturating_add(1);
     }
-    Ok(())
+    Ok(right)
+}
+
+#[test]
+fn a_reading_that_fails(rt: HostRuntime) -> Result<(), Fail> {
+    pass_all(right_failures(&rt, rt.alloc()), 5)
 }

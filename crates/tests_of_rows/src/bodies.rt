@@ -2,11 +2,13 @@
 ghost use Rattle.std.specs.Prelude.{◌≡◌, false};
 ghost use Rattle.itch_messages.specs.Body.{is_skipped};
 
+use crate::rows::pass_if;
 use itch_messages::{
     Add, Broken, Cross, Directory, Executed, ExecutedAt, Header, Message, Replace, Trade, append,
     one_body_each, read,
 };
 use std::alloc::Global;
+use std::test::Fail;
 
 const OPENING: u64 = 34_200_000_000_000;
 
@@ -20,9 +22,8 @@ fn stands_for(alloc: Global, message: Message, body: &[u8]) -> bool
     append(&mut out, &message).is_ok() && out.as_slice() == body && read(body) == Ok(message)
 }
 
-#[test]
-fn orders_stand_for_their_bytes(rt: HostRuntime) {
-    one_body_each();
+/// Whether orders, with an attribution or without, and those that replace others stand for their bytes.
+fn orders_stand(alloc: Global) -> bool {
     let add = Add {
         header: Header::of(7, 0, OPENING),
         order_no: 1,
@@ -34,7 +35,7 @@ fn orders_stand_for_their_bytes(rt: HostRuntime) {
     };
     let body = b"A\x00\x07\x00\x00\x1f\x1a\xce\xd9\xf0\x00\x00\x00\x00\x00\x00\x00\x00\x01B\
         \x00\x00\x00\x64MSFT    \x00\x3e\xa3\x28";
-    assert!(rt; stands_for(rt.alloc(), Message::Add(add), body));
+    let is_first = stands_for(alloc, Message::Add(add), body);
     let add = Add {
         header: Header::of(7, 0x0102, OPENING),
         order_no: 0x1122_3344_5566_7788,
@@ -46,7 +47,7 @@ fn orders_stand_for_their_bytes(rt: HostRuntime) {
     };
     let body = b"F\x00\x07\x01\x02\x1f\x1a\xce\xd9\xf0\x00\x11\x22\x33\x44\x55\x66\x77\x88S\
         \x00\x01\x02\x03AAPL    \xff\xfe\xfd\xfcNSDQ";
-    assert!(rt; stands_for(rt.alloc(), Message::Add(add), body));
+    let is_second = stands_for(alloc, Message::Add(add), body);
     let replace = Replace {
         header: Header::of(7, 0, OPENING),
         old_no: 1,
@@ -56,11 +57,17 @@ fn orders_stand_for_their_bytes(rt: HostRuntime) {
     };
     let body = b"U\x00\x07\x00\x00\x1f\x1a\xce\xd9\xf0\x00\x00\x00\x00\x00\x00\x00\x00\x01\
         \x00\x00\x00\x00\x00\x00\x00\x02\x00\x00\x00\x64\x00\x3e\xca\x38";
-    assert!(rt; stands_for(rt.alloc(), Message::Replace(replace), body));
+    is_first && is_second && stands_for(alloc, Message::Replace(replace), body)
 }
 
 #[test]
-fn trades_stand_for_their_bytes(rt: HostRuntime) {
+fn orders_stand_for_their_bytes(rt: HostRuntime) -> Result<(), Fail> {
+    one_body_each();
+    pass_if(orders_stand(rt.alloc()))
+}
+
+/// Whether executions and trades stand for their bytes.
+fn trades_stand(alloc: Global) -> bool {
     let executed = Executed {
         header: Header::of(7, 0, LATER),
         order_no: 1,
@@ -69,7 +76,7 @@ fn trades_stand_for_their_bytes(rt: HostRuntime) {
     };
     let body = b"E\x00\x07\x00\x00\x1f\x1b\x0a\x74\xba\x05\x00\x00\x00\x00\x00\x00\x00\x01\
         \x00\x00\x00\x28\x00\x00\x00\x00\x00\x00\x00\x09";
-    assert!(rt; stands_for(rt.alloc(), Message::Executed(executed), body));
+    let is_first = stands_for(alloc, Message::Executed(executed), body);
     let executed = ExecutedAt {
         header: Header::of(0xffff, 1, LATER),
         order_no: 0x8000_0000_0000_0002,
@@ -80,7 +87,7 @@ fn trades_stand_for_their_bytes(rt: HostRuntime) {
     };
     let body = b"C\xff\xff\x00\x01\x1f\x1b\x0a\x74\xba\x05\x80\x00\x00\x00\x00\x00\x00\x02\
         \x00\x00\x00\x1e\x00\x00\x00\x00\x00\x00\x00\x0dY\x00\x3e\x9f\x40";
-    assert!(rt; stands_for(rt.alloc(), Message::ExecutedAt(executed), body));
+    let is_second = stands_for(alloc, Message::ExecutedAt(executed), body);
     let trade = Trade {
         header: Header::of(7, 0, 281_474_976_710_655),
         order_no: 0,
@@ -92,11 +99,16 @@ fn trades_stand_for_their_bytes(rt: HostRuntime) {
     };
     let body = b"P\x00\x07\x00\x00\xff\xff\xff\xff\xff\xff\x00\x00\x00\x00\x00\x00\x00\x00B\
         \x00\x00\x00\x32MSFT    \x00\x3e\xa3\x8c\x00\x00\x00\x00\x00\x00\x00\x0f";
-    assert!(rt; stands_for(rt.alloc(), Message::Trade(trade), body));
+    is_first && is_second && stands_for(alloc, Message::Trade(trade), body)
 }
 
 #[test]
-fn other_types_stand_for_their_bytes(rt: HostRuntime) {
+fn trades_stand_for_their_bytes(rt: HostRuntime) -> Result<(), Fail> {
+    pass_if(trades_stand(rt.alloc()))
+}
+
+/// Whether crosses, breaks and rows of the directory stand for their bytes.
+fn others_stand(alloc: Global) -> bool {
     let cross = Cross {
         header: Header::of(7, 0, LATER),
         shares: 5_000_000_000,
@@ -107,18 +119,23 @@ fn other_types_stand_for_their_bytes(rt: HostRuntime) {
     };
     let body = b"Q\x00\x07\x00\x00\x1f\x1b\x0a\x74\xba\x05\x00\x00\x00\x01\x2a\x05\xf2\x00\
         MSFT    \x00\x3e\xa3\x28\x00\x00\x00\x00\x00\x00\x00\x11O";
-    assert!(rt; stands_for(rt.alloc(), Message::Cross(cross), body));
+    let is_first = stands_for(alloc, Message::Cross(cross), body);
     let broken = Broken {
         header: Header::of(7, 0, OPENING),
         trade_no: 9,
     };
     let body = b"B\x00\x07\x00\x00\x1f\x1a\xce\xd9\xf0\x00\x00\x00\x00\x00\x00\x00\x00\x09";
-    assert!(rt; stands_for(rt.alloc(), Message::Broken(broken), body));
+    let is_second = stands_for(alloc, Message::Broken(broken), body);
     let directory = Directory {
         header: Header::of(7, 0, 0),
         stock: *b"MSFT    ",
         rest: [b' '; 20],
     };
     let body = b"R\x00\x07\x00\x00\x00\x00\x00\x00\x00\x00MSFT                        ";
-    assert!(rt; stands_for(rt.alloc(), Message::Directory(directory), body));
+    is_first && is_second && stands_for(alloc, Message::Directory(directory), body)
+}
+
+#[test]
+fn other_types_stand_for_their_bytes(rt: HostRuntime) -> Result<(), Fail> {
+    pass_if(others_stand(rt.alloc()))
 }

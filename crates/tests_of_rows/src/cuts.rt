@@ -1,6 +1,7 @@
 //! Day files in frames and in morsels: cut by a target, at places, and while they come. What comes is the right cut, or
 //! the right fault, or want of memory.
 use crate::days::named;
+use crate::rows::pass_if;
 use day_file::{
     Cut, CutFault, Cutter, DayFile, LONGEST_FILE, check, cut, cut_at, frames, one_cut, one_reading,
 };
@@ -10,7 +11,7 @@ use tests_support::file_of;
 
 /// How a day file is cut: by a target, by a `Cutter` for a target that is fed pieces of these sizes by turns, or at
 /// these ends.
-#[derive(Clone, Copy, Debug)]
+#[derive(Clone, Copy)]
 enum Way {
     By(u64),
     Fed(u64, &'static [usize]),
@@ -50,28 +51,37 @@ fn cut_in(alloc: Global, file: &DayFile, way: Way) -> Result<Cut, CutFault> {
 
 /// Whether the morsels start there.
 fn has_starts(cut: &Cut, starts: &[u64]) -> bool {
-    if cut.count() as usize != starts.len() {
-        return false;
-    }
-    for (morsel, start) in cut.morsels().iter().zip(starts) {
-        if morsel.start() != *start {
-            return false;
+    let mut left = cut.morsels().iter();
+    for start in starts {
+        match left.next() {
+            Some(morsel) if morsel.start() == *start => {}
+            _ => return false,
         }
     }
-    true
+    left.next().is_none()
 }
 
-/// How many of these ways, up to the first that doesn't, cut `NAMED` into morsels that start there.
-fn right_cuts(alloc: Global, ways: &[(Way, &[u64])]) -> Result<usize, Fail> {
-    let file = file_of(named(alloc)?)?;
+/// How many of these ways, up to the first that doesn't, cut the file into morsels that start there.
+fn right_cuts(alloc: Global, file: &DayFile, ways: &[(Way, &[u64])]) -> Result<usize, CutFault> {
     let mut right = 0usize;
     for (way, starts) in ways {
-        if !has_starts(&cut_in(alloc, &file, *way)?, starts) {
+        if !has_starts(&cut_in(alloc, file, *way)?, starts) {
             break;
         }
         right = right.saturating_add(1);
     }
     Ok(right)
+}
+
+/// The result of a test that passes if all ways cut `NAMED` so.
+fn cut_right(alloc: Global, ways: &[(Way, &[u64])]) -> Result<(), Fail> {
+    let file = file_of(named(alloc)?)?;
+    let right = right_cuts(alloc, &file, ways)?;
+    if right == ways.len() {
+        Ok(())
+    } else {
+        Err(Fail::from(right))
+    }
 }
 
 static CUTS: [(Way, &[u64]); 9] = [
@@ -90,8 +100,7 @@ static CUTS: [(Way, &[u64]); 9] = [
 #[test]
 fn cuts_or_want_of_memory(rt: HostRuntime) -> Result<(), Fail> {
     one_cut();
-    assert_eq!(rt; right_cuts(rt.alloc(), &CUTS)?, 9);
-    Ok(())
+    cut_right(rt.alloc(), &CUTS)
 }
 
 static FED: [(Way, &[u64]); 4] = [
@@ -104,8 +113,7 @@ static FED: [(Way, &[u64]); 4] = [
 /// Run also with each allocation of the process refused in turn.
 #[test]
 fn pieces_that_are_fed_again(rt: HostRuntime) -> Result<(), Fail> {
-    assert_eq!(rt; right_cuts(rt.alloc(), &FED)?, 4);
-    Ok(())
+    cut_right(rt.alloc(), &FED)
 }
 
 /// The first bytes of `NAMED` that are cut in this way, and the fault.
@@ -131,13 +139,20 @@ fn is_faulty(alloc: Global, (length, way, want): Faulty) -> Result<bool, Fail> {
     }
 }
 
+/// The result of a test that passes if all of the table are; if not, it names a length and a fault.
+fn all_faulty(alloc: Global) -> Result<(), Fail> {
+    for faulty in &FAULTS {
+        if !is_faulty(alloc, *faulty)? {
+            return Err(Fail::from((faulty.0, faulty.2)));
+        }
+    }
+    Ok(())
+}
+
 /// Run also with each allocation of the process refused in turn.
 #[test]
 fn faults_or_want_of_memory(rt: HostRuntime) -> Result<(), Fail> {
-    for faulty in &FAULTS {
-        assert!(rt; is_faulty(rt.alloc(), *faulty)?, "{:?}", faulty.1);
-    }
-    Ok(())
+    all_faulty(rt.alloc())
 }
 
 /// How many zeros a day file has (messages of no bytes, and perhaps one byte more), a target, and how many morsels
@@ -167,17 +182,19 @@ fn are_counted(alloc: Global, (length, target, want): Zeros) -> Result<bool, Fai
     )
 }
 
-#[test]
-fn a_cut_has_no_more_than_the_most_morsels(rt: HostRuntime) -> Result<(), Fail> {
+/// The result of a test that passes if all of the table are; if not, it names a number of zeros and a target.
+fn all_counted(alloc: Global) -> Result<(), Fail> {
     for zeros in &ZEROS {
-        assert!(rt;
-            are_counted(rt.alloc(), *zeros)?,
-            "{} by {}",
-            zeros.0,
-            zeros.1
-        );
+        if !are_counted(alloc, *zeros)? {
+            return Err(Fail::from((zeros.0, zeros.1)));
+        }
     }
     Ok(())
+}
+
+#[test]
+fn a_cut_has_no_more_than_the_most_morsels(rt: HostRuntime) -> Result<(), Fail> {
+    all_counted(rt.alloc())
 }
 
 /// Whether a file has frames of these lengths at these places, and no other bytes.
@@ -192,10 +209,14 @@ fn has_frames(file: &DayFile, want: &[(u64, usize)]) -> bool {
     left.next().is_none() && left.finish().is_ok()
 }
 
+/// The result of a test that passes if `NAMED` has its frames, and no fault.
+fn named_has_frames(alloc: Global) -> Result<(), Fail> {
+    let file = file_of(named(alloc)?)?;
+    pass_if(has_frames(&file, &[(0, 39), (41, 36), (79, 31)]) && check(&file).is_ok())
+}
+
 #[test]
 fn a_frame_stands_where_the_one_before_it_ends(rt: HostRuntime) -> Result<(), Fail> {
     one_reading();
-    let file = file_of(named(rt.alloc())?)?;
-    assert!(rt; has_frames(&file, &[(0, 39), (41, 36), (79, 31)]) && check(&file).is_ok());
-    Ok(())
+    named_has_frames(rt.alloc())
 }

@@ -6,31 +6,19 @@
 #![tactic(auto)]
 
 #[cfg(test)]
-mod bar_ranges;
-#[cfg(test)]
 mod batches;
 #[cfg(test)]
 mod blocks;
 #[cfg(test)]
 mod bodies;
 #[cfg(test)]
-mod breaks;
-#[cfg(test)]
-mod by_threads;
-#[cfg(test)]
 mod cuts;
 #[cfg(test)]
 mod days;
 #[cfg(test)]
-mod devices;
-#[cfg(test)]
 mod lines;
 #[cfg(test)]
 mod listings;
-#[cfg(test)]
-mod names;
-#[cfg(test)]
-mod needed;
 #[cfg(test)]
 mod order_lists;
 #[cfg(test)]
@@ -38,11 +26,9 @@ mod orders;
 #[cfg(test)]
 mod queries;
 #[cfg(test)]
-mod rising;
+mod ranges;
 #[cfg(test)]
 mod room;
-#[cfg(test)]
-mod rooms;
 #[cfg(test)]
 mod rows;
 #[cfg(test)]

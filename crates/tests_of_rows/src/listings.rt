@@ -3,8 +3,9 @@ ghost use Rattle.std.specs.Prelude.{◌≡◌, ◌<◌, ◌++◌, All, IfOk, [],
 ghost use Rattle.base.specs.declared.limits.TheConstants.{TIME_LIMIT};
 ghost use Rattle.time_and_sales.specs.Lent.{AreApart, all_sales};
 
-use crate::bar_ranges::{is_made, names};
-use crate::rooms::{Came, enough_for};
+use crate::ranges::{is_made, names};
+use crate::room::{Came, needs_more};
+use crate::rows::{pass_if, pass_told};
 use linked_list_allocator::LocalHeap;
 use probe::{Kind, Sale};
 use std::alloc::{Allocator, Global};
@@ -51,48 +52,47 @@ fn listings<A: Allocator + Copy>(alloc: A) -> Result<(Listing<A>, Listing<A>), O
     Ok((one, other))
 }
 
-fn stands_at<A: Allocator>(listing: &Listing<A>, places: &[u64]) -> bool {
-    listing
-        .items()
-        .iter()
-        .map(|sale| sale.place)
-        .eq(places.iter().copied())
+/// Whether these are the two sales, and if they are merged, the third between them.
+fn are_sales(items: &[Sale], are_merged: bool) -> bool {
+    if are_merged {
+        items == [sale(41, 9), sale(87, 2), sale(133, 7)].as_slice()
+    } else {
+        items == [sale(41, 9), sale(133, 7)].as_slice()
+    }
 }
 
 /// What comes of a listing that takes in another.
 fn united(_: Global, heap: &LocalHeap) -> Result<Came, OutOfMemory> {
     let (mut one, other) = listings(heap)?;
     let is_united = one.unite(&other).is_ok();
-    let is_right = if is_united {
-        stands_at(&one, &[41, 87, 133])
-    } else {
-        stands_at(&one, &[41, 133])
-    };
-    Ok(Came::of(is_united, is_right))
+    Ok(Came::of(is_united, are_sales(one.items(), is_united)))
 }
 
 #[test]
 fn listings_take_in_others_or_stay(rt: HostRuntime) -> Result<(), Fail> {
-    assert!(rt; enough_for(rt.alloc(), united)? > 0);
-    Ok(())
+    needs_more(rt.alloc(), 0, united)
 }
 
 /// Whether the second listing takes in the first.
 fn is_united_turned(alloc: Global) -> Result<bool, OutOfMemory> {
     let (one, mut other) = listings(alloc)?;
     let is_united = other.unite(&one).is_ok();
-    Ok(is_united && stands_at(&other, &[41, 87, 133]) && other.into_vec().len() == 3)
+    Ok(is_united && are_sales(other.items(), true) && other.into_vec().len() == 3)
 }
 
 #[test]
 fn either_listing_takes_in_the_other(rt: HostRuntime) -> Result<(), Fail> {
-    assert!(rt; is_united_turned(rt.alloc())?);
-    Ok(())
+    pass_told(is_united_turned(rt.alloc()))
+}
+
+/// Whether an empty listing has no sales.
+fn is_empty(alloc: Global) -> bool {
+    Listing::empty(alloc).items().is_empty()
 }
 
 #[test]
-fn an_empty_listing_has_no_sales(rt: HostRuntime) {
-    assert!(rt; Listing::empty(rt.alloc()).items().is_empty());
+fn an_empty_listing_has_no_sales(rt: HostRuntime) -> Result<(), Fail> {
+    pass_if(is_empty(rt.alloc()))
 }
 
 /// What comes of merging the two.
@@ -100,22 +100,28 @@ fn merged(_: Global, heap: &LocalHeap) -> Result<Came, OutOfMemory> {
     let (one, other) = listings(heap)?;
     let both = vec![in heap; one, other]?;
     Ok(match Listing::merge_all(heap, both) {
-        Ok(all) => Came::of(true, stands_at(&all, &[41, 87, 133])),
+        Ok(all) => Came::of(true, are_sales(all.items(), true)),
         Err(_) => Came::Refused,
     })
 }
 
 #[test]
 fn many_listings_are_merged_or_refused(rt: HostRuntime) -> Result<(), Fail> {
-    assert!(rt; enough_for(rt.alloc(), merged)? > 0);
-    Ok(())
+    needs_more(rt.alloc(), 0, merged)
+}
+
+/// Whether no listings, merged, have no sales.
+fn none_are_empty(alloc: Global) -> Result<bool, OutOfMemory> {
+    Ok(
+        Listing::merge_all(alloc, Vec::new(alloc))?
+            .items()
+            .is_empty(),
+    )
 }
 
 #[test]
 fn no_listings_have_no_sales(rt: HostRuntime) -> Result<(), Fail> {
-    let all = Listing::merge_all(rt.alloc(), Vec::new(rt.alloc()))?;
-    assert!(rt; all.items().is_empty());
-    Ok(())
+    pass_told(none_are_empty(rt.alloc()))
 }
 
 const LINES: &str = "09:30:01.000000005,#9,E,410.5000,40,9
@@ -131,10 +137,17 @@ fn are_lines(rt: &(impl Threads + Sync), alloc: Global, ranges: u32) -> Result<b
     Ok(is_made(made, LINES, ranges))
 }
 
+/// Whether they do by each of these numbers of ranges.
+fn are_lines_by_each(rt: &(impl Threads + Sync), alloc: Global) -> Result<bool, OutOfMemory> {
+    for ranges in &[1, 2, 3, 5, 100] {
+        if !are_lines(rt, alloc, *ranges)? {
+            return Ok(false);
+        }
+    }
+    Ok(true)
+}
+
 #[test]
 fn lines_of_sales_in_ranges_are_those_of_one_listing(rt: HostRuntime) -> Result<(), Fail> {
-    for ranges in [1, 2, 3, 5, 100] {
-        assert!(rt; are_lines(&rt, rt.alloc(), ranges)?);
-    }
-    Ok(())
+    pass_told(are_lines_by_each(&rt, rt.alloc()))
 }

@@ -1,6 +1,6 @@
-//! Lists of order rows: lean and wide ones, and the memory that they take.
-use crate::rooms::{Came, enough_for};
-use crate::rows::{order, push_each};
+//! Lists of order rows: lean and wide ones, the memory that they take, and those that are searched where they lie.
+use crate::room::{Came, needs_more};
+use crate::rows::{list_of, order, pass_all, pass_told, push_each};
 use linked_list_allocator::LocalHeap;
 use morsel_rows::{OrderList, OutOfMemory};
 use order_table::OrderRow;
@@ -52,9 +52,11 @@ fn pushed<A: Allocator + Copy>(list: &mut OrderList<A>, rows: &[(u64, u64)]) -> 
 
 /// Whether rows are the first ones of these references, each at the place beside it.
 fn are_first(out: &[OrderRow], rows: &[(u64, u64)]) -> bool {
-    for (row, (order_no, place)) in out.iter().zip(rows) {
-        if *row != order(*order_no, *place) {
-            return false;
+    let mut left = rows.iter();
+    for row in out {
+        match left.next() {
+            Some((order_no, place)) if *row == order(*order_no, *place) => {}
+            _ => return false,
         }
     }
     true
@@ -82,14 +84,18 @@ fn all_pushed(alloc: Global, heap: &LocalHeap, rows: &[(u64, u64)]) -> Result<Ca
     Ok(Came::of(count == rows.len(), is_right))
 }
 
+/// The result of a test that passes if what comes of pushing the rows of each list is right.
+fn each_pushed(alloc: Global) -> Result<(), Fail> {
+    for rows in &LISTS {
+        needs_more(alloc, 0, |alloc, heap| all_pushed(alloc, heap, rows))?;
+    }
+    Ok(())
+}
+
 /// Whether each row is refused as long as there is no memory, and the list then has those before it.
 #[test]
 fn a_row_that_is_refused_leaves_the_list(rt: HostRuntime) -> Result<(), Fail> {
-    for rows in &LISTS {
-        let enough = enough_for(rt.alloc(), |alloc, heap| all_pushed(alloc, heap, rows))?;
-        assert!(rt; enough > 0);
-    }
-    Ok(())
+    each_pushed(rt.alloc())
 }
 
 /// Pushes nine rows: one of the first reference, and eight of the other.
@@ -116,7 +122,7 @@ fn takes(alloc: Global, first: u64, other: u64, bytes: u8) -> Result<bool, OutOf
 }
 
 /// The first references of lists, and the lowest that is near each.
-const NEAR: [(u64, u64); 6] = [
+static NEAR: [(u64, u64); 6] = [
     (0, 0),
     (5, 0),
     (1 << 23, 0),
@@ -136,13 +142,20 @@ fn take_ten_near(alloc: Global, first: u64, lowest: u64) -> Result<bool, OutOfMe
     )
 }
 
+/// Whether they do near each of the first references of the table.
+fn take_ten_near_each(alloc: Global) -> Result<bool, OutOfMemory> {
+    for (first, lowest) in &NEAR {
+        if !take_ten_near(alloc, *first, *lowest)? {
+            return Ok(false);
+        }
+    }
+    Ok(true)
+}
+
 /// A row takes 10 bytes if it is near the first one, and otherwise 20.
 #[test]
 fn rows_near_the_first_take_ten_bytes(rt: HostRuntime) -> Result<(), Fail> {
-    for (first, lowest) in NEAR {
-        assert!(rt; take_ten_near(rt.alloc(), first, lowest)?);
-    }
-    Ok(())
+    pass_told(take_ten_near_each(rt.alloc()))
 }
 
 /// Whether a list with room for a hundred rows takes no more of the heap for lean ones, then none of it for these
@@ -162,14 +175,21 @@ fn are_turned_wide(heap: &LocalHeap, lean: u64) -> bool {
     is_room && is_lean && is_wide && is_whole && is_kept
 }
 
+/// The same in a heap of its own.
+fn are_wide(alloc: Global, lean: u64) -> Result<bool, OutOfMemory> {
+    let heap = LocalHeap::new(alloc, 4_096)?;
+    Ok(are_turned_wide(&heap, lean))
+}
+
+/// The same behind one lean row, two and fifty.
+fn are_all_wide(alloc: Global) -> Result<bool, OutOfMemory> {
+    Ok(are_wide(alloc, 1)? && are_wide(alloc, 2)? && are_wide(alloc, 50)?)
+}
+
 /// A list that turns out wide has no room for lean rows beside that for wide ones.
 #[test]
 fn room_is_given_back_where_rows_turn_out_wide(rt: HostRuntime) -> Result<(), Fail> {
-    for lean in [1, 2, 50] {
-        let heap = LocalHeap::new(rt.alloc(), 4_096)?;
-        assert!(rt; are_turned_wide(&heap, lean));
-    }
-    Ok(())
+    pass_told(are_all_wide(rt.alloc()))
 }
 
 /// A place that 32 bits don't hold.
@@ -185,10 +205,101 @@ fn are_lean(heap: &LocalHeap) -> bool {
     are_pushed && heap.used() == used && list.rising().is_some()
 }
 
+/// The same in a heap of its own.
+fn far_are_lean(alloc: Global) -> Result<bool, OutOfMemory> {
+    let heap = LocalHeap::new(alloc, 4_096)?;
+    Ok(are_lean(&heap))
+}
+
 /// Behind the first 4 GiB of a file a row takes no more memory than before, and is searched where it lies.
 #[test]
 fn rows_far_behind_are_lean(rt: HostRuntime) -> Result<(), Fail> {
-    let heap = LocalHeap::new(rt.alloc(), 4_096)?;
-    assert!(rt; are_lean(&heap));
-    Ok(())
+    pass_told(far_are_lean(rt.alloc()))
+}
+
+/// The least and the greatest reference of a list that is searched where it lies.
+fn bounds_of(alloc: Global, rows: &[(u64, u64)]) -> Result<Option<(u64, u64)>, OutOfMemory> {
+    let list = list_of(alloc, rows)?;
+    Ok(match list.rising() {
+        Some(rows) => Some((rows.least(), rows.greatest())),
+        None => None,
+    })
+}
+
+/// The greatest reference that is near `FAR`.
+const TOP: u64 = FAR + (1 << 23) - 1;
+
+/// References and places of lists, and the least and the greatest reference of those that rise and whose rows aren't
+/// too far apart.
+static BOUNDS: [(&[(u64, u64)], Option<(u64, u64)>); 12] = [
+    (&[(7, 0)], Some((7, 7))),
+    (&[(3, 100), (4, 140), (8, 180), (9, 220)], Some((3, 9))),
+    (&[(FAR, 7), (FAR + 1, 8), (TOP, 9)], Some((FAR, TOP))),
+    (&[], None),
+    (&[(4, 0), (3, 40)], None),
+    (&[(3, 0), (3, 40)], None),
+    (&[(1, 0), (2, 40), (2, 80), (3, 120)], None),
+    (&[(1, 0), (5, 40), (4, 80)], None),
+    (&[(1, 0), (2, FAR)], None),
+    (&[(1, FAR), (2, 0)], None),
+    (&[(FAR, 7), (TOP + 1, 8)], None),
+    (&[(FAR, 7), (FAR - (1 << 23) - 1, 8)], None),
+];
+
+/// How many of these lists, up to the first that hasn't, have their bounds.
+fn right_bounds(alloc: Global) -> Result<usize, OutOfMemory> {
+    let mut right = 0usize;
+    for (rows, bounds) in &BOUNDS {
+        if bounds_of(alloc, rows)? != *bounds {
+            break;
+        }
+        right = right.saturating_add(1);
+    }
+    Ok(right)
+}
+
+#[test]
+fn a_list_that_rises_is_searched_where_it_lies(rt: HostRuntime) -> Result<(), Fail> {
+    pass_all(right_bounds(rt.alloc()), 12)
+}
+
+/// Where a list that is searched where it lies has a reference first.
+fn place_of(list: &OrderList, order_no: u64) -> Option<u64> {
+    match list.rising()?.first(order_no) {
+        Some(row) => Some(row.place),
+        None => None,
+    }
+}
+
+/// References, and the place at which a list of `FAR`, the next one and `TOP` has them.
+static SEARCHED: [(u64, Option<u64>); 8] = [
+    (FAR, Some(7)),
+    (FAR + 1, Some(8)),
+    (TOP, Some(9)),
+    (0, None),
+    (FAR - 1, None),
+    (FAR + 2, None),
+    (TOP + 1, None),
+    (u64::MAX, None),
+];
+
+/// Whether a list has the references at these places.
+fn finds_each(list: &OrderList) -> bool {
+    for (order_no, place) in &SEARCHED {
+        if place_of(list, *order_no) != *place {
+            return false;
+        }
+    }
+    true
+}
+
+/// The same of a list that is made for it.
+fn finds_near_and_far(alloc: Global) -> Result<bool, OutOfMemory> {
+    let list = list_of(alloc, &[(FAR, 7), (FAR + 1, 8), (TOP, 9)])?;
+    Ok(finds_each(&list))
+}
+
+#[test]
+fn a_search_knows_references_near_and_far(rt: HostRuntime) -> Result<(), Fail> {
+    pass_told(finds_near_and_far(rt.alloc()))
 }

@@ -1,11 +1,11 @@
 //! Calls on queries that take memory.
-use crate::rooms::{Came, enough_for};
+use crate::room::{Came, needs_more};
+use crate::rows::named_row;
 use canonical_query::write;
 use linked_list_allocator::LocalHeap;
 use query::{Locates, Names, OutOfMemory, Query, QueryFault, Symbols, parse, selection};
 use std::alloc::{Allocator, Global};
 use std::test::Fail;
-use time_and_sales::DirectoryRow;
 
 /// What comes of reading a query with three symbols.
 fn parsed(_: Global, heap: &LocalHeap) -> Result<Came, OutOfMemory> {
@@ -25,8 +25,7 @@ fn count_symbols<A: Allocator>(symbols: Option<Symbols<A>>) -> usize {
 
 #[test]
 fn parse_succeeds_once_there_is_memory(rt: HostRuntime) -> Result<(), Fail> {
-    assert!(rt; enough_for(rt.alloc(), parsed)? > 0);
-    Ok(())
+    needs_more(rt.alloc(), 0, parsed)
 }
 
 /// What comes of writing a query behind a word.
@@ -54,30 +53,32 @@ fn written(alloc: Global, heap: &LocalHeap, text: &str) -> Result<Came, OutOfMem
 }
 
 /// Queries, each with other pieces.
-const QUERIES: [&str; 4] = [
+static QUERIES: [&str; 4] = [
     "sales",
     "bars 86400 s as of 09:30:59",
     "bars 60 s as of 09:30:59 where kind in P",
     "sales where symbol in MSFT,A and time from 09:30:00 until 24:00:00 and kind in E,C,Q",
 ];
 
-#[test]
-fn a_refused_write_leaves_what_stood(rt: HostRuntime) -> Result<(), Fail> {
-    for text in QUERIES {
-        let enough = enough_for(rt.alloc(), |alloc, heap| written(alloc, heap, text))?;
-        assert!(rt; enough > 0);
+/// The result of a test that passes if each of them is written, or what stood is left.
+fn each_written(alloc: Global) -> Result<(), Fail> {
+    for text in &QUERIES {
+        needs_more(alloc, 0, |alloc, heap| written(alloc, heap, *text))?;
     }
     Ok(())
 }
 
+#[test]
+fn a_refused_write_leaves_what_stood(rt: HostRuntime) -> Result<(), Fail> {
+    each_written(rt.alloc())
+}
+
 /// The names of two locates: 7 is MSFT, 9 is A.
 fn names(alloc: Global) -> Result<Names, OutOfMemory> {
-    let row = |place, locate, stock| DirectoryRow {
-        place,
-        locate,
-        stock,
-    };
-    Names::build(alloc, &[row(0, 7, *b"MSFT    "), row(41, 9, *b"A       ")])
+    Names::build(
+        alloc,
+        &[named_row(0, 7, b"MSFT    "), named_row(41, 9, b"A       ")],
+    )
 }
 
 /// Whether these are the locates of the symbols `A`, `#10`, `#8` and `#1` to `#6`.
@@ -111,6 +112,5 @@ fn selected(alloc: Global, heap: &LocalHeap) -> Result<Came, OutOfMemory> {
 // To sort the eleven symbols takes 176 bytes, and the locates take more beside them.
 #[test]
 fn selection_succeeds_once_there_is_memory(rt: HostRuntime) -> Result<(), Fail> {
-    assert!(rt; enough_for(rt.alloc(), selected)? > 176);
-    Ok(())
+    needs_more(rt.alloc(), 176, selected)
 }

@@ -1,4 +1,4 @@
-//! Rows for the tests.
+//! Rows for the tests, and how a test says that it failed.
 ghost use Rattle.std.specs.Prelude.{IfOk, IsTrue, map, nat_eq};
 ghost use Rattle.std.specs.List.{IsDistinct};
 
@@ -6,6 +6,42 @@ use morsel_rows::{OrderList, OutOfMemory};
 use order_table::OrderRow;
 use probe::{Execution, Kind, Sale};
 use std::alloc::{AllocError, Allocator, Global};
+use std::test::Fail;
+use time_and_sales::DirectoryRow;
+
+/// The result of a test that passes if this holds. A test that only returns what a call says has few ways out, and so
+/// little to prove.
+pub(crate) fn pass_if(holds: bool) -> Result<(), Fail> {
+    if holds {
+        Ok(())
+    } else {
+        Err(Fail::from("something else came"))
+    }
+}
+
+/// The same of what may be refused memory.
+pub(crate) fn pass_told(holds: Result<bool, AllocError>) -> Result<(), Fail> {
+    pass_if(holds?)
+}
+
+/// The result of a test that passes if so many rows of a table were right up to the first that wasn't.
+pub(crate) fn pass_all(right: Result<usize, AllocError>, count: usize) -> Result<(), Fail> {
+    let right = right?;
+    if right == count {
+        Ok(())
+    } else {
+        Err(Fail::from(right))
+    }
+}
+
+/// A directory row that names a locate.
+pub(crate) fn named_row(place: u64, locate: u16, stock: &[u8; 8]) -> DirectoryRow {
+    DirectoryRow {
+        place,
+        locate,
+        stock: *stock,
+    }
+}
 
 /// An order of this reference at this place.
 pub(crate) fn order(order_no: u64, place: u64) -> OrderRow {

@@ -1,10 +1,11 @@
-//! The sales that are priced, and those that are kept.
-use crate::rooms::{Came, enough_for};
-use crate::rows::{executions, order_rows, sale};
+//! Broken trades, and the sales that are priced and kept.
+use crate::room::{Came, needs_more};
+use crate::rows::{executions, order_rows, pass_if, pass_told, sale};
+use broken_trades::Breaks;
 use linked_list_allocator::LocalHeap;
 use probe::{
-    Breaks, Kind, Kinds, LocateList, Locates, OrderTable, Priced, Sale, Selection, Span, Unknown,
-    keep, price_all, price_into,
+    Kind, Kinds, LocateList, Locates, OrderTable, Priced, Sale, Selection, Span, Unknown, keep,
+    price_all, price_into,
 };
 use std::alloc::{AllocError, Allocator, Global};
 use std::test::Fail;
@@ -39,8 +40,7 @@ fn priced(alloc: Global, heap: &LocalHeap) -> Result<Came, AllocError> {
 
 #[test]
 fn executions_are_priced_once_there_is_room(rt: HostRuntime) -> Result<(), Fail> {
-    assert!(rt; enough_for(rt.alloc(), priced)? > 16);
-    Ok(())
+    needs_more(rt.alloc(), 16, priced)
 }
 
 /// What comes of pricing the executions once more.
@@ -63,8 +63,7 @@ fn priced_again(alloc: Global, heap: &LocalHeap) -> Result<Came, AllocError> {
 
 #[test]
 fn pricing_that_is_refused_leaves_what_was_priced(rt: HostRuntime) -> Result<(), Fail> {
-    assert!(rt; enough_for(rt.alloc(), priced_again)? > 0);
-    Ok(())
+    needs_more(rt.alloc(), 0, priced_again)
 }
 
 /// Whether no executions are priced, and none is unknown.
@@ -75,11 +74,15 @@ fn prices_none(alloc: Global, table: &OrderTable) -> bool {
     }
 }
 
+/// The same by a table of no orders, which repeat none.
+fn none_are_priced(alloc: Global) -> Result<bool, AllocError> {
+    let built = OrderTable::build(alloc, &[])?;
+    Ok(built.repeated.is_none() && prices_none(alloc, &built.table))
+}
+
 #[test]
 fn no_executions_have_no_sales(rt: HostRuntime) -> Result<(), Fail> {
-    let built = OrderTable::build(rt.alloc(), &[])?;
-    assert!(rt; built.repeated.is_none() && prices_none(rt.alloc(), &built.table));
-    Ok(())
+    pass_told(none_are_priced(rt.alloc()))
 }
 
 /// Keeps all sales whose number isn't that of a break, 9.
@@ -99,12 +102,11 @@ fn is_kept_alone(alloc: Global) -> Result<bool, AllocError> {
 
 #[test]
 fn broken_and_empty_sales_go(rt: HostRuntime) -> Result<(), Fail> {
-    assert!(rt; is_kept_alone(rt.alloc())?);
-    Ok(())
+    pass_told(is_kept_alone(rt.alloc()))
 }
 
 /// Times and kinds of sales, and whether they are asked for.
-const ASKED_FOR: [(u64, Kind, bool); 5] = [
+static ASKED_FOR: [(u64, Kind, bool); 5] = [
     (34_199_999_999_999, Kind::P, false),
     (34_200_000_000_000, Kind::P, true),
     (34_259_999_999_999, Kind::P, true),
@@ -114,17 +116,17 @@ const ASKED_FOR: [(u64, Kind, bool); 5] = [
 
 /// Whether a selection asks for the sales at these times and of these kinds, and for no others.
 fn admits_each(selection: &Selection) -> bool {
-    for (time, kind, want) in ASKED_FOR {
-        if selection.admits(&sale(1, 1, kind, time)) != want {
+    for (time, kind, want) in &ASKED_FOR {
+        if selection.admits(&sale(1, 1, *kind, *time)) != *want {
             return false;
         }
     }
     true
 }
 
-#[test]
-fn a_selection_admits(rt: HostRuntime) -> Result<(), Fail> {
-    let locates = LocateList::from_rows([8, 7, 8].to_vec(rt.alloc())?);
+/// Whether a selection of some locates, times and kinds does.
+fn admits_some(alloc: Global) -> Result<bool, AllocError> {
+    let locates = LocateList::from_rows([8, 7, 8].to_vec(alloc)?);
     let selection = Selection {
         locates: Locates::Listed(locates),
         span: Some(Span {
@@ -138,13 +140,73 @@ fn a_selection_admits(rt: HostRuntime) -> Result<(), Fail> {
             q: true,
         },
     };
-    assert!(rt; admits_each(&selection));
-    Ok(())
+    Ok(admits_each(&selection))
+}
+
+#[test]
+fn a_selection_admits(rt: HostRuntime) -> Result<(), Fail> {
+    pass_told(admits_some(rt.alloc()))
+}
+
+/// Whether a list of a locate that is given twice has it once.
+fn lists_once(alloc: Global) -> Result<bool, AllocError> {
+    let locates = LocateList::from_rows([8, 7, 8].to_vec(alloc)?);
+    Ok(locates.holds(8) && !locates.holds(6) && locates.items() == [7, 8].as_slice())
 }
 
 #[test]
 fn a_list_of_locates_has_each_once(rt: HostRuntime) -> Result<(), Fail> {
-    let locates = LocateList::from_rows([8, 7, 8].to_vec(rt.alloc())?);
-    assert!(rt; locates.holds(8) && !locates.holds(6) && locates.items() == [7, 8].as_slice());
-    Ok(())
+    pass_told(lists_once(rt.alloc()))
+}
+
+/// The breaks of these numbers.
+fn breaks_of<A: Allocator>(alloc: A, rows: &[u64]) -> Result<Breaks<A>, AllocError> {
+    Ok(Breaks::from_rows(rows.to_vec(alloc)?))
+}
+
+/// Adds these numbers to breaks.
+fn unite_rows<A: Allocator>(
+    alloc: Global,
+    breaks: &mut Breaks<A>,
+    rows: &[u64],
+) -> Result<(), AllocError> {
+    let more = breaks_of(alloc, rows)?;
+    breaks.unite(&more)
+}
+
+/// Whether two unions have each number once.
+fn have_each_once(alloc: Global) -> bool {
+    let mut breaks = Breaks::none(alloc);
+    let is_first = unite_rows(alloc, &mut breaks, &[9, 3, 9]).is_ok()
+        && breaks.items() == [3, 9].as_slice();
+    let is_second = unite_rows(alloc, &mut breaks, &[9, 4, 4]).is_ok()
+        && breaks.holds(9)
+        && !breaks.holds(8);
+    is_first && is_second && breaks.into_vec().as_slice() == [3, 4, 9].as_slice()
+}
+
+#[test]
+fn united_breaks_have_each_number_once(rt: HostRuntime) -> Result<(), Fail> {
+    pass_if(have_each_once(rt.alloc()))
+}
+
+/// Whether these are 3 and 9, and if they are united, more.
+fn are_united(items: &[u64], is_united: bool) -> bool {
+    if is_united {
+        items == [3, 4, 5, 6, 9].as_slice()
+    } else {
+        items == [3, 9].as_slice()
+    }
+}
+
+/// What comes of more breaks that are united with 3 and 9.
+fn united(alloc: Global, heap: &LocalHeap) -> Result<Came, AllocError> {
+    let mut breaks = breaks_of(heap, &[9, 3, 9])?;
+    let is_united = unite_rows(alloc, &mut breaks, &[5, 4, 6]).is_ok();
+    Ok(Came::of(is_united, are_united(breaks.items(), is_united)))
+}
+
+#[test]
+fn a_refused_union_changes_nothing(rt: HostRuntime) -> Result<(), Fail> {
+    needs_more(rt.alloc(), 0, united)
 }

@@ -1,5 +1,6 @@
 //! Scans of the morsels of a day, whose pieces are gathered in any order.
 use crate::days::{broken_earlier, named};
+use crate::rows::pass_if;
 use day_file::cut_at;
 use day_rows::Row;
 use gathering::{Filed, Gathering, Inputs, Piece, Work};
@@ -163,12 +164,24 @@ static IN_PAIRS: [Placed; 4] = [DIRECTORY, BREAK, ORDER, EXECUTION];
 
 static ANY_ORDER: [(u32, Answered); 4] = [(3, NEW), (1, NEW), (0, NEW), (2, NEW)];
 
+/// The result of a test that passes if a total has these rows, and no wrong length.
+fn has_rows(alloc: Global, total: ScanTotal, rows: &[Placed]) -> Result<(), Fail> {
+    let is_right = total.wrong().is_none();
+    pass_if(is_right && is_found(alloc, total, rows)?)
+}
+
+/// The same of the scans of `BROKEN_EARLIER`, filed in another order.
+fn has_rows_of_each(alloc: Global) -> Result<(), Fail> {
+    has_rows(
+        alloc,
+        total_of(alloc, &broken_scans(alloc)?, &ANY_ORDER)?,
+        &EACH,
+    )
+}
+
 #[test]
 fn a_total_has_the_rows_of_each_morsel_whatever_their_order(rt: HostRuntime) -> Result<(), Fail> {
-    let total = total_of(rt.alloc(), &broken_scans(rt.alloc())?, &ANY_ORDER)?;
-    assert!(rt; total.wrong().is_none());
-    assert!(rt; is_found(rt.alloc(), total, &EACH)?);
-    Ok(())
+    has_rows_of_each(rt.alloc())
 }
 
 /// A part of a day that is cut by itself: its frames, where it begins, and where its morsels but the first one begin
@@ -219,12 +232,16 @@ fn total_of_parts(alloc: Global, together: usize) -> Result<ScanTotal, Fail> {
     Ok(total)
 }
 
+/// The result of a test that passes if the parts have these rows, and no wrong length.
+fn parts_have(alloc: Global, together: usize, rows: &[Placed]) -> Result<(), Fail> {
+    has_rows(alloc, total_of_parts(alloc, together)?, rows)
+}
+
 /// Run also with each allocation of the process refused in turn.
 #[test]
 fn parts_of_a_day_or_want_of_memory(rt: HostRuntime) -> Result<(), Fail> {
-    assert!(rt; is_found(rt.alloc(), total_of_parts(rt.alloc(), 1)?, &EACH)?);
-    assert!(rt; is_found(rt.alloc(), total_of_parts(rt.alloc(), 2)?, &IN_PAIRS)?);
-    Ok(())
+    parts_have(rt.alloc(), 1, &EACH)?;
+    parts_have(rt.alloc(), 2, &IN_PAIRS)
 }
 
 /// The scans of `WITH_A_SHORT_ADD` in three morsels.
@@ -232,12 +249,15 @@ fn short_scans(alloc: Global) -> Result<Scans, Fail> {
     scans_of(alloc, Day::of(alloc, &WITH_A_SHORT_ADD)?.bytes, &[41, 81])
 }
 
+/// The result of a test that passes if their total has the place of the wrong length.
+fn has_wrong_place(alloc: Global) -> Result<(), Fail> {
+    let total = total_of(alloc, &short_scans(alloc)?, &[(2, NEW), (0, NEW), (1, NEW)])?;
+    pass_if(matches!(total.wrong(), Some(wrong) if wrong.place == 84))
+}
+
 #[test]
 fn a_total_has_the_place_of_a_wrong_length(rt: HostRuntime) -> Result<(), Fail> {
-    let scans = short_scans(rt.alloc())?;
-    let total = total_of(rt.alloc(), &scans, &[(2, NEW), (0, NEW), (1, NEW)])?;
-    assert!(rt; matches!(total.wrong(), Some(wrong) if wrong.place == 84));
-    Ok(())
+    has_wrong_place(rt.alloc())
 }
 
 /// What each of two gatherings lacks first when they are not merged.
@@ -260,15 +280,23 @@ fn named_scans(alloc: Global) -> Result<Scans, Fail> {
 /// is another, and there is no fourth.
 static STRANGERS: [(u32, Answered); 4] = [(2, Err(2)), (0, NEW), (3, Err(3)), (1, NEW)];
 
+/// Whether they are filed so, and a gathering over their own cut isn't merged with the one over the other cut.
+fn are_strangers(alloc: Global, scans: Scans, named: Scans) -> Result<bool, OutOfMemory> {
+    let mut other = Gathering::new(alloc, named)?;
+    let are_filed = are_filed(alloc, &mut other, &scans, &STRANGERS)?;
+    let mut own = Gathering::new(alloc, scans)?;
+    Ok(are_filed && missing_when_refused(&mut own, other) == Some((Some(0), Some(2))))
+}
+
+/// The result of a test that passes if those of the two days are.
+fn knows_strangers(alloc: Global) -> Result<(), Fail> {
+    pass_if(are_strangers(alloc, broken_scans(alloc)?, named_scans(alloc)?)?)
+}
+
 /// Nor are gatherings over two cuts merged.
 #[test]
 fn a_morsel_of_another_cut_is_a_stranger_unless_it_is_the_same(
     rt: HostRuntime,
 ) -> Result<(), Fail> {
-    let scans = broken_scans(rt.alloc())?;
-    let mut other = Gathering::new(rt.alloc(), named_scans(rt.alloc())?)?;
-    assert!(rt; are_filed(rt.alloc(), &mut other, &scans, &STRANGERS)?);
-    let mut own = Gathering::new(rt.alloc(), scans)?;
-    assert!(rt; missing_when_refused(&mut own, other) == Some((Some(0), Some(2))));
-    Ok(())
+    knows_strangers(rt.alloc())
 }

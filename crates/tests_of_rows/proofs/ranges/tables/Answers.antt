@@ -4,7 +4,7 @@ use Rattle.std.proofs.lemmas.List.Elements.{All-append}
 use Rattle.bar.specs.OneBar.{IsTraded}
 use Rattle.bar.specs.declared.bar.Bar.{Bar}
 use Rattle.bars.proofs.SumsAreBounded.{all_sums_fit}
-use Rattle.tests_of_rows.proofs.bar_ranges.tables.Goals as goal
+use Rattle.tests_of_rows.proofs.ranges.tables.Goals as goal
 
 pub returns-clause-sums : goal.returns-clause-sums
 returns-clause-sums c =

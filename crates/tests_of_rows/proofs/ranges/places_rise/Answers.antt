@@ -4,7 +4,7 @@ use Rattle.row_types.specs.declared.trade.Sale.{Sale}
 use Rattle.order_table.proofs.RowsInOrder.{rising_from_answer}
 use Rattle.time_and_sales.proofs.SortedByPlace.{place_of, no_sale}
 use Rattle.tests_of_rows.proofs.Apart.{apart_where_rising}
-use Rattle.tests_of_rows.proofs.bar_ranges.places_rise.Goals as goal
+use Rattle.tests_of_rows.proofs.ranges.places_rise.Goals as goal
 
 pub returns : goal.returns
 returns c e =

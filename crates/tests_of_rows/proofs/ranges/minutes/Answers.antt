@@ -6,7 +6,7 @@ use Rattle.bars.specs.Bars.{AreBarsOf}
 use Rattle.bars.specs.Texts.{IsWritable}
 use Rattle.bar.specs.declared.bar.Bar.{Bar}
 use Rattle.bars.proofs.SumsAreBounded.{table_is_writable}
-use Rattle.tests_of_rows.proofs.bar_ranges.minutes.Goals as goal
+use Rattle.tests_of_rows.proofs.ranges.minutes.Goals as goal
 
 starts_small : (width : ℕ) (sales : List Sale) (table : List Bar) → AreBarsOf width sales table → All IsTraded table
     → All (λ (s : Sale). s.time < 2 ^ 48) sales → All (λ (bar : Bar). bar.start < 2 ^ 48) table

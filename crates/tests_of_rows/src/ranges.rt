@@ -1,4 +1,5 @@
-//! Bars that buckets make or keep as sales, and their lines, which threads make by ranges.
+//! Texts that threads make by ranges, whatever the number of threads: of numbers, and of bars that buckets make or keep
+//! as sales.
 ghost use Rattle.std.specs.Prelude.{◌≡◌, ℕ, ◌<◌, All, IfOk, IsTrue, List, [], ◌∷◌, length};
 ghost use Rattle.base.specs.declared.limits.TheConstants.{TIME_LIMIT};
 ghost use Rattle.row_types.specs.declared.trade.Sale.{Sale as TheSale};
@@ -6,12 +7,13 @@ ghost use Rattle.time_and_sales.specs.Lent.{AreApart};
 ghost use Rattle.bar.specs.OneBar.{IsTraded};
 ghost use Rattle.bars.specs.Bars.{AllSumsFit, AreBarsOf, all_bars};
 
+use crate::rows::{named_row, pass_if, pass_told};
 use bars::{BucketBars, Form, OutOfMemory, Sale, lines_in_ranges};
 use probe::Kind;
 use std::alloc::{AllocError, Global};
 use std::test::Fail;
 use std::thread::Threads;
-use time_and_sales::{DirectoryRow, Names};
+use time_and_sales::{Names, texts_in_ranges};
 
 /// A sale of five shares: its place, its locate, seconds after half past nine, and its price.
 type Row = (u64, u16, u8, u32);
@@ -127,25 +129,26 @@ fn are(alloc: Global, rows: &[Row], are_made: bool, count: usize) -> Result<bool
     Ok(is_form && count_bars(alloc, &bars) == count)
 }
 
+/// Whether the bars are made of all sixteen sales of a bar, of fewer not, and not of few sales of many bars.
+fn are_of_sixteen(alloc: Global) -> Result<bool, OutOfMemory> {
+    Ok(
+        are(alloc, &MANY, true, 1)?
+            && are(alloc, &MANY[..15], false, 1)?
+            && are(alloc, &FEW, false, 5)?,
+    )
+}
+
 #[test]
 fn bars_are_made_of_sixteen_sales_each(rt: HostRuntime) -> Result<(), Fail> {
-    assert!(rt; are(rt.alloc(), &MANY, true, 1)?);
-    assert!(rt; are(rt.alloc(), &MANY[..15], false, 1)?);
-    assert!(rt; are(rt.alloc(), &FEW, false, 5)?);
-    Ok(())
+    pass_told(are_of_sixteen(rt.alloc()))
 }
 
 /// The names of three locates.
 pub(crate) fn names(alloc: Global) -> Result<Names, OutOfMemory> {
-    let row = |locate, stock| DirectoryRow {
-        place: 0,
-        locate,
-        stock,
-    };
     let rows = [
-        row(2, *b"ZVZZT   "),
-        row(7, *b"MSFT    "),
-        row(12, *b"A       "),
+        named_row(0, 2, b"ZVZZT   "),
+        named_row(0, 7, b"MSFT    "),
+        named_row(0, 12, b"A       "),
     ];
     Names::build(alloc, &rows)
 }
@@ -184,6 +187,22 @@ fn are_lines(
     Ok(is_made(made, want, ranges))
 }
 
+/// Whether they do by each of these numbers of ranges.
+fn are_lines_by_each(
+    rt: &(impl Threads + Sync),
+    alloc: Global,
+    last: u16,
+    numbers: &[u32],
+    want: &str,
+) -> Result<bool, OutOfMemory> {
+    for ranges in numbers {
+        if !are_lines(rt, alloc, last, *ranges, want)? {
+            return Ok(false);
+        }
+    }
+    Ok(true)
+}
+
 const LINES: &str = "MSFT,09:30:00,1.5000,2.6000,1.5000,2.6000,90,18,2.4500+0/90
 MSFT,09:31:00,2.1000,2.1000,2.1000,2.1000,5,1,2.1000+0/5
 #8,09:30:00,4.0000,4.0000,4.0000,4.0000,5,1,4.0000+0/5
@@ -193,10 +212,7 @@ A,09:30:00,1.0000,1.0000,1.0000,1.0000,5,1,1.0000+0/5
 
 #[test]
 fn lines_of_bars_in_ranges_are_those_of_one_table(rt: HostRuntime) -> Result<(), Fail> {
-    for ranges in [1, 2, 3, 5, 100] {
-        assert!(rt; are_lines(&rt, rt.alloc(), 12, ranges, LINES)?);
-    }
-    Ok(())
+    pass_told(are_lines_by_each(&rt, rt.alloc(), 12, &[1, 2, 3, 5, 100], LINES))
 }
 
 const LINES_OF_FAR_LOCATES: &str = "MSFT,09:30:00,1.5000,2.6000,1.5000,2.6000,90,18,2.4500+0/90
@@ -208,8 +224,75 @@ MSFT,09:31:00,2.1000,2.1000,2.1000,2.1000,5,1,2.1000+0/5
 
 #[test]
 fn lines_of_locates_far_apart_are_those_of_one_table(rt: HostRuntime) -> Result<(), Fail> {
-    for ranges in [1, 3] {
-        assert!(rt; are_lines(&rt, rt.alloc(), 60_000, ranges, LINES_OF_FAR_LOCATES)?);
+    pass_told(are_lines_by_each(&rt, rt.alloc(), 60_000, &[1, 3], LINES_OF_FAR_LOCATES))
+}
+
+/// The text of the first range: a letter for its first bound, and how many bounds follow; refused if that many do.
+fn letter_of(alloc: Global, bounds: &[u64], refused: usize) -> Result<Vec<u8>, OutOfMemory> {
+    let Some((low, behind)) = bounds.split_first() else {
+        return Err(AllocError);
+    };
+    if behind.len() == refused {
+        return Err(AllocError);
     }
-    Ok(())
+    let text = [b'a' + (*low % 26) as u8, b'0' + (behind.len() % 10) as u8];
+    Vec::from_slice(alloc, &text)
+}
+
+/// The texts of the ranges of these numbers; refused if that of a range with `refused` behind it is.
+fn texts_of(
+    rt: &(impl Threads + Sync),
+    alloc: Global,
+    numbers: &[u64],
+    threads: u32,
+    refused: usize,
+) -> Result<Vec<Vec<u8>>, OutOfMemory> {
+    texts_in_ranges::<u8, _, _>(
+        rt,
+        alloc,
+        numbers,
+        threads,
+        &|bounds: &[u64]| { letter_of(alloc, bounds, refused) },
+    )
+}
+
+/// Whether these numbers of threads make the ranges of nine numbers in order.
+fn are_in_order(rt: &(impl Threads + Sync), alloc: Global) -> bool {
+    for threads in &[0, 1, 2, 3, 4, 7, 10, 100] {
+        let made = texts_of(rt, alloc, &[1, 2, 4, 3, 5, 6, 6, 7, 9], *threads, 10);
+        if !is_made(made, "a9b8c7e6e5f4g3g2h1j0", 10) {
+            return false;
+        }
+    }
+    true
+}
+
+#[test]
+fn ranges_are_made_in_order_by_any_number_of_threads(rt: HostRuntime) -> Result<(), Fail> {
+    pass_if(are_in_order(&rt, rt.alloc()))
+}
+
+/// Whether one thread, two and five are refused a text, one of whose ranges is.
+fn is_refused(rt: &(impl Threads + Sync), alloc: Global, refused: usize) -> bool {
+    for threads in &[1, 2, 5] {
+        if texts_of(rt, alloc, &[1, 2, 3, 4], *threads, refused).is_ok() {
+            return false;
+        }
+    }
+    true
+}
+
+/// The same of each of five ranges.
+fn are_refused(rt: &(impl Threads + Sync), alloc: Global) -> bool {
+    for refused in 0..5 {
+        if !is_refused(rt, alloc, refused) {
+            return false;
+        }
+    }
+    true
+}
+
+#[test]
+fn a_range_that_is_refused_memory_refuses_the_text(rt: HostRuntime) -> Result<(), Fail> {
+    pass_if(are_refused(&rt, rt.alloc()))
 }

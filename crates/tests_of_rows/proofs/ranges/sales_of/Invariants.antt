@@ -1,6 +1,6 @@
 use Rattle.std.proofs.Common.{◌<◌, ◌^◌, All}
 use Rattle.row_types.specs.declared.trade.Sale.{Sale}
-use Rattle.tests_of_rows.proofs.bar_ranges.sales_of.Given as goal
+use Rattle.tests_of_rows.proofs.ranges.sales_of.Given as goal
 
 abbrev pub invariant-loop-place : goal.invariant-loop-place
 invariant-loop-place l = record {
