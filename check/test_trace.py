@@ -5,7 +5,7 @@ import os, pty, re, sys
 from itch import OPEN, SECOND, broken, cross, executed, executed_at, frame, message, named, named_alone, order, replaced, trade
 from run import EXAMPLE, TOP, Case, program, run
 
-TOOL, TEXTS = TOP / "bin/trace_sales", TOP / "check/test_trace.txt"
+TOOL = TOP / "bin/trace_sales"
 WHOLE_DAY = "00:00:00", "24:00:00"
 
 
@@ -61,6 +61,46 @@ FAULTY = {
 # Frames that lie across the end of what is read at once, and an empty one before a length that begins with the letter A.
 FRAMES = {f"across {back}": [AB, *[frame(bytes(65_534))] * 15, frame(bytes(65_493 - back)), GIVEN, SALE] for back in range(4)}
 FRAMES["empty before long"] = [AB, frame(b""), frame(b"Z" * (ord("A") << 8)), GIVEN, SALE]
+TEXTS = """$ AB 09:30:03 09:30:04
+no sale (not printable, broken): 09:30:03.000000000,AB,C,99.9800,100,109
+$ #4 09:30:00 09:31:00
+locate 4 has no directory message, so its name is #4
+  P at place 1228, trade: locate 4, time 09:30:07.000000000, order_no 0, side B, shares 100, stock MSFT, price 410.5000, trade_no 119
+$ OLD 09:30:00 09:31:00
+no locate has the name OLD
+locate 3 had it until place 1878
+$ GONE 09:30:00 09:31:00
+locate 9 had it until place 2001
+$ --number 101 --as-of 09:30:30
+09:30:00.000000000,AB,E,100.0000,100,101
+  after the moment, broken by B at place 1757, broken trade: locate 1, time 09:31:02.000000000, trade_no 101
+$ --number 114
+no sale (zero shares): 09:30:04.000000000,AB,P,1.0000,0,114
+$ --number 117
+  Q at place 1077, cross trade: locate 2, time 09:30:05.000000000, shares 7, stock MSFT, price 100.0400, trade_no 117, cross_type H
+$ --number 4242
+no trade has the number 4242; breaks that name it: 1
+$ --order 2 --as-of 09:30:01
+  U at place 455, order replace: locate 1, time 09:30:01.000000000, old_no 1, new_no 2, shares 100, price 100.0100
+09:30:01.000000000,AB,E,100.0100,100,103
+$ --order 7
+order 7 is replaced by order 8
+$ --order 99
+no message gives the order reference 99
+no sale (not printable): 09:30:03.000000000,AB,C,99.9600,100,111
+$ --names --as-of 09:30:30
+3,OLD,57,1,100,no
+5,A?B?C,98,1,1,yes
+6,LONGNAME,139,1,,
+$ --breaks
+180,09:29:59.000000000,113,901,yes,09:30:04.000000000,AB,P,0.0000,100
+1161,09:30:06.000000000,4242,,,,,,,
+1736,09:31:30.000000000,128,1623,yes,09:31:01.000000000,AB,P,3.0000,100
+1736,09:31:30.000000000,128,1669,yes,09:31:01.000000000,NEW,P,3.0100,100
+$ --summary
+empty: 2 (skipped)
+type S: 2 (skipped, system event)
+greatest time: 78:11:14.976710655 at place 2129"""
 
 
 class Trace(Case):
@@ -105,7 +145,7 @@ class Trace(Case):
     def test_texts(self):
         """Commands over the day of edges, and lines that they print, in this order; documents show whole answers."""
         edges = self.file("edges", *EDGES)
-        for part in f"\n{TEXTS.read_text()}".split("\n$ ")[1:]:
+        for part in f"\n{TEXTS}".split("\n$ ")[1:]:
             words, *wanted = part.rstrip("\n").split("\n")
             shown = self.traced(edges, *words.split())
             self.assertEqual([it for it in shown.splitlines() if it in wanted], wanted, shown)

@@ -9,7 +9,6 @@
 #![tactic(auto)]
 
 mod case;
-mod events;
 mod found_answers;
 mod held_days;
 mod meanings;

@@ -1,5 +1,5 @@
 //! What is changed of a case by turns.
-use crate::events::range_of;
+use crate::case::range_of;
 use std::alloc::Global;
 use std::io;
 use tests_support::{not_written_so, number, overwrite};

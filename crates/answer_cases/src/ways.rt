@@ -1,6 +1,5 @@
 //! Each way in which a case is answered.
-use crate::case::{Case, append_words};
-use crate::events::falling;
+use crate::case::{Case, append_words, falling};
 use crate::meanings::append_fault;
 use command_line::command;
 use day_file::{CutFault, cut, cut_at};

@@ -14,8 +14,6 @@ mod faults;
 #[cfg(test)]
 mod refusals;
 #[cfg(test)]
-mod rehearsal_refusals;
-#[cfg(test)]
 mod threads;
 #[cfg(test)]
 mod whole_runs;
