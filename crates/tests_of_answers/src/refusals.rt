@@ -263,8 +263,8 @@ const MINUTES: [Form; 3] = [
     Form::T(7, 34_260, 0, 200, 4_106_000, 22),
 ];
 
-/// What is asked, and the answers.
-static ASKED: [(Asked, &str); 3] = [
+/// What is asked of rehearsals, and their answers.
+static REHEARSALS: [(Asked, &str); 3] = [
     (REHEARSED, HEADER),
     (
         ("sales", &MINUTES, &[41, 87]),
@@ -294,7 +294,7 @@ fn answers_or_want_of_memory(rt: HostRuntime) -> Result<(), Fail> {
         at(0, 1),
     ];
     let second = [at(1, 1), at(0, 1), MERGE, at(1, 0), at(0, 2), at(1, 1)];
-    for (asked, want) in &ASKED {
+    for (asked, want) in &REHEARSALS {
         assert!(rt; is_rehearsed(rt.alloc(), *asked, &first, &second, Ok(want))?);
     }
     Ok(())
