@@ -1,19 +1,18 @@
-"""Writes cases of crates/answer_cases/stdin as theorems on the definitions, files of crates/proved_cases/proofs.
+"""Writes cases of crates/answer_cases/stdin as theorems on the definitions, the file Rows.antt of crates/proved_cases/proofs.
 
 Each says of a case's query, day and answer, as they stand there, that `IsAnswer` holds, and is proved by computing it. Days.antt
-there has the layout of messages. Where two cases of a heading have one comment, their theorems have one name, and the prover
-refuses them.
+there has the layout of messages. Where two cases have one comment, their theorems have one name, and the prover refuses them.
 """
 import collections, re
 
 from rattle import TOP
 
 CASES = TOP / "crates/answer_cases/stdin"
-FOLDER = TOP / "crates/proved_cases/proofs"
-# The files of the first headings, whose cases are written, in their order.
-FILES = "Sales Faults Bars Selections Moments Places".split()
+ROWS = TOP / "crates/proved_cases/proofs/Rows.antt"
+# Of how many headings, the first ones, cases are written.
+HEADINGS = 6
 IMPORTS = [
-    ("Rattle.std.proofs.Common", "◌≡◌ [] ◌++◌ refl"),
+    ("Rattle.std.proofs.Common", "[] ◌++◌ refl"),
     ("Rattle.std.specs.Prelude", "codes"),
     ("Rattle.proved_cases.proofs.Days", "attributed broken cross executed executed_at named order replaced trade"),
     ("Rattle.proved_cases.proofs.Days", "at hex number price printable reference shares stock volume"),
@@ -68,16 +67,6 @@ def theorem_of(case):
     ])
 
 
-def file_of(title, theorems):
-    """A file of proofs, with the imports that its theorems need."""
-    text = "\n\n".join(theorems)
-    words = re.split(r"[\s()]+", re.sub(r'(?m)^--.*|"[^"]*"', "", text))
-    used = [(module, [name for name in names.split() if name.strip("◌") in words]) for module, names in IMPORTS]
-    uses = "".join(f"use {module}.{{{', '.join(names)}}}\n" for module, names in used if names)
-    source = "-- `python3 check/test_definitions.py write` writes this file from crates/answer_cases/stdin."
-    return f"-- {title}.\n{source}\n{uses}\n{text}\n"
-
-
 def cases_of(part):
     """The cases of a part: a comment of one line, a day, a query, perhaps ways to answer it, and the answer."""
     form = r'# (.*)\nday ?(.*)\nquery "([^"\\]*)"\n(?:.*\n)*?----\n((?:.*\n)*)'
@@ -86,7 +75,9 @@ def cases_of(part):
 
 
 def written():
-    """The text of each file by its path."""
-    parts = [part.split("\n", 1) for part in re.split(r"(?m)^# == ", CASES.read_text())[1:]]
-    texts = (file_of(title, [theorem_of(case) for case in cases_of(cases)]) for title, cases in parts)
-    return {FOLDER / f"{name}.antt": text for name, text in zip(FILES, texts)}
+    """The text of the file by its path: the cases below their headings, and the names that they import."""
+    parts = [part.split("\n", 1) for part in re.split(r"(?m)^# == ", CASES.read_text())[1 : HEADINGS + 1]]
+    rows = [text for title, cases in parts for text in (f"-- ---- {title}", *map(theorem_of, cases_of(cases)))]
+    uses = "".join(f"use {module}.{{{', '.join(names.split())}}}\n" for module, names in IMPORTS)
+    source = "-- `python3 check/test_definitions.py write` writes this file from crates/answer_cases/stdin."
+    return {ROWS: "\n\n".join([f"-- Worked rows.\n{source}\n{uses}", *rows]).replace("\n\n\n", "\n\n") + "\n"}

@@ -1,9 +1,4 @@
-mod Bars
 mod Computed
 mod Days
-mod Faults
-mod Moments
-mod Places
-mod Sales
-mod Selections
+mod Rows
 mod Told

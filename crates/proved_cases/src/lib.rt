@@ -4,5 +4,5 @@
 //! theorem under its comment, and its proof is one word, since the checker computes both sides. There is no code.
 //!
 //! Of `proofs/`, `Told` has what a theorem says, `Computed` the answer that each file and query have, `Days` the layout
-//! of the messages, and the other files the rows, which `check/proved_cases.py` writes.
+//! of the messages, and `Rows` the rows, which `check/proved_cases.py` writes.
 #![tactic(auto)]
