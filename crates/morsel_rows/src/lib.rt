@@ -7,6 +7,7 @@
 
 mod divisor;
 mod partition;
+mod room;
 mod rows;
 
 pub use base::OutOfMemory;

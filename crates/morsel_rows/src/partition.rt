@@ -44,18 +44,6 @@ impl<A: Allocator + Copy> Partition<A> {
         }
     }
 
-    /// No rows, with room for `orders` order rows and for the trades that a day has with them: an execution to ten, a
-    /// trade with a price of its own to forty. It is taken at once, and refused if there is no memory for it.
-    pub(crate) fn with_room(alloc: A, orders: usize) -> Result<Self, OutOfMemory>
-        ensures { IfOk result (λ partition. partition ≡ no_rows_in) }
-    {
-        Ok(Partition {
-            orders: OrderList::with_room(alloc, orders)?,
-            executions: Vec::with_capacity(alloc, orders / 10)?,
-            own_priced: Vec::with_capacity(alloc, orders / 40)?,
-        })
-    }
-
     /// The same rows, in memory for just them.
     pub(crate) fn copied(&self, alloc: A) -> Result<Self, OutOfMemory>
         ensures { IfOk result (λ copy. copy ≡ self.now) }
@@ -131,6 +119,16 @@ impl<A: Allocator> Partition<A> {
         ensures unchanged { OnErr result (self.new ≡ self.old) }
     {
         push(&mut self.own_priced, row)
+    }
+
+    /// Takes room for `orders` order rows more and for the trades that a day has with them: an execution to ten, a
+    /// trade with a price of its own to forty. It is refused if there is no memory for it.
+    pub(crate) fn reserve(&mut self, orders: usize) -> Result<(), OutOfMemory>
+        ensures { self.new ≡ self.old }
+    {
+        self.orders.reserve(orders)?;
+        self.executions.reserve_exact(orders / 10)?;
+        self.own_priced.reserve_exact(orders / 40)
     }
 
     /// Gives memory back that is taken for further rows.

@@ -14,7 +14,7 @@ use Rattle.order_list.specs.declared.lean.Lean.{Lean}
 use Rattle.order_list.specs.declared.offsets.Origin.{Origin}
 
 abbrev pub none : Lean
-none = record { low = record { lowest = 0; second = 0; third = 0; highest = 0 }; price_high = 0 }
+none = record { low = record { bytes = [] }; price_high = 0 }
 
 -- the reference of a row counts from the origin
 same_number : (origin : Origin) (rows : List Lean) (i : ℕ) (d : OrderRow) (e : Lean) → i < length rows

@@ -1,20 +1,21 @@
 -- Order rows in fewer bytes.
 -- Derived: callers see a list of order rows.
 use Rattle.std.specs.Prelude.{ℕ, ◌+◌, ◌*◌, ◌/◌, ◌%◌, ◌^◌, ◌<◌, ◌≤◌, List}
+use Rattle.std.specs.Int.{from_le_bytes, w64}
 use Rattle.std.specs.List.{All, AllPairs}
 use Rattle.row_types.specs.declared.order.OrderRow.{OrderRow}
 use Rattle.order_list.specs.declared.lean.Lean.{Lean}
 use Rattle.order_list.specs.declared.offsets.Origin.{Origin}
-use Rattle.order_list.specs.declared.quarters.Quarters.{Quarters}
+use Rattle.order_list.specs.declared.unaligned.Unaligned.{Unaligned}
 use Rattle.order_list.specs.declared.wide.Wide.{Wide}
 
 -- no number of 24 bits that counts from it goes past the last number of 64 bits
 abbrev pub IsOrigin : Origin → Type 0
 IsOrigin origin = (origin.place + 2 ^ 24 ≤ 2 ^ 64) × (origin.order_no + 2 ^ 24 ≤ 2 ^ 64)
 
--- the number of which these are the quarters
-abbrev pub number_of : Quarters → ℕ
-number_of quarters = quarters.highest * 2 ^ 48 + quarters.third * 2 ^ 32 + quarters.second * 2 ^ 16 + quarters.lowest
+-- the number that has these bytes, the lowest first
+unfoldable pub number_of : Unaligned → ℕ
+number_of it = from_le_bytes w64 it.bytes
 
 -- its reference, as an offset
 abbrev pub offset_of : Lean → ℕ

@@ -7,8 +7,8 @@ ghost use Rattle.order_list.specs.ShortRows.{IsOrigin, RiseTo, offset_of, row_of
 
 use crate::OutOfMemory;
 use crate::offsets::{LAST_START, Origin, offset_from};
-use crate::quarters::Quarters;
 use crate::rising_rows::RisingRows;
+use crate::unaligned::Unaligned;
 use base::{copied, push};
 use row_types::OrderRow;
 use std::alloc::Allocator;
@@ -21,7 +21,7 @@ const BELOW: u64 = 1 << 23;
 #[derive(Clone, Copy)]
 pub(crate) struct Lean {
     /// From the lowest bit on the reference, the place, and 16 bits of the price.
-    pub(crate) low: Quarters,
+    pub(crate) low: Unaligned,
     /// The upper 16 bits of the price.
     pub(crate) price_high: u16,
 }
@@ -43,7 +43,7 @@ impl Lean {
                     + u64::from(place) * (1 << 24)
                     + price_low * (1 << 48);
                 Some(Lean {
-                    low: Quarters::of(low),
+                    low: Unaligned::of(low),
                     price_high: (row.price / (1 << 16)) as u16,
                 })
             }

@@ -16,8 +16,8 @@ mod lean;
 mod offsets;
 mod order_rows;
 mod orders;
-mod quarters;
 mod rising_rows;
+mod unaligned;
 mod wide;
 
 pub use base::OutOfMemory;

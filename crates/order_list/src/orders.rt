@@ -48,15 +48,6 @@ impl<A: Allocator + Copy> OrderList<A> {
         }
     }
 
-    /// No rows, and room for this many lean ones, which is taken at once. It is refused if there is no memory for them.
-    pub fn with_room(alloc: A, rows: usize) -> Result<Self, OutOfMemory>
-        ensures { IfOk result (λ list. list ≡ []) }
-    {
-        let mut list = OrderList::new(alloc);
-        list.lean.reserve(rows)?;
-        Ok(list)
-    }
-
     /// The same rows, in memory for just them.
     pub fn copied(&self, alloc: A) -> Result<Self, OutOfMemory>
         ensures { IfOk result (λ copy. copy ≡ self.now) }
@@ -69,6 +60,13 @@ impl<A: Allocator + Copy> OrderList<A> {
 }
 
 impl<A: Allocator> OrderList<A> {
+    /// Takes room for this many lean rows more. It is refused if there is no memory for them.
+    pub fn reserve(&mut self, rows: usize) -> Result<(), OutOfMemory>
+        ensures { self.new ≡ self.old }
+    {
+        self.lean.reserve(rows)
+    }
+
     /// Adds a row at the end. If there is no memory for it, the list stays as it was.
     #[inline(always)]
     pub fn push(&mut self, row: OrderRow) -> Result<(), OutOfMemory>

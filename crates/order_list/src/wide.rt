@@ -2,14 +2,14 @@
 ghost use Rattle.std.specs.Prelude.{◌≡◌};
 ghost use Rattle.order_list.specs.ShortRows.{row_of_wide};
 
-use crate::quarters::Quarters;
+use crate::unaligned::Unaligned;
 use row_types::OrderRow;
 
 /// An order row in 20 bytes, with none between its numbers, whatever they are.
 #[derive(Clone, Copy)]
 pub(crate) struct Wide {
-    pub(crate) place: Quarters,
-    pub(crate) order_no: Quarters,
+    pub(crate) place: Unaligned,
+    pub(crate) order_no: Unaligned,
     pub(crate) price: u32,
 }
 
@@ -19,8 +19,8 @@ impl Wide {
         ensures { row_of_wide result ≡ row }
     {
         Wide {
-            place: Quarters::of(row.place),
-            order_no: Quarters::of(row.order_no),
+            place: Unaligned::of(row.place),
+            order_no: Unaligned::of(row.order_no),
             price: row.price,
         }
     }

@@ -1,5 +1,5 @@
 //! Lists of order rows: lean and wide ones, the memory that they take, and those that are searched where they lie.
-use crate::room::{Came, needs_more};
+use crate::room::{Came, needs_more, with_room};
 use crate::rows::{list_of, order, pass_all, pass_told, push_each};
 use linked_list_allocator::LocalHeap;
 use morsel_rows::{OrderList, OutOfMemory};
@@ -106,7 +106,7 @@ fn push_nine(list: &mut OrderList<&LocalHeap>, first: u64, other: u64) -> Result
 
 /// How many bytes of the heap these take, for which there was room.
 fn used_by_nine(heap: &LocalHeap, first: u64, other: u64) -> usize {
-    let Ok(mut list) = OrderList::with_room(heap, 9) else {
+    let Ok(mut list) = with_room(heap, 9) else {
         return 0;
     };
     let are_pushed = push_nine(&mut list, first, other).is_ok();
@@ -161,7 +161,7 @@ fn rows_near_the_first_take_ten_bytes(rt: HostRuntime) -> Result<(), Fail> {
 /// Whether a list with room for a hundred rows takes no more of the heap for lean ones, then none of it for these
 /// beside what wide ones take, and no more for all rows.
 fn are_turned_wide(heap: &LocalHeap, lean: u64) -> bool {
-    let Ok(mut list) = OrderList::with_room(heap, 100) else {
+    let Ok(mut list) = with_room(heap, 100) else {
         return false;
     };
     let room = heap.used();
@@ -197,7 +197,7 @@ const BEHIND: u64 = 5 << 32;
 
 /// Whether three rows take no more memory of the heap than there was room for, in a list that rises.
 fn are_lean(heap: &LocalHeap) -> bool {
-    let Ok(mut list) = OrderList::with_room(heap, 3) else {
+    let Ok(mut list) = with_room(heap, 3) else {
         return false;
     };
     let used = heap.used();

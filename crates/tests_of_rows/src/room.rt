@@ -79,9 +79,19 @@ pub(crate) fn needs_more<F: Fn(Global, &LocalHeap) -> Result<Came, AllocError>>(
     }
 }
 
+/// A list with room for this many rows.
+pub(crate) fn with_room(
+    heap: &LocalHeap,
+    rows: usize,
+) -> Result<OrderList<&LocalHeap>, AllocError> {
+    let mut list = OrderList::new(heap);
+    list.reserve(rows)?;
+    Ok(list)
+}
+
 /// What comes of a list with room for nine rows, which takes no more for them.
 fn room_for_nine(_: Global, heap: &LocalHeap) -> Result<Came, AllocError> {
-    let Ok(mut list) = OrderList::with_room(heap, 9) else {
+    let Ok(mut list) = with_room(heap, 9) else {
         return Ok(Came::of(false, heap.used() == 0));
     };
     let (used, length) = (heap.used(), list.len());
