@@ -124,7 +124,7 @@ impl OpenScan {
             AreTakenIn as_of (map placed_body frames.now) 0 walked self.old self.new) }
     {
         for frame in frames {
-            self.take_in_one(as_of, *frame)?;
+            self.take_in_one(as_of, frame)?;
         }
         Ok(())
     }
@@ -132,17 +132,17 @@ impl OpenScan {
     /// Takes in one frame more: its message, if that counts up to this moment, in seconds since
     /// midnight, or its wrong length. If there is no memory for its row, the scan stays as it was.
     #[inline(always)]
-    fn take_in_one(&mut self, as_of: Option<u32>, frame: Frame<'_>) -> Result<(), OutOfMemory>
-        ensures taken { OnOk result (TakesIn as_of (placed_body frame.entry ∷ []) self.old self.new) }
+    fn take_in_one(&mut self, as_of: Option<u32>, frame: &Frame<'_>) -> Result<(), OutOfMemory>
+        ensures taken { OnOk result (TakesIn as_of (placed_body frame.now ∷ []) self.old self.new) }
         ensures unchanged { OnErr result (self.new ≡ self.old) }
     {
         // Of these types are nearly all messages that are read, so each has code of its own, which tests
         // the type once and reads only what its row has.
         match kind_of(frame.body) {
-            b'A' => self.take_in_kind(b'A', as_of, frame),
-            b'E' => self.take_in_kind(b'E', as_of, frame),
-            b'F' => self.take_in_kind(b'F', as_of, frame),
-            b'U' => self.take_in_kind(b'U', as_of, frame),
+            b'A' => self.take_in_kind(b'A', as_of, *frame),
+            b'E' => self.take_in_kind(b'E', as_of, *frame),
+            b'F' => self.take_in_kind(b'F', as_of, *frame),
+            b'U' => self.take_in_kind(b'U', as_of, *frame),
             kind => self.take_in_rare(kind, as_of, frame),
         }
     }
@@ -153,13 +153,13 @@ impl OpenScan {
         &mut self,
         kind: u8,
         as_of: Option<u32>,
-        frame: Frame<'_>,
+        frame: &Frame<'_>,
     ) -> Result<(), OutOfMemory>
-        requires { kind ≡ kind_of frame.body.now }
-        ensures taken { OnOk result (TakesIn as_of (placed_body frame.entry ∷ []) self.old self.new) }
+        requires { kind ≡ kind_of frame.now.body.now }
+        ensures taken { OnOk result (TakesIn as_of (placed_body frame.now ∷ []) self.old self.new) }
         ensures unchanged { OnErr result (self.new ≡ self.old) }
     {
-        self.take_in_kind(kind, as_of, frame)
+        self.take_in_kind(kind, as_of, *frame)
     }
 
     /// The same of a frame whose type is known.
