@@ -1,13 +1,13 @@
 -- A sale in whole seconds has the same bar, so ticks have the bars of their sales.
 use Rattle.std.proofs.Common.{◌≡◌, ℕ, ◌+◌, ◌<◌, ◌≤◌, All, Bor, List, [], ◌∷◌, length, map, filter, get_or, refl, sym, ap, ap₂, ◌∙◌, subst, arith}
-use Rattle.std.proofs.Common.{◌++◌, IsPermutation, append_assoc, drop, nat_eq, take}
+use Rattle.std.proofs.Common.{◌++◌, IsPermutation, nat_eq}
 use Rattle.std.specs.Fn.{Mut, Called, ComputesKey}
 use Rattle.std.specs.List.{IsDistinct}
 use Rattle.std.specs.List.Sorted.{IsNonDecreasingBy, IsSorted, IsSortedByKey}
 use Rattle.std.proofs.lemmas.Bool.Decides.{nat_tests}
-use Rattle.std.proofs.lemmas.List.{get_or-map, length-map, map-append, take-append-drop}
-use Rattle.std.proofs.lemmas.List.Elements.{All-map, filter_agree}
-use Rattle.std.proofs.lemmas.List.Sorted.{All-permutation, answers_always, IsPermutation-append_comm, IsPermutation-append_right, IsPermutation-map, IsPermutation-trans, length_permutation}
+use Rattle.std.proofs.lemmas.List.{get_or-map, length-map, map_push}
+use Rattle.std.proofs.lemmas.List.Elements.{All-map, All-push, filter_agree}
+use Rattle.std.proofs.lemmas.List.Sorted.{All-permutation, answers_always, IsPermutation-map, length_permutation}
 use Rattle.std.proofs.lemmas.Simd.{map-map}
 use Rattle.base.specs.declared.limits.TheConstants.{SECONDS_OF_DAY, TRADE_LIMIT}
 use Rattle.row_types.specs.declared.trade.Sale.{Sale}
@@ -18,7 +18,7 @@ use Rattle.time_and_sales.proofs.SortedByPlace.{differ_in_order, no_sale}
 use Rattle.bar.specs.declared.bar.Bar.{Bar}
 use Rattle.bar.specs.OneBar.{IsTraded, interval_start, key_cmp}
 use Rattle.bars.specs.Bars.{AreBarsOf}
-use Rattle.bars.specs.Steps.{AreJoinedAlike, AreUnmade, bar_of_one, bar_of_tick, bars_of, in_seconds, put, sale_of_tick}
+use Rattle.bars.specs.Steps.{AreJoinedAlike, AreTraded, AreUnmade, bar_of_one, bar_of_tick, bars_of, in_seconds, put, sale_of_tick}
 use Rattle.bars.specs.declared.tick.Tick.{Tick}
 use Rattle.bars.proofs.BarsInRanges.{locate_of, sales_in_range}
 use Rattle.bars.proofs.BarsOfSales.{bars_of_are, locates_rise, start_rises, table_is}
@@ -49,16 +49,14 @@ shares_in_seconds sales some = All-map (λ (s : Sale). 0 < s.shares) in_seconds 
 pub apart_in_seconds : (sales : List Sale) → AreApart sales → AreApart (map in_seconds sales)
 apart_in_seconds sales apart = subst (IsDistinct nat_eq) (sym (places_in_seconds sales)) apart
 
--- what is turned from a sale into its tick, from a place on, is there still
-pub turned : (from : ℕ) (all ticks sales : List Sale) → IsPermutation all (ticks ++ map in_seconds sales)
-    → IsPermutation all ((ticks ++ map in_seconds (drop from sales)) ++ map in_seconds (take from sales))
-turned from all ticks sales perm =
-    let first = map in_seconds (take from sales) in
-    let rest = map in_seconds (drop from sales) in
-    let parts : map in_seconds sales ≡ first ++ rest =
-    ap (map in_seconds) (sym (take-append-drop from sales)) ∙ map-append in_seconds (take from sales) (drop from sales) in
-    rw append_assoc (IsPermutation-trans all (ticks ++ (first ++ rest)) (ticks ++ (rest ++ first)) (subst (λ l. IsPermutation all (ticks ++ l)) parts perm)
-    (IsPermutation-append_right ticks (first ++ rest) (rest ++ first) (IsPermutation-append_comm first rest)))
+-- ticks, and that of a sale of some shares behind them
+pub traded_more : (ticks : List Tick) (tick : Tick) (sale : Sale) → AreTraded ticks → sale_of_tick tick ≡ in_seconds sale → 0 < sale.shares
+    → (0 < sale.shares → (width : ℕ) → IsTraded (bar_of_tick width tick)) → AreTraded (ticks ++ tick ∷ [])
+traded_more ticks tick sale are is some traded = record {
+  shares = rw map_push (All-push (λ (s : Sale). 0 < s.shares) (map sale_of_tick ticks) (sale_of_tick tick) are.shares
+      (subst (λ (s : Sale). 0 < s.shares) (sym is) some));
+  traded = λ width. All-push (λ (t : Tick). IsTraded (bar_of_tick width t)) ticks tick (are.traded width) (traded some width);
+}
 
 -- ---- sorted ticks
 

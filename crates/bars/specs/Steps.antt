@@ -1,6 +1,7 @@
 -- What the steps of making tables compute: the bar of one sale, a bar put into a table, bars in order.
 -- To be believed of a crate used by itself: the table of a bucket is defined by them.
-use Rattle.std.specs.Prelude.{◌≡◌, ℕ, ◌+◌, ◌*◌, ◌/◌, ◌^◌, ◌<◌, ◌≤◌, All, List, [], ◌∷◌, None, length, map, if◌then◌else◌}
+use Rattle.std.specs.Prelude.{◌≡◌, ℕ, ◌+◌, ◌*◌, ◌/◌, ◌^◌, ◌<◌, ◌≤◌, All, List, [], ◌∷◌, Option, None, length, map, if◌then◌else◌}
+use Rattle.std.specs.Option.{IfSome}
 use Rattle.std.specs.List.Sorted.{IsNonDecreasingBy}
 use Rattle.std.specs.Ordering.{is_eq, is_lt}
 use Rattle.base.specs.declared.limits.TheConstants.{NANOSECONDS, SECONDS_OF_DAY, TRADE_LIMIT}
@@ -58,6 +59,15 @@ sale_of_tick tick = record {
 -- the bar of one tick
 abbrev pub bar_of_tick : ℕ → Tick → Bar
 bar_of_tick width tick = bar_of_one width (sale_of_tick tick)
+
+-- ticks of some shares each, the bar of each of which is traded, whatever the width
+pub record AreTraded (ticks : List Tick) : Type 0 where
+  pub shares : All (λ sale. 0 < sale.shares) (map sale_of_tick ticks)
+  pub traded : (width : ℕ) → All (λ tick. IsTraded (bar_of_tick width tick)) ticks
+
+-- what ticks keep of these sales, if each of these has a tick
+abbrev pub AreTicksOf : List Sale → Option (List Sale) → Type 0
+AreTicksOf sales ticks = IfSome ticks (λ kept. kept ≡ map in_seconds sales)
 
 -- sales that their bars can be made of: their places differ, they are fewer than a file has room for and each of some
 -- shares, their locates rise, the width is one of a day's, and the bar of each is traded

@@ -1,15 +1,18 @@
 //! Bars that are only to be joined and written: made, or kept as what they need of their sales.
-ghost use Rattle.std.specs.Prelude.{◌≡◌, ◌<◌, ◌≤◌, All, IfOk, length, map};
+ghost use Rattle.std.specs.Prelude.{◌≡◌, ◌<◌, ◌≤◌, All, IfOk, List, length, map};
 ghost use Rattle.std.specs.List.Sorted.{IsSorted};
+ghost use Rattle.std.specs.Option.{IfSome};
+ghost use Rattle.row_types.specs.declared.trade.Sale.{Sale as TheSale};
 ghost use Rattle.time_and_sales.specs.Lent.{AreApart};
 ghost use Rattle.bar.specs.OneBar.{IsTraded, key_cmp};
 ghost use Rattle.bars.specs.Bars.{AreBarsOf};
-ghost use Rattle.bars.specs.Steps.{AreOfForm, bar_of_tick, bars_of_form, sale_of_tick};
+ghost use Rattle.bars.specs.Steps.{AreOfForm, AreTicksOf, AreTraded, bar_of_tick, bars_of_form, sale_of_tick};
 
 use crate::OutOfMemory;
 use crate::bar_table::{BarTable, put_in_order};
 use crate::kept_form::Form;
-use crate::tick::{Tick, put_ticks_in_order, sales_of, ticks_of};
+use crate::tick::{Tick, put_ticks_in_order, sales_of};
+use crate::tick_list::TickList;
 use base::limits::{SECONDS_OF_DAY, TRADE_LIMIT};
 use row_types::Sale;
 use std::alloc::Global;
@@ -39,36 +42,33 @@ impl Model for BucketBars {
 }
 
 impl BucketBars {
-    /// The bars of the sales, in whatever order they are, at a width in seconds. They are made where there are sixteen
-    /// sales a bar or more, and memory for them; otherwise ticks are kept. If a sale has no tick, or there is no memory
-    /// for them, the sales are, which are put in order in place and have no more room than they need.
-    pub fn of_vec(sales: Vec<Sale>, width: u32) -> BucketBars
-        requires places { AreApart sales.items }
-        requires count { length sales.items < TRADE_LIMIT }
-        requires shares { All (λ sale. 0 < sale.shares) sales.items }
+    /// The bars of sales of which these are the ticks, at a width in seconds; none if a sale has no tick. They are made
+    /// where there are sixteen sales a bar or more, and memory for them; otherwise the ticks are kept, in no more
+    /// memory than they need.
+    pub fn of_ticks(ticks: TickList, width: u32) -> Option<BucketBars>
+        requires sales { (sales : List TheSale) × AreTicksOf sales ticks
+            × AreApart sales × (length sales < TRADE_LIMIT) }
         requires width { (1 ≤ width) × (width ≤ SECONDS_OF_DAY) }
-        ensures bars { AreBarsOf width sales.items result }
-        ensures traded { All IsTraded result }
+        ensures bars { (sales : List TheSale) → AreTicksOf sales ticks → IfSome result (AreBarsOf width sales) }
+        ensures traded { IfSome result (All IsTraded) }
     {
-        let alloc = *sales.allocator();
-        match ticks_of(sales) {
-            Ok(ticks) => BucketBars::of_ticks(alloc, ticks, width),
-            Err(sales) => BucketBars::of_sales(sales, width),
-        }
+        let mut items = ticks.into_items()?;
+        items.shrink_to_fit();
+        Some(BucketBars::of_items(items, width))
     }
 
     /// The bars of ticks, made or not.
-    fn of_ticks(alloc: Global, mut ticks: Vec<Tick>, width: u32) -> BucketBars
+    fn of_items(mut ticks: Vec<Tick>, width: u32) -> BucketBars
         requires places { AreApart (map sale_of_tick ticks.items) }
         requires count { length ticks.items < TRADE_LIMIT }
-        requires shares { All (λ sale. 0 < sale.shares) (map sale_of_tick ticks.items) }
         requires width { (1 ≤ width) × (width ≤ SECONDS_OF_DAY) }
-        requires traded { All (λ tick. IsTraded (bar_of_tick width tick)) ticks.items }
+        requires traded { AreTraded ticks.items }
         ensures bars { AreBarsOf width (map sale_of_tick ticks.items) result }
         ensures traded { All IsTraded result }
     {
         let count = put_ticks_in_order(&mut ticks, width);
         if count <= ticks.len() / SALES_A_BAR {
+            let alloc = *ticks.allocator();
             if let Ok(bars) = table_of(alloc, ticks.as_slice(), width, count) {
                 return BucketBars {
                     form: Form::Bars(bars),
@@ -80,8 +80,9 @@ impl BucketBars {
         }
     }
 
-    /// The bars of sales that have no ticks, not made.
-    fn of_sales(mut sales: Vec<Sale>, width: u32) -> BucketBars
+    /// The bars of the sales, in whatever order they are, at a width in seconds. They aren't made: the sales are kept,
+    /// which are put in order in place and have no more room than they need.
+    pub fn of_vec(mut sales: Vec<Sale>, width: u32) -> BucketBars
         requires places { AreApart sales.items }
         requires count { length sales.items < TRADE_LIMIT }
         requires shares { All (λ sale. 0 < sale.shares) sales.items }

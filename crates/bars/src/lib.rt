@@ -19,6 +19,7 @@ mod kept_form;
 mod keyed;
 mod texts;
 mod tick;
+mod tick_list;
 
 pub use bar::Bar;
 pub use bar_table::BarTable;
@@ -29,4 +30,5 @@ pub use kept_form::Form;
 pub use row_types::Sale;
 pub use texts::{write_bar, write_header};
 pub use tick::Tick;
+pub use tick_list::TickList;
 pub use time_and_sales::Name;

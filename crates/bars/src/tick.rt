@@ -1,5 +1,5 @@
 //! What a bar needs of a sale.
-ghost use Rattle.std.specs.Prelude.{◌≡◌, ◌↔◌, ℕ, ◌+◌, ◌++◌, ◌<◌, ◌≤◌, All, IfErr, IfOk, IsTrue, length, map, vec_capacity, vec_len};
+ghost use Rattle.std.specs.Prelude.{◌≡◌, ◌↔◌, ℕ, ◌<◌, IfOk, IsTrue, map};
 ghost use Rattle.std.specs.List.Sorted.{IsPermutation, IsSorted};
 ghost use Rattle.bar.specs.OneBar.{IsTraded, key_cmp};
 ghost use Rattle.bars.specs.Steps.{HasTick, bar_of_tick, in_seconds, sale_of_tick};
@@ -26,7 +26,7 @@ pub struct Tick {
 
 /// Whether a sale has a tick: one of 2^32 shares or more has none.
 #[inline]
-fn has_tick(sale: &Sale) -> bool
+pub(crate) fn has_tick(sale: &Sale) -> bool
     ensures { IsTrue result ↔ HasTick sale.now }
 {
     sale.time / NANOSECONDS < 1 << 32 && sale.place < 1 << 48 && sale.shares < 1 << 32
@@ -35,7 +35,7 @@ fn has_tick(sale: &Sale) -> bool
 impl Tick {
     /// That of a sale.
     #[inline]
-    fn of(sale: Sale) -> Tick
+    pub(crate) fn of(sale: Sale) -> Tick
         requires { HasTick sale }
         ensures value { sale_of_tick result ≡ in_seconds sale }
         ensures traded { 0 < sale.shares → (width : ℕ) → IsTraded (bar_of_tick width result) }
@@ -74,64 +74,6 @@ impl Tick {
             shares: u64::from(self.shares),
             trade_no: 0,
         }
-    }
-}
-
-/// Whether each of the sales has a tick.
-fn have_ticks(sales: &[Sale]) -> bool
-    ensures { IsTrue result → All HasTick sales.now }
-{
-    for sale in sales {
-        if !has_tick(sale) {
-            return false;
-        }
-    }
-    true
-}
-
-/// What share of the sales that are left become ticks at once: an eighth.
-const SHARE: usize = 8;
-
-/// How many do at least. So many of them take 160 KiB.
-const LEAST_SHARE: usize = 4_096;
-
-/// The ticks of the sales, in whatever order, if each has one and there is memory for them; else the sales come back.
-/// The memory of sales that have become ticks is given back before others do.
-pub(crate) fn ticks_of(mut sales: Vec<Sale>) -> Result<Vec<Tick>, Vec<Sale>>
-    requires { All (λ sale. 0 < sale.shares) sales.items }
-    ensures ticks { IfOk result (λ ticks. IsPermutation (map in_seconds sales.items) (map sale_of_tick ticks.items)) }
-    ensures traded { IfOk result (λ ticks. (width : ℕ) → All (λ tick. IsTraded (bar_of_tick width tick)) ticks.items) }
-    ensures sales { IfErr result (λ left. left ≡ sales) }
-{
-    if !have_ticks(sales.as_slice()) {
-        return Err(sales);
-    }
-    let Ok(mut ticks) = Vec::with_capacity(*sales.allocator(), sales.len()) else {
-        return Err(sales);
-    };
-    while !sales.is_empty() {
-        let share = (sales.len() / SHARE).max(LEAST_SHARE);
-        let from = sales.len().saturating_sub(share);
-        append_ticks_of(&mut ticks, &sales.as_slice()[from..]);
-        sales.truncate(from);
-        sales.shrink_to_fit();
-    }
-    Ok(ticks)
-}
-
-/// Appends the tick of each of the sales, in room that was taken for it.
-fn append_ticks_of(ticks: &mut Vec<Tick>, sales: &[Sale])
-    requires fit { All HasTick sales.now }
-    requires shares { All (λ sale. 0 < sale.shares) sales.now }
-    requires room { vec_len ticks.old + length sales.now ≤ vec_capacity ticks.old }
-    ensures ticks { map sale_of_tick ticks.new.items ≡ map sale_of_tick ticks.old.items ++ map in_seconds sales.now }
-    ensures traded { (width : ℕ) → All (λ tick. IsTraded (bar_of_tick width tick)) ticks.old.items
-        → All (λ tick. IsTraded (bar_of_tick width tick)) ticks.new.items }
-    ensures room { vec_capacity ticks.new ≡ vec_capacity ticks.old }
-    ensures len { vec_len ticks.new ≡ vec_len ticks.old + length sales.now }
-{
-    for sale in sales {
-        ticks.push_reserved(Tick::of(*sale));
     }
 }
 

@@ -1,3 +1,4 @@
 pub mod ProductsOfSales
+pub mod PricedParts
 pub mod RowsOfPartitions
 pub mod RisingRows

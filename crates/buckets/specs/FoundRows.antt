@@ -5,11 +5,12 @@ use Rattle.base.specs.Least.{least_by}
 use Rattle.order_table.specs.Orders.{first_repeated, repeated_of}
 use Rattle.order_table.specs.declared.table.Repeated.{Repeated}
 use Rattle.probe.specs.Pricing.{first_unknown, priced, unknown_of}
-use Rattle.probe.specs.Selection.{kept}
+use Rattle.probe.specs.Selection.{admits, kept}
 use Rattle.row_types.specs.declared.trade.Sale.{Sale}
 use Rattle.row_types.specs.declared.trade.Unknown.{Unknown}
 use Rattle.meaning.specs.declared.query.What.{What}
 use Rattle.morsel_rows.specs.Partitions.{PartitionView}
+use Rattle.buckets.specs.BucketRows.{BucketView}
 use Rattle.buckets.specs.Products.{product_of}
 use Rattle.buckets.specs.declared.product.Product.{Product}
 
@@ -24,6 +25,10 @@ unknown_in rows = option_map unknown_of (first_unknown rows.orders rows.executio
 -- the trades: the executions at their orders' prices, and the sales that have a price of their own
 abbrev pub trades_in : PartitionView → List Sale
 trades_in rows = priced rows.orders rows.executions ++ rows.own_priced
+
+-- of some trades those that are asked for of a bucket
+abbrev pub kept_of : BucketView → List Sale → List Sale
+kept_of bucket sales = kept bucket.breaks (admits bucket.selection) sales
 
 -- the trades that are kept
 abbrev pub sales_in : List ℕ → (Sale → Bool) → PartitionView → List Sale

@@ -1,105 +1,145 @@
 //! The sales of partitions.
-ghost use Rattle.std.specs.Prelude.{◌≡◌, ◌++◌, IfOk, OnOk, List, map, nat_eq};
+ghost use Rattle.std.specs.Prelude.{◌≡◌, ◌<◌, ◌++◌, [], All, IfOk, OnOk, List, map, nat_eq, option_map};
 ghost use Rattle.std.specs.List.{IsDistinct};
 ghost use Rattle.row_types.specs.declared.order.OrderRow.{OrderRow as TheRow};
-ghost use Rattle.probe.specs.Pricing.{IsPricingOf, priced};
+ghost use Rattle.row_types.specs.declared.trade.Sale.{Sale as TheSale};
+ghost use Rattle.probe.specs.Pricing.{first_unknown, priced, unknown_of};
 ghost use Rattle.morsel_rows.specs.Partitions.{AreRowsByPlace};
 ghost use Rattle.buckets.specs.BucketRows.{rows_of_partitions};
-ghost use Rattle.buckets.specs.FoundRows.{repeated_in, trades_in, unknown_in};
+ghost use Rattle.buckets.specs.FoundRows.{kept_of, repeated_in, trades_in, unknown_in};
 
 use crate::OutOfMemory;
+use crate::bucket::Bucket;
 use crate::needed::needed_orders;
 use crate::rising_orders::RisingOrders;
+use crate::sales_taken::TakesSales;
+use base::earlier;
 use morsel_rows::Partition;
 use order_table::{Built, OrderTable, PricesExecutions, Repeated};
-use probe::{Priced, Sale, Unknown, price_into};
+use probe::{Priced, Unknown, keep, price_into};
+use row_types::Execution;
 use std::alloc::Global;
 
-/// The trades of some rows, and the first rows that are at fault.
+/// The first rows of some that are at fault.
 #[derive(Drop)]
-pub struct Traded {
-    /// The first order row of the partitions that repeats a reference.
+pub struct Faults {
+    /// The first order row of them that repeats a reference.
     pub repeated: Option<Repeated>,
     /// The first execution of them that has no price.
     pub unknown: Option<Unknown>,
-    /// The executions at their prices, and then the sales that have a price of their own.
-    pub sales: Vec<Sale>,
 }
 
-/// Prices the executions of the partitions by their orders, and adds the sales that have a price of their own.
-pub fn trade(alloc: Global, partitions: &[&Partition]) -> Result<Traded, OutOfMemory>
-    requires { AreRowsByPlace (rows_of_partitions partitions.now) }
-    ensures repeated { IfOk result (λ traded. traded.repeated ≡ repeated_in (rows_of_partitions partitions.now)) }
-    ensures unknown { IfOk result (λ traded. traded.unknown ≡ unknown_in (rows_of_partitions partitions.now)) }
-    ensures sales { IfOk result (λ traded. traded.sales.items ≡ trades_in (rows_of_partitions partitions.now)) }
+/// Prices the executions of a bucket's partitions by their orders, and hands over the sales that are asked for: first
+/// the executions at their prices, and then the sales that have a price of their own. They are made a partition at a
+/// time, so that they are few at once.
+pub(crate) fn trade<T: TakesSales>(
+    alloc: Global,
+    bucket: &Bucket,
+    partitions: &[&Partition],
+    into: &mut T,
+) -> Result<Faults, OutOfMemory>
+    requires rows { AreRowsByPlace (rows_of_partitions partitions.now) }
+    requires none { T.Has [] into.old }
+    ensures repeated { IfOk result (λ faults. faults.repeated ≡ repeated_in (rows_of_partitions partitions.now)) }
+    ensures unknown { IfOk result (λ faults. faults.unknown ≡ unknown_in (rows_of_partitions partitions.now)) }
+    ensures sales { OnOk result (T.Has (kept_of bucket.now (trades_in (rows_of_partitions partitions.now))) into.new) }
 {
-    let mut traded = price_executions(alloc, partitions)?;
-    add_own_priced(&mut traded.sales, partitions)?;
-    Ok(traded)
+    into.reserve(count_trades(partitions))?;
+    let faults = trade_executions(alloc, bucket, partitions, into)?;
+    take_own_priced(alloc, bucket, partitions, into)?;
+    Ok(faults)
 }
 
 /// Prices the executions of the partitions by their orders: searched where they lie, where their references rise, and
 /// else in a table of those that are needed.
-fn price_executions(alloc: Global, partitions: &[&Partition]) -> Result<Traded, OutOfMemory>
-    requires { IsDistinct nat_eq (map (λ row. row.place) (rows_of_partitions partitions.now).orders) }
-    ensures repeated { IfOk result (λ traded. traded.repeated ≡ repeated_in (rows_of_partitions partitions.now)) }
-    ensures unknown { IfOk result (λ traded. traded.unknown ≡ unknown_in (rows_of_partitions partitions.now)) }
-    ensures sales { IfOk result (λ traded. traded.sales.items
-        ≡ priced (rows_of_partitions partitions.now).orders (rows_of_partitions partitions.now).executions) }
+fn trade_executions<T: TakesSales>(
+    alloc: Global,
+    bucket: &Bucket,
+    partitions: &[&Partition],
+    into: &mut T,
+) -> Result<Faults, OutOfMemory>
+    requires places { IsDistinct nat_eq (map (λ row. row.place) (rows_of_partitions partitions.now).orders) }
+    requires none { T.Has [] into.old }
+    ensures repeated { IfOk result (λ faults. faults.repeated ≡ repeated_in (rows_of_partitions partitions.now)) }
+    ensures unknown { IfOk result (λ faults. faults.unknown ≡ unknown_in (rows_of_partitions partitions.now)) }
+    ensures sales { OnOk result (T.Has (kept_of bucket.now
+        (priced (rows_of_partitions partitions.now).orders (rows_of_partitions partitions.now).executions)) into.new) }
 {
     if let Some(orders) = RisingOrders::of(alloc, partitions)? {
-        return price_by(alloc, &orders, None, partitions);
+        return Ok(Faults {
+            repeated: None,
+            unknown: take_priced(alloc, bucket, &orders, partitions, into)?,
+        });
     }
     let Built { table, repeated } = OrderTable::of_vec(needed_orders(alloc, partitions)?);
-    price_by(alloc, &table, repeated, partitions)
+    let unknown = take_priced(alloc, bucket, &table, partitions, into)?;
+    Ok(Faults { repeated, unknown })
 }
 
-/// What is traded at the prices of these orders, of which this is the first that repeats a reference.
-fn price_by<P: PricesExecutions>(
+/// Hands over the sales of the partitions' executions at the prices of these orders, and gives the first execution that
+/// has none.
+fn take_priced<P: PricesExecutions, T: TakesSales>(
     alloc: Global,
-    prices: &P,
-    repeated: Option<Repeated>,
-    partitions: &[&Partition],
-) -> Result<Traded, OutOfMemory>
-    ensures repeated { IfOk result (λ traded. traded.repeated ≡ repeated) }
-    ensures pricing { IfOk result (λ traded. (rows : List TheRow) → P.PricesBy rows prices.now →
-        IsPricingOf rows (rows_of_partitions partitions.now).executions
-        (record { sales = traded.sales; unknown = traded.unknown })) }
-{
-    let Priced { sales, unknown } = price(alloc, prices, partitions)?;
-    Ok(Traded {
-        repeated,
-        unknown,
-        sales,
-    })
-}
-
-/// The sales of the partitions' executions, in memory that is taken once for all trades.
-fn price<P: PricesExecutions>(
-    alloc: Global,
+    bucket: &Bucket,
     prices: &P,
     partitions: &[&Partition],
-) -> Result<Priced, OutOfMemory>
-    ensures { IfOk result (λ outcome. (rows : List TheRow) → P.PricesBy rows prices.now →
-        IsPricingOf rows (rows_of_partitions partitions.now).executions outcome) }
+    into: &mut T,
+) -> Result<Option<Unknown>, OutOfMemory>
+    requires { T.Has [] into.old }
+    ensures unknown { IfOk result (λ unknown. (rows : List TheRow) → P.PricesBy rows prices.now →
+        unknown ≡ option_map unknown_of (first_unknown rows (rows_of_partitions partitions.now).executions)) }
+    ensures sales { OnOk result ((rows : List TheRow) → P.PricesBy rows prices.now →
+        T.Has (kept_of bucket.now (priced rows (rows_of_partitions partitions.now).executions)) into.new) }
 {
-    let mut priced = Priced {
-        sales: Vec::with_capacity(alloc, count_trades(partitions))?,
+    let mut unknown = None;
+    let mut room = Priced {
+        sales: Vec::new(alloc),
         unknown: None,
     };
     for partition in partitions {
-        price_into(&mut priced, prices, partition.executions())?;
+        let found = take_executions(bucket, prices, partition.executions(), &mut room, into)?;
+        unknown = earlier(unknown, found, |unknown| unknown.place);
     }
-    Ok(priced)
+    Ok(unknown)
 }
 
-/// Adds the sales of the partitions that have a price of their own.
-fn add_own_priced(sales: &mut Vec<Sale>, partitions: &[&Partition]) -> Result<(), OutOfMemory>
-    ensures { OnOk result
-        (sales.new.items ≡ sales.old.items ++ (rows_of_partitions partitions.now).own_priced) }
+/// Hands over the sales of executions, and gives the first of them that has no price. What `room` has is let go.
+fn take_executions<P: PricesExecutions, T: TakesSales>(
+    bucket: &Bucket,
+    prices: &P,
+    executions: &[Execution],
+    room: &mut Priced,
+    into: &mut T,
+) -> Result<Option<Unknown>, OutOfMemory>
+    ensures unknown { IfOk result (λ unknown. (rows : List TheRow) → P.PricesBy rows prices.now →
+        unknown ≡ option_map unknown_of (first_unknown rows executions.now)) }
+    ensures sales { OnOk result ((rows : List TheRow) (before : List TheSale) → P.PricesBy rows prices.now →
+        T.Has before into.old → T.Has (before ++ kept_of bucket.now (priced rows executions.now)) into.new) }
 {
+    room.sales.clear();
+    room.unknown = None;
+    price_into(room, prices, executions)?;
+    keep(&mut room.sales, bucket.breaks(), bucket.selection());
+    into.take(room.sales.as_slice())?;
+    Ok(room.unknown)
+}
+
+/// Hands over the sales of the partitions that have a price of their own.
+fn take_own_priced<T: TakesSales>(
+    alloc: Global,
+    bucket: &Bucket,
+    partitions: &[&Partition],
+    into: &mut T,
+) -> Result<(), OutOfMemory>
+    ensures { OnOk result ((before : List TheSale) → T.Has before into.old →
+        T.Has (before ++ kept_of bucket.now (rows_of_partitions partitions.now).own_priced) into.new) }
+{
+    let mut sales = Vec::new(alloc);
     for partition in partitions {
+        sales.clear();
         sales.extend_from_slice(partition.own_priced())?;
+        keep(&mut sales, bucket.breaks(), bucket.selection());
+        into.take(sales.as_slice())?;
     }
     Ok(())
 }

@@ -7,9 +7,8 @@ ghost use Rattle.buckets.specs.Buckets.{AreNumbered, exact_bucket, found, total_
 use crate::OutOfMemory;
 use crate::bucket_total::{BucketTotal, Found};
 use base::earlier;
-use buckets::{Bucket, Traded, make_product, trade};
+use buckets::{Bucket, find};
 use gathering::Work;
-use probe::keep;
 use std::alloc::Global;
 use std::sync::Arc;
 
@@ -35,17 +34,10 @@ impl Work for BucketWork {
     ghost equal_totals = { λ xs ys same all is. is ∙ sym (ap total_found ((exact_list exact_bucket).one xs ys same)) };
 
     fn run(alloc: Global, input: &Bucket) -> Result<Found, OutOfMemory> {
-        let partitions = input.partitions(alloc)?;
-        let Traded {
-            repeated,
-            unknown,
-            mut sales,
-        } = trade(alloc, partitions.as_slice())?;
-        keep(&mut sales, input.breaks(), input.selection());
-        let product = make_product(sales, input.what());
+        let (faults, product) = find(alloc, input)?;
         Ok(Found {
-            repeated,
-            unknown,
+            repeated: faults.repeated,
+            unknown: faults.unknown,
             product: Arc::new(alloc, product)?,
         })
     }

@@ -1,5 +1,5 @@
 //! Texts that threads make by ranges, whatever the number of threads: of numbers, and of bars that buckets make or keep
-//! as sales.
+//! as ticks.
 ghost use Rattle.std.specs.Prelude.{◌≡◌, ℕ, ◌<◌, All, IfOk, IsTrue, List, [], ◌∷◌, length};
 ghost use Rattle.base.specs.declared.limits.TheConstants.{TIME_LIMIT};
 ghost use Rattle.row_types.specs.declared.trade.Sale.{Sale as TheSale};
@@ -8,7 +8,7 @@ ghost use Rattle.bar.specs.OneBar.{IsTraded};
 ghost use Rattle.bars.specs.Bars.{AllSumsFit, AreBarsOf, all_bars};
 
 use crate::rows::{named_row, pass_if, pass_told};
-use bars::{BucketBars, Form, OutOfMemory, Sale, lines_in_ranges};
+use bars::{BucketBars, Form, OutOfMemory, Sale, TickList, lines_in_ranges};
 use probe::Kind;
 use std::alloc::{AllocError, Global};
 use std::test::Fail;
@@ -67,7 +67,11 @@ fn minutes(alloc: Global, rows: &[Row], last: u16) -> Result<BucketBars, OutOfMe
     ensures starts { IfOk result (λ table. All (λ bar. bar.start < TIME_LIMIT) table) }
 {
     let sales = rising_sales(alloc, rows, last)?;
-    let table = BucketBars::of_vec(sales, 60);
+    let mut ticks = TickList::new(alloc);
+    ticks.take_in(sales.as_slice())?;
+    let Some(table) = BucketBars::of_ticks(ticks, 60) else {
+        return Err(AllocError);
+    };
     Ok(table)
 }
 

@@ -1,38 +1,31 @@
-use Rattle.std.proofs.Common.{map, arith}
-use Rattle.std.proofs.lemmas.List.Sorted.{All-permutation, IsPermutation-map, length_permutation}
-use Rattle.bar.specs.OneBar.{IsTraded}
-use Rattle.bars.specs.Steps.{bar_of_tick, bars_of, sale_of_tick}
-use Rattle.bars.specs.declared.tick.Tick.{Tick}
-use Rattle.bars.proofs.BarsOfSales.{AreBarsOf-sorted, bars_of_are, bars_traded}
-use Rattle.bars.proofs.Ticks.{unmade_ticks}
+use Rattle.std.proofs.Common.{◌≡◌, ◌<◌, List, Option, Some, ap, arith, length, map, subst, sym}
+use Rattle.std.proofs.lemmas.List.{length-map}
+use Rattle.row_types.specs.declared.trade.Sale.{Sale}
+use Rattle.time_and_sales.specs.Lent.{AreApart}
+use Rattle.bars.specs.Bars.{AreBarsOf}
+use Rattle.bars.specs.Steps.{AreTicksOf, in_seconds, sale_of_tick}
+use Rattle.bars.proofs.Ticks.{apart_in_seconds, bars_in_seconds}
 use Rattle.bars.proofs.bucket_bars.BucketBars.of_ticks.Goals as goal
 
-pub table_of-requires-clause-count : goal.table_of-requires-clause-count
-table_of-requires-clause-count c =
-    rw c.as_slice.ensures.value (omega (arith, length_permutation _ _ c.put_ticks_in_order-count.ensures.permutation, c.requires.count))
+-- what some ticks keep of these sales
+kept_are : (sales kept : List Sale) (ticks : Option (List Sale)) → ticks ≡ Some kept → AreTicksOf sales ticks → kept ≡ map in_seconds sales
+kept_are sales kept ticks is of = subst (AreTicksOf sales) is of
 
-pub table_of-requires-clause-traded : goal.table_of-requires-clause-traded
-table_of-requires-clause-traded c =
-    rw c.as_slice.ensures.value
-    (All-permutation (λ (t : Tick). IsTraded (bar_of_tick c.args.width t)) _ _ c.put_ticks_in_order-count.ensures.permutation c.requires.traded)
+pub of_items-requires-clause-places : goal.of_items-requires-clause-places
+of_items-requires-clause-places c =
+    let (sales, of, apart, _) = c.requires.sales in
+    rw c.shrink_to_fit.ensures.items
+    (subst AreApart (sym (kept_are sales _ _ c.in_ok-items.ensures.items of)) (apart_in_seconds sales apart))
 
-pub returns-in-Ok-clause-bars : goal.returns-in-Ok-clause-bars
-returns-in-Ok-clause-bars c =
-    AreBarsOf-sorted c.args.width _ _ c.in-Ok.bars
-    (IsPermutation-map sale_of_tick _ _ c.put_ticks_in_order-count.ensures.permutation) c.requires.places
-    (rw c.as_slice.ensures.value at c.in-Ok.ensures.bars)
-
-pub invariant_of-result-2 : goal.invariant_of-result-2
-invariant_of-result-2 c =
-    let order = c.put_ticks_in_order-count.ensures in
-    unmade_ticks c.args.width _ _ order.permutation c.requires.places c.requires.count c.requires.shares c.requires.width order.rise c.requires.traded
+pub of_items-requires-clause-count : goal.of_items-requires-clause-count
+of_items-requires-clause-count c =
+    let (sales, of, _, few) = c.requires.sales in
+    let kept = c.in_ok-items.items.items in
+    let same = ap length (kept_are sales _ _ c.in_ok-items.ensures.items of) in
+    rw c.shrink_to_fit.ensures.items (omega (arith, few, length-map sales in_seconds, length-map kept sale_of_tick, same))
 
 pub returns-clause-bars : goal.returns-clause-bars
-returns-clause-bars c =
-    AreBarsOf-sorted c.args.width _ _ _ (IsPermutation-map sale_of_tick _ _ c.put_ticks_in_order-count.ensures.permutation) c.requires.places
-    (bars_of_are c.args.width _)
-
-pub returns-clause-traded : goal.returns-clause-traded
-returns-clause-traded c =
-    let sales = map sale_of_tick c.put_ticks_in_order-count.new.ticks.items in
-    bars_traded c.args.width sales (bars_of c.args.width sales) (invariant_of-result-2 c).traded (bars_of_are c.args.width sales)
+returns-clause-bars c = λ sales of.
+    bars_in_seconds c.args.width sales _
+    (subst (λ l. AreBarsOf c.args.width l c.of_items.result) (kept_are sales _ _ c.in_ok-items.ensures.items of)
+    (rw c.shrink_to_fit.ensures.items at c.of_items.ensures.bars))

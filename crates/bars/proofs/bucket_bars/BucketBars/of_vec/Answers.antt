@@ -1,34 +1,30 @@
 use Rattle.std.proofs.Common.{◌<◌, arith}
-use Rattle.std.proofs.lemmas.List.{length-map}
 use Rattle.std.proofs.lemmas.List.Sorted.{All-permutation, length_permutation}
 use Rattle.row_types.specs.declared.trade.Sale.{Sale}
 use Rattle.time_and_sales.proofs.SortedByPlace.{differ_in_order}
-use Rattle.bars.specs.Steps.{in_seconds, sale_of_tick}
-use Rattle.bars.proofs.BarsOfSales.{AreBarsOf-sorted}
-use Rattle.bars.proofs.Ticks.{apart_in_seconds, bars_in_seconds, shares_in_seconds}
+use Rattle.bars.specs.Steps.{bars_of}
+use Rattle.bars.proofs.BarsOfSales.{AreBarsOf-sorted, bars_of_are, bars_traded, locates_rise}
 use Rattle.bars.proofs.bucket_bars.BucketBars.of_vec.Goals as goal
 
-pub of_ticks-requires-clause-places : goal.of_ticks-requires-clause-places
-of_ticks-requires-clause-places c = differ_in_order _ _ c.in-Ok.ensures.ticks (apart_in_seconds c.args.sales.items c.requires.places)
+pub invariant_of-result : goal.invariant_of-result
+invariant_of-result c =
+    let order = c.put_in_order.ensures in
+    rw c.shrink_to_fit.ensures.items (record {
+      places = differ_in_order c.args.sales.items _ order.permutation c.requires.places;
+      count = omega (arith, length_permutation _ _ order.permutation, c.requires.count);
+      shares = All-permutation (λ (s : Sale). 0 < s.shares) c.args.sales.items _ order.permutation c.requires.shares;
+      within_day = c.requires.width;
+      locates = locates_rise c.args.width _ order.rise;
+      traded = order.traded;
+    })
 
-pub of_ticks-requires-clause-count : goal.of_ticks-requires-clause-count
-of_ticks-requires-clause-count c =
-    omega (
-      arith,
-      length_permutation _ _ c.in-Ok.ensures.ticks,
-      length-map c.args.sales.items in_seconds,
-      length-map c.in-Ok.ticks.items sale_of_tick,
-      c.requires.count,
-    )
+pub returns-clause-bars : goal.returns-clause-bars
+returns-clause-bars c =
+    rw c.shrink_to_fit.ensures.items
+    (AreBarsOf-sorted c.args.width c.args.sales.items _ _ c.put_in_order.ensures.permutation c.requires.places (bars_of_are c.args.width _))
 
-pub of_ticks-requires-clause-shares : goal.of_ticks-requires-clause-shares
-of_ticks-requires-clause-shares c =
-    All-permutation (λ (s : Sale). 0 < s.shares) _ _ c.in-Ok.ensures.ticks (shares_in_seconds c.args.sales.items c.requires.shares)
-
-pub of_ticks-requires-clause-traded : goal.of_ticks-requires-clause-traded
-of_ticks-requires-clause-traded c = c.in-Ok.ensures.traded c.args.width
-
-pub returns-in-Ok-clause-bars : goal.returns-in-Ok-clause-bars
-returns-in-Ok-clause-bars c =
-    bars_in_seconds c.args.width c.args.sales.items _
-    (AreBarsOf-sorted c.args.width _ _ _ c.in-Ok.ensures.ticks (apart_in_seconds c.args.sales.items c.requires.places) c.of_ticks.ensures.bars)
+pub returns-clause-traded : goal.returns-clause-traded
+returns-clause-traded c =
+    let sorted = c.put_in_order.new.sales.items in
+    rw c.shrink_to_fit.ensures.items
+    (bars_traded c.args.width sorted (bars_of c.args.width sorted) c.put_in_order.ensures.traded (bars_of_are c.args.width sorted))

@@ -1,6 +1,5 @@
-use Rattle.std.proofs.Common.{◌≡◌, ℕ, Bool, List, filter, is_none, map, nat_eq, option_map, refl, sym, ap, ◌∙◌, rules}
+use Rattle.std.proofs.Common.{◌≡◌, ℕ, Bool, List, filter, is_none, map, nat_eq, option_map, refl, sym, ap, subst, ◌∙◌, rules}
 use Rattle.std.specs.List.{IsDistinct}
-use Rattle.std.specs.declared.alloc.Global.{Global}
 use Rattle.base.specs.Least.{least_by}
 use Rattle.base.proofs.Lists.{filters_commute, filter_map_on_filter}
 use Rattle.row_types.specs.declared.order.OrderRow.{OrderRow}
@@ -8,11 +7,10 @@ use Rattle.order_table.specs.Orders.{first_repeated, repeated_of}
 use Rattle.order_table.proofs.PartRows.{price_where}
 use Rattle.order_list.specs.Filters.{AreNeeded, is_needed}
 use Rattle.order_list.proofs.FilteredOrders.{all_pass, distinct_filter, first_repeated_where}
-use Rattle.probe.specs.Pricing.{Execution, first_unknown, is_unknown, priced, sale_at, sale_of, unknown_of, IsPricingOf}
-use Rattle.probe.specs.declared.pricing.Priced.{Priced}
-use Rattle.std.proofs.lemmas.Result.{IfOk-weaker}
+use Rattle.probe.specs.Pricing.{Execution, first_unknown, is_unknown, priced, sale_at, sale_of, unknown_of}
 use Rattle.buckets.specs.BucketRows.{rows_of_partitions}
-use Rattle.buckets.proofs.trading.price_executions.Goals as goal
+use Rattle.buckets.specs.FoundRows.{kept_of}
+use Rattle.buckets.proofs.trading.trade_executions.Goals as goal
 
 module _ (rows needed : List OrderRow) (executions : List Execution)
     (needs : AreNeeded (map (λ execution. execution.order_no) executions) rows needed) where
@@ -50,37 +48,28 @@ module _ (rows needed : List OrderRow) (executions : List Execution)
       ∙ sym (filters_commute (is_unknown rows) (is_unknown rows) of_it (λ execution h. refl) executions)
       ∙ ap (filter (is_unknown rows)) all_executions))
 
-  same_pricing : (outcome : Priced Global) → IsPricingOf needed executions outcome → IsPricingOf rows executions outcome
-  same_pricing outcome pricing = record {
-    sales = pricing.sales ∙ same_priced;
-    unknown = pricing.unknown ∙ ap (option_map unknown_of) same_unknown;
-  }
-
 pub of_vec-table-requires : goal.of_vec-table-requires
-of_vec-table-requires c =
+of_vec-table-requires g c =
     let rows = rows_of_partitions c.args.partitions.now in
-    needed_apart rows.orders c.in_ok-needed_orders.field-0.items rows.executions (search rules) c.requires
+    needed_apart rows.orders c.in_ok-needed_orders.field-0.items rows.executions (search rules) c.requires.places
 
 pub returns-clause-repeated : goal.returns-clause-repeated
-returns-clause-repeated c =
+returns-clause-repeated g c =
     let rows = rows_of_partitions c.args.partitions.now in
-    IfOk-weaker c.price_by-2.result _ _
-    (λ traded is. is ∙ c.of_vec-table.ensures.repeated
-    ∙ ap (option_map repeated_of) (same_repeated rows.orders c.in_ok-needed_orders.field-0.items rows.executions (search rules)))
-    c.price_by-2.ensures.repeated
+    c.of_vec-table.ensures.repeated
+    ∙ ap (option_map repeated_of) (same_repeated rows.orders c.in_ok-needed_orders.field-0.items rows.executions (search rules))
 
 pub returns-clause-unknown : goal.returns-clause-unknown
-returns-clause-unknown c =
+returns-clause-unknown g c =
     let rows = rows_of_partitions c.args.partitions.now in
     let needed = c.in_ok-needed_orders.field-0.items in
-    IfOk-weaker c.price_by-2.result _ _
-    (λ traded pricing. (same_pricing rows.orders needed rows.executions (search rules) _ (pricing needed c.of_vec-table.ensures.table)).unknown)
-    c.price_by-2.ensures.pricing
+    c.in_ok-unknown.ensures.unknown needed c.of_vec-table.ensures.table
+    ∙ ap (option_map unknown_of) (same_unknown rows.orders needed rows.executions (search rules))
 
 pub returns-clause-sales : goal.returns-clause-sales
-returns-clause-sales c =
+returns-clause-sales g c =
     let rows = rows_of_partitions c.args.partitions.now in
     let needed = c.in_ok-needed_orders.field-0.items in
-    IfOk-weaker c.price_by-2.result _ _
-    (λ traded pricing. (same_pricing rows.orders needed rows.executions (search rules) _ (pricing needed c.of_vec-table.ensures.table)).sales)
-    c.price_by-2.ensures.pricing
+    subst (λ l. g.T.TakesSales.Has (kept_of c.args.bucket.now l) c.take_priced-2.new.into)
+    (same_priced rows.orders needed rows.executions (search rules))
+    (c.in_ok-unknown.ensures.sales needed c.of_vec-table.ensures.table)
