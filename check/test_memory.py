@@ -118,7 +118,7 @@ rising         file   64       6159      25812       7993        105         59
 rising         stream  1       8688      37171       4442         86         11
 scattered      file    1       5203      27893       4263         53         11
 scattered      stream  1      10031      42530       4960         86         11
-one_order      file    1      11819      69074       1227         37         31
+one_order      file    1      11819      39780       1227         37         31
 trades         file    1       8908      30929       2701         39         23
 trades         file    4      13400      39700       4760         77         25
 trades         stream  1       8885      42616       3330         65         23
