@@ -38,6 +38,13 @@ class Builds(Tree):
         self.assertEqual(self.ends(self.script("-", "sales", input=b"another day\n")), (0, self.answer(day="another day\n"), ""))
         self.assertEqual((self.ends(self.build()), self.builds()), ((0, "", ""), 1))
 
+    def test_what_an_earlier_run_proved_is_kept(self):
+        for name in ("low", "itch_bars"):
+            self.asks(f"keeps_{name}")
+        status, out, errors = self.ends(self.script("day", "sales"))
+        self.assertEqual((status, out), (0, self.answer()), errors)
+        self.tells(errors, "3 of 3 crates proved")
+
     def test_words_streams_and_signals_reach_the_program(self):
         words = ["sales", "", "-x", "--run", "a  'b' \"c\"", "*", "$HOME", "two\nlines", b"\xff"]
         shown = [it if isinstance(it, str) else os.fsdecode(it) for it in words]
