@@ -1,3 +1,4 @@
+pub mod Decimals
 pub mod LastRows
 pub mod MergedListings
 pub mod RangesJoined
