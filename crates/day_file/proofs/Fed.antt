@@ -1,9 +1,9 @@
 -- What was fed to a cutter, as it goes on.
-use Rattle.std.proofs.Common.{◌≡◌, ℕ, ◌+◌, ◌<◌, ◌≤◌, List, [], ◌∷◌, ◌++◌, length, take, drop, All, refl, sym, ap, ◌∙◌, subst, append_assoc, append-nil, ◌⊎◌}
-use Rattle.std.proofs.Common.{inl, inr, Result, Ok, Err, OnOk, OnErr, arith}
+use Rattle.std.proofs.Common.{◌≡◌, ℕ, ◌+◌, ◌-◌, ◌<◌, ◌≤◌, List, [], ◌∷◌, ◌++◌, length, take, drop, All, refl, sym, ap, ◌∙◌, subst, append_assoc, append-nil, ◌⊎◌}
+use Rattle.std.proofs.Common.{inl, inr, Result, Ok, Err, IfOk, OnErr, arith}
 use Rattle.std.proofs.Math.Seq.{take-append_seam, drop-append_seam}
 use Rattle.std.specs.List.{concat}
-use Rattle.std.proofs.lemmas.List.{length-append, length-drop, length-take-le, nil_from_length, take-append-drop, take-append-le}
+use Rattle.std.proofs.lemmas.List.{drop-take, length-append, length-drop, length-take-le, nil_from_length, take-append-drop, take-append-le, take-take, take_at}
 use Rattle.std.proofs.lemmas.List.Folds.{concat-append}
 use Rattle.std.proofs.lemmas.List.Elements.{All-nil, All-push, All-tail, All-weaker}
 use Rattle.base.specs.declared.limits.TheConstants.{LONGEST_FILE, MOST_MORSELS}
@@ -164,15 +164,30 @@ Cutting-rest v whole c none =
 pub HasFed-more : (v : CutterView) (fed piece : List ℕ) → HasFed v fed → HasFed (record v { rest = v.rest ++ piece }) (fed ++ piece)
 HasFed-more v fed piece h = grind (arith, append_assoc)
 
--- a piece was appended, or refused
-pub Cutting-grown : {A B : Type 0} {v : CutterView} {whole : ℕ} (r : Result A B) (piece grown : List ℕ) → IsCutting v whole
-    → OnOk r (grown ≡ v.rest ++ piece) → OnErr r (grown ≡ v.rest) → fed_length v + length piece ≤ LONGEST_FILE → IsCutting (record v { rest = grown }) whole
-Cutting-grown {v = v} {whole = whole} (Ok _) piece grown c e _ h = rw e (record {
+-- a piece was read in, of at most `left` bytes, or refused
+pub Cutting-grown : {E : Type 0} {v : CutterView} {whole : ℕ} (Gave : List ℕ → Type 0) (r : Result ℕ E) (grown : List ℕ) (left : ℕ) → IsCutting v whole
+    → IfOk r (λ n. (piece : List ℕ) × Gave piece × (grown ≡ v.rest ++ piece) × (length piece ≡ n)) → IfOk r (λ n. n ≤ left) → OnErr r (grown ≡ v.rest)
+    → fed_length v + left ≤ LONGEST_FILE → IsCutting (record v { rest = grown }) whole
+Cutting-grown {v = v} {whole = whole} Gave (Ok n) grown left c (piece, gave, is, size) within _ h = rw is (record {
   fed = c.fed ++ piece;
   has = HasFed-more v c.fed piece c.has;
   below = c.below;
   within = omega (arith, c.within, length-append v.rest piece);
   front = rw (take-append-le whole v.rest piece c.within) c.front;
-  bound = omega (arith, h, length-append v.rest piece);
+  bound = omega (arith, h, within, size, length-append v.rest piece);
 })
-Cutting-grown (Err _) piece grown c _ e h = rw e c
+Cutting-grown Gave (Err _) grown left c _ _ e h = rw e c
+
+-- ---- the vector in which the bytes stand
+
+-- what was behind a run stands at the front of the next vector
+pub written_over : (old front : List ℕ) (rest behind : List ℕ) (length_is end most : ℕ) → front ≡ take (length_is - end) (drop end old) ++ rest
+    → end ≤ length_is → length_is ≤ length old → length_is - end ≤ most
+    → take (length_is - end) (take most (front ++ behind)) ≡ drop end (take length_is old)
+written_over old front rest behind length_is end most is within long room =
+    let n = length_is - end in
+    let piece = take n (drop end old) in
+    let size : length piece ≡ n = length-take-le n (drop end old) (omega (arith, length-drop end old, within, long)) in
+    let whole : end + n ≡ length_is = omega (arith, within) in
+    take-take n most (front ++ behind) room ∙ ap (take n) (ap (λ l. l ++ behind) is ∙ append_assoc piece rest behind)
+    ∙ take_at piece (rest ++ behind) n size ∙ sym (subst (λ k. drop end (take k old) ≡ piece) whole (drop-take end n old))

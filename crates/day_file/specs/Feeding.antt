@@ -25,8 +25,8 @@ pub record IsFullRun (target : ℕ) (bytes : List ℕ) : Type 0 where
   pub full : target ≤ length bytes
 
 -- these bytes may have been fed to a cutter: full runs, of which it keeps those that a cut may have, and the bytes
--- after them. Nothing was fed to a new one, and each `feed` appends its piece. Of full runs that it doesn't keep only
--- the number of their bytes is known.
+-- after them. Nothing was fed to a new one, and each `feed` appends what its source gave. Of full runs that it doesn't
+-- keep only the number of their bytes is known.
 pub record HasFed (cutter : CutterView) (fed : List ℕ) : Type 0 where
   pub beyond : List (List ℕ)
   pub full : All (IsFullRun cutter.target) (cutter.cut ++ beyond)

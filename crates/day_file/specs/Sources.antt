@@ -4,6 +4,8 @@ use Rattle.std.specs.Prelude.{ℕ, List}
 use Rattle.day_file.specs.Frames.{IsTruncatedAt}
 use Rattle.day_file.specs.declared.source_fault.SourceFault.{SourceFault}
 use Rattle.day_file.specs.declared.source_fault.SourceFault.TheVariants as fault
+use Rattle.sources.specs.declared.day_reading.ReadFault.{ReadFault}
+use Rattle.sources.specs.declared.day_reading.ReadFault.TheVariants as read
 
 -- what is known of a source after a run: a field for each thing that an outcome of a run may say of it. The comment
 -- of a field says what it is for; each kind of source says what it means there (`of_stream`, `of_blocks`), and that
@@ -33,3 +35,9 @@ IsSourceFault reading (fault.Truncated place) =
     (day : List ℕ) × reading.all day × reading.answerable day × IsTruncatedAt day place
 IsSourceFault reading fault.TooManyMorsels = reading.too_many
 IsSourceFault reading fault.OutOfMemory = reading.some
+
+-- the fault of a source that could not be read
+abbrev pub source_fault_of : ReadFault → SourceFault
+source_fault_of read.ReadFailed = fault.ReadFailed
+source_fault_of read.TooLong = fault.TooLong
+source_fault_of read.OutOfMemory = fault.OutOfMemory

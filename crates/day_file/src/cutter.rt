@@ -1,15 +1,17 @@
 //! How a day file is cut while it comes.
-ghost use Rattle.std.specs.Prelude.{◌≡◌, ◌≤◌, ◌<◌, ◌+◌, ◌++◌, ◌⊎◌, [], ℕ, List, length, IfErr, IfOk, IfSome, IsNone, OnErr, OnOk, All};
+ghost use Rattle.std.specs.Prelude.{◌≡◌, ◌≤◌, ◌<◌, ◌+◌, ◌++◌, ◌⊎◌, ◌↔◌, [], ℕ, List, length, false, true, Err, IfErr, IfOk, IfSome, IsErrOf, IsNone, OnErr, OnOk, All};
 ghost use Rattle.std.specs.List.{concat};
 ghost use Rattle.base.specs.declared.limits.TheConstants.{MOST_MORSELS};
 ghost use Rattle.day_file.specs.Cuts.{IsCutBy, IsCutFault, IsFirstRun};
 ghost use Rattle.day_file.specs.Feeding.{HasFed, IsFullRun, IsTaken, fed_length};
 ghost use Rattle.day_file.specs.Frames.{IsTruncatedAt, IsWhole};
+ghost use Rattle.sources.specs.Given.{IsDayRead};
 
 use crate::rest::Rest;
 use crate::runs::{count_runs, head_of};
 use crate::{Cut, CutFault, OutOfMemory};
 use base::limits::{LONGEST_FILE, MOST_MORSELS};
+use sources::{ReadFault, Source};
 use std::alloc::Global;
 use std::marker::Model;
 use std::mem;
@@ -98,15 +100,26 @@ impl Cutter {
         Some(mem::replace(&mut self.cut, Cut::empty(self.alloc)))
     }
 
-    /// Takes the next bytes of the file. After a refusal the cutter has the same bytes as before.
-    pub fn feed(&mut self, piece: &[u8]) -> Result<(), OutOfMemory>
-        requires { fed_length self.old + length piece.now ≤ LONGEST_FILE }
-        ensures fed { OnOk result ((fed : List ℕ) → HasFed self.old fed → HasFed self.new (fed ++ piece.now)) }
+    /// Takes the next bytes of the file: what one call of the source gives, and says how many that are. It asks for at
+    /// most 65,536 bytes, and for no more than `left` and one, which would be too many. After a refusal the cutter has
+    /// the same bytes as before.
+    pub fn feed<S: Source>(&mut self, source: &mut S, left: u64) -> Result<usize, ReadFault>
+        requires whole { S.has_failed source.old ≡ false }
+        requires left { fed_length self.old + left ≤ LONGEST_FILE }
+        ensures fed { IfOk result (λ count. (piece : List ℕ) × (length piece ≡ count)
+            × S.Gave source.old source.new piece
+            × ((fed : List ℕ) → HasFed self.old fed → HasFed self.new (fed ++ piece))) }
+        ensures within { IfOk result (λ count. count ≤ left) }
+        ensures end { IfOk result (λ count. count ≡ 0 → S.HasEnded source.new) }
         ensures same { OnErr result ((fed : List ℕ) → HasFed self.old fed → HasFed self.new fed) }
         ensures target { self.new.target ≡ self.old.target }
+        ensures fault { IfErr result (λ fault. (before : S) (bytes : List ℕ) (limit : ℕ)
+            → S.Gave before source.old bytes → length bytes + left ≡ limit
+            → IsDayRead S.Source limit before source.new (Err fault)) }
+        ensures failed { IsErrOf result ReadFault.ReadFailed ↔ (S.has_failed source.new ≡ true) }
     {
-        self.cut_off(piece.len())?;
-        self.rest.append(piece)
+        self.cut_off()?;
+        self.rest.read_from(source, left)
     }
 
     /// Takes the vectors of the morsels of a cut that nobody else holds, so that the next morsels stand in them.
@@ -123,7 +136,7 @@ impl Cutter {
         ensures fault { IfErr result (λ fault. (fed : List ℕ) → HasFed self fed → IsCutFault self.target fed fault) }
     {
         self.count_all()?;
-        self.cut_off(0)?;
+        self.cut_off()?;
         let Cutter {
             alloc,
             mut cut,
@@ -156,9 +169,8 @@ impl Cutter {
         Ok(())
     }
 
-    // Takes all full runs off the rest. Next, `next` bytes are fed.
-    fn cut_off(&mut self, next: usize) -> Result<(), OutOfMemory>
-        requires { fed_length self.old + next ≤ LONGEST_FILE }
+    // Takes all full runs off the rest.
+    fn cut_off(&mut self) -> Result<(), OutOfMemory>
         ensures fed { (fed : List ℕ) → HasFed self.old fed → HasFed self.new fed }
         ensures target { self.new.target ≡ self.old.target }
         ensures length { fed_length self.new ≡ fed_length self.old }
@@ -166,7 +178,7 @@ impl Cutter {
             ⊎ ((place : ℕ) × IsTruncatedAt self.new.rest place)) }
     {
         while let Some(end) = self.next_run() {
-            self.take_run(end, next)?;
+            self.take_run(end)?;
         }
         Ok(())
     }
@@ -189,17 +201,16 @@ impl Cutter {
         }
     }
 
-    // Takes the full run off the head of the rest. Next, `next` bytes are fed.
-    fn take_run(&mut self, end: usize, next: usize) -> Result<(), OutOfMemory>
+    // Takes the full run off the head of the rest.
+    fn take_run(&mut self, end: usize) -> Result<(), OutOfMemory>
         requires run { IsFirstRun self.old.target end self.old.rest }
         requires full { self.old.target ≤ end }
-        requires room { fed_length self.old + next ≤ LONGEST_FILE }
         ensures taken { OnOk result (IsTaken end self.old self.new) }
         ensures same { OnErr result (self.new ≡ self.old) }
     {
         if self.cut.count() < MOST_MORSELS {
             self.rest
-                .take_run(self.alloc, &mut self.cut, &mut self.spares, end, next)?;
+                .take_run(self.alloc, &mut self.cut, &mut self.spares, end)?;
         } else {
             self.past += end as u64;
             self.rest.skip(end);

@@ -2,8 +2,8 @@
 //!
 //! A frame is a message behind its length: two bytes, the high one first, which don't count themselves; a length of 0
 //! alone is a frame, too. A morsel is the shortest run of frames that reaches the target length. `Frames` walks over
-//! bytes that are there; a `Cutter` is fed a stream in pieces, gives away the morsels that it has so far, and ends with
-//! the cut or the refusal that `cut` gives of all bytes at once. A piece that is refused memory can be fed again.
+//! bytes that are there; a `Cutter` is fed by a source, gives away the morsels that it has so far, and ends with
+//! the cut or the refusal that `cut` gives of all bytes at once. It asks a source for no byte without memory for it.
 //! `specs/Sources` says what is known of a source that was read, in order or at places, and `SourceFault` why it gives
 //! no day. Changed bytes within a message are no fault: frames have no checksum.
 #![tactic(auto)]

@@ -1,31 +1,37 @@
-//! Bytes that are appended at the end and taken off the front.
-ghost use Rattle.std.specs.Prelude.{◌≡◌, ◌≤◌, ◌<◌, ◌+◌, ◌++◌, ◌∷◌, [], length, take, drop, IfOk, OnErr, OnOk, vec_capacity, vec_len};
+//! Bytes that are read in at the end and taken off the front.
+ghost use Rattle.std.specs.Prelude.{◌≡◌, ◌≤◌, ◌<◌, ◌+◌, ◌-◌, ◌++◌, ◌∷◌, ◌↔◌, ℕ, List, [], length, take, drop, Err, IfErr, IfOk, IsErrOf, OnErr, OnOk, false, true, vec_len};
 ghost use Rattle.std.specs.List.{concat};
 ghost use Rattle.base.specs.declared.limits.TheConstants.{LONGEST_FILE, MOST_MORSELS};
 ghost use Rattle.day_file.specs.Cuts.{IsRun};
+ghost use Rattle.sources.specs.Given.{IsDayRead};
 
 use crate::{Cut, OutOfMemory};
 use base::limits::{LONGEST_FILE, MOST_MORSELS};
+use sources::{ReadFault, Source};
 use std::alloc::{AllocError, Global};
 use std::marker::Model;
 use std::mem;
 
-/// Bytes that are appended at the end and taken off the front. Contracts see those that are left; the
-/// vector may begin with some that were taken.
+/// The most bytes that one call asks of a source.
+const PIECE: usize = 65_536;
+
+/// Bytes that are read in at the end and taken off the front. Contracts see those that are left; the vector begins with
+/// those that were taken, and ends with bytes of any value in whose place the next ones are read.
 #[derive(Drop)]
 pub(crate) struct Rest {
     bytes: Vec<u8>,
     start: usize,
+    end: usize,
 }
 
 impl Model for Rest {
-    ghost use Rattle.std.specs.Prelude.{◌≤◌, ℕ, List, drop, vec_len};
+    ghost use Rattle.std.specs.Prelude.{◌≤◌, ℕ, List, drop, take, vec_len};
 
     ghost Value = { List ℕ };
 
-    ghost view = { λ r. drop r.start r.bytes.items };
+    ghost view = { λ r. drop r.start (take r.end r.bytes.items) };
 
-    ghost invariant = { λ r. r.start ≤ vec_len r.bytes };
+    ghost invariant = { λ r. (r.start ≤ r.end) × (r.end ≤ vec_len r.bytes) };
 }
 
 impl Rest {
@@ -36,6 +42,7 @@ impl Rest {
         Rest {
             bytes: Vec::new(alloc),
             start: 0,
+            end: 0,
         }
     }
 
@@ -43,27 +50,64 @@ impl Rest {
     pub(crate) fn as_slice(&self) -> &[u8]
         ensures { result.now ≡ self.now }
     {
-        &self.bytes[self.start..]
+        &self.bytes[self.start..self.end]
     }
 
     // The bytes that are left, without a copy and without more room.
     pub(crate) fn into_bytes(self) -> Vec<u8>
         ensures { result.items ≡ self }
     {
-        let Rest { mut bytes, start } = self;
+        let Rest {
+            mut bytes,
+            start,
+            end,
+        } = self;
+        bytes.truncate(end);
         remove_front(&mut bytes, start);
         bytes.shrink_to_fit();
         bytes
     }
 
-    // Appends the piece.
-    pub(crate) fn append(&mut self, piece: &[u8]) -> Result<(), OutOfMemory>
-        ensures ok { OnOk result (self.new ≡ self.old ++ piece.now) }
-        ensures err { OnErr result (self.new ≡ self.old) }
+    // Appends what one call of the source gives, and says how many bytes those are. It asks for at most `left` and one
+    // more, which would be too many.
+    #[tactic(auto, using(sources::proofs::Given::some_given))]
+    pub(crate) fn read_from<S: Source>(
+        &mut self,
+        source: &mut S,
+        left: u64,
+    ) -> Result<usize, ReadFault>
+        requires whole { S.has_failed source.old ≡ false }
+        requires left { length self.old + left ≤ LONGEST_FILE }
+        ensures piece { IfOk result (λ n. (piece : List ℕ) × S.Gave source.old source.new piece
+            × (self.new ≡ self.old ++ piece) × (length piece ≡ n)) }
+        ensures within { IfOk result (λ n. n ≤ left) }
+        ensures end { IfOk result (λ n. n ≡ 0 → S.HasEnded source.new) }
+        ensures same { OnErr result (self.new ≡ self.old) }
+        ensures fault { IfErr result (λ fault. (before : S) (bytes : List ℕ) (limit : ℕ)
+            → S.Gave before source.old bytes → length bytes + left ≡ limit
+            → IsDayRead S.Source limit before source.new (Err fault)) }
+        ensures failed { IsErrOf result ReadFault.ReadFailed ↔ (S.has_failed source.new ≡ true) }
     {
-        remove_front(&mut self.bytes, self.start);
-        self.start = 0;
-        self.bytes.extend_from_slice(piece)
+        let most = (left + 1).min(PIECE as u64) as usize;
+        self.to_front();
+        lengthen(&mut self.bytes, self.end + most)?;
+        let taken = source.take(&mut self.bytes[self.end..self.end + most])?;
+        if taken as u64 > left {
+            return Err(ReadFault::TooLong);
+        }
+        self.end += taken;
+        Ok(taken)
+    }
+
+    // Moves the bytes that are left to the vector's front.
+    fn to_front(&mut self)
+        ensures { self.new ≡ self.old }
+    {
+        if self.start > 0 {
+            self.bytes.copy_within(self.start..self.end, 0);
+            self.end -= self.start;
+            self.start = 0;
+        }
     }
 
     // Takes `count` bytes off the front.
@@ -74,40 +118,35 @@ impl Rest {
         self.start += count;
     }
 
-    // Takes the run that ends there off the front, and adds it to the cut. It is copied, or if it is the
-    // larger part of the vector, what is behind it, into one of the spare vectors, if there is one. Next, `next` bytes
-    // are appended.
+    // Takes the run that ends there off the front, and adds it to the cut. It is copied, or if it is the larger part of
+    // the vector, what is behind it, into one of the spare vectors, if there is one.
     pub(crate) fn take_run(
         &mut self,
         alloc: Global,
         cut: &mut Cut,
         spares: &mut Vec<Vec<u8>>,
         end: usize,
-        next: usize,
     ) -> Result<(), OutOfMemory>
         requires within { end ≤ length self.old }
         requires run { IsRun (take end self.old) }
         requires few { length cut.old < MOST_MORSELS }
-        requires room { (length (concat cut.old) + length self.old) + next ≤ LONGEST_FILE }
+        requires room { length (concat cut.old) + length self.old ≤ LONGEST_FILE }
         ensures cut { OnOk result (cut.new ≡ cut.old ++ take end self.old ∷ []) }
         ensures rest { OnOk result (self.new ≡ drop end self.old) }
         ensures same { OnErr result ((cut.new ≡ cut.old) × (self.new ≡ self.old)) }
     {
-        let length = self.bytes.len();
+        let length = self.end;
         if self.start > 0 || end <= length / 2 {
             cut.append(alloc, Vec::from_slice(alloc, &self.as_slice()[..end])?)?;
             self.start += end;
             return Ok(());
         }
-        let mut behind = vector_of(alloc, spares, length + next)?;
-        behind.extend_from_slice(&self.bytes[end..])?;
-        let mut run = mem::replace(&mut self.bytes, behind);
-        run.truncate(end);
-        run.shrink_to_fit();
+        let behind = vector_of(alloc, spares, length)?;
+        let run = split(&mut self.bytes, length, end, behind);
+        self.end = length - end;
         if let Err(refused) = cut.append(alloc, run) {
-            // What is behind the run has room for it, too.
-            let _ = self.bytes.extend_from_slice(&refused.value);
-            self.bytes.rotate_left(length - end);
+            join(&mut self.bytes, &refused.value, self.end);
+            self.end = length;
             return Err(AllocError);
         }
         Ok(())
@@ -127,15 +166,75 @@ fn remove_front(bytes: &mut Vec<u8>, start: usize)
     bytes.truncate(left);
 }
 
-// A vector of no bytes that has this room: one of the spare ones, or a new one.
-fn vector_of(alloc: Global, spares: &mut Vec<Vec<u8>>, room: usize) -> Result<Vec<u8>, OutOfMemory>
-    ensures empty { IfOk result (λ bytes. bytes.items ≡ []) }
-    ensures room { IfOk result (λ bytes. room ≤ vec_capacity bytes) }
+// Makes the vector at least this long.
+fn lengthen(bytes: &mut Vec<u8>, least: usize) -> Result<(), OutOfMemory>
+    ensures front { take (length bytes.old.items) bytes.new.items ≡ bytes.old.items }
+    ensures long { OnOk result (least ≤ vec_len bytes.new) }
+    ensures same { OnErr result (bytes.new.items ≡ bytes.old.items) }
+{
+    if bytes.len() < least {
+        bytes.resize(least, 0)?;
+    }
+    Ok(())
+}
+
+// A vector that is at least this long: one of the spare ones, or a new one, in which there is room to read more.
+fn vector_of(
+    alloc: Global,
+    spares: &mut Vec<Vec<u8>>,
+    length: usize,
+) -> Result<Vec<u8>, OutOfMemory>
+    requires { length ≤ LONGEST_FILE }
+    ensures { IfOk result (λ bytes. length ≤ vec_len bytes) }
 {
     let Some(mut spare) = spares.pop() else {
-        return Vec::with_capacity(alloc, room);
+        return vec![in alloc; 0u8; length + PIECE];
     };
-    spare.clear();
-    spare.reserve_exact(room)?;
+    lengthen(&mut spare, length)?;
     Ok(spare)
+}
+
+// Takes the first `end` of the vector's `length` bytes out of it, without a copy. The vector is then `behind`, and
+// begins with the bytes after those.
+#[tactic(auto, using(crate::proofs::Fed::written_over))]
+fn split(bytes: &mut Vec<u8>, length: usize, end: usize, behind: Vec<u8>) -> Vec<u8>
+    requires within { end ≤ length }
+    requires length { length ≤ vec_len bytes.old }
+    requires room { length ≤ vec_len behind }
+    ensures run { result.items ≡ take end bytes.old.items }
+    ensures left { take (length - end) bytes.new.items ≡ drop end (take length bytes.old.items) }
+    ensures room { length ≤ vec_len bytes.new }
+{
+    let mut run = mem::replace(bytes, behind);
+    overwrite(bytes, &run[end..length]);
+    run.truncate(end);
+    shrink(&mut run);
+    run
+}
+
+// Puts the run before the first `left` bytes of the vector.
+fn join(bytes: &mut Vec<u8>, run: &[u8], left: usize)
+    requires { length run.now + left ≤ vec_len bytes.old }
+    ensures joined { take (length run.now + left) bytes.new.items ≡ run.now ++ take left bytes.old.items }
+    ensures same { vec_len bytes.new ≡ vec_len bytes.old }
+{
+    bytes.copy_within(..left, run.len());
+    overwrite(bytes, run);
+}
+
+// Writes the bytes over those at the front.
+fn overwrite(front: &mut [u8], bytes: &[u8])
+    requires { length bytes.now ≤ length front.old }
+    ensures { front.new ≡ bytes.now ++ drop (length bytes.now) front.old }
+{
+    front[..bytes.len()].copy_from_slice(bytes);
+}
+
+// Gives back what room is behind the bytes, if it is more than an eighth of them.
+fn shrink(bytes: &mut Vec<u8>)
+    ensures { bytes.new.items ≡ bytes.old.items }
+{
+    if bytes.capacity() - bytes.len() > bytes.len() / 8 {
+        bytes.shrink_to_fit();
+    }
 }

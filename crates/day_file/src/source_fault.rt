@@ -3,7 +3,7 @@ ghost use Rattle.std.specs.Prelude.{◌≡◌};
 ghost use Rattle.day_file.specs.declared.source_fault.SourceFault.{SourceFault};
 
 use crate::OutOfMemory;
-use sources::DeviceFailed;
+use sources::{DeviceFailed, ReadFault};
 
 /// Why a source gives no day, whether it is read in order or at places.
 #[derive(Clone, Copy, Debug, PartialEq, Eq)]
@@ -33,5 +33,19 @@ impl From<DeviceFailed> for SourceFault {
 
     fn from(_failed: DeviceFailed) -> SourceFault {
         SourceFault::ReadFailed
+    }
+}
+
+impl From<ReadFault> for SourceFault {
+    ghost use Rattle.day_file.specs.Sources.{source_fault_of};
+
+    ghost from_gives = { λ fault given. given ≡ source_fault_of fault };
+
+    fn from(fault: ReadFault) -> SourceFault {
+        match fault {
+            ReadFault::ReadFailed => SourceFault::ReadFailed,
+            ReadFault::TooLong => SourceFault::TooLong,
+            ReadFault::OutOfMemory => SourceFault::OutOfMemory,
+        }
     }
 }

@@ -1,5 +1,5 @@
 -- What a reader of batches has read, as it goes on.
-use Rattle.std.proofs.Common.{◌≡◌, ℕ, ◌+◌, ◌≤◌, List, [], ◌++◌, length, All, ap, subst, append_assoc, arith, inl}
+use Rattle.std.proofs.Common.{◌≡◌, ℕ, ◌+◌, ◌≤◌, List, [], ◌++◌, length, All, Err, ap, subst, append_assoc, arith, inl}
 use Rattle.std.specs.List.{concat}
 use Rattle.std.proofs.lemmas.List.{length-append}
 use Rattle.std.proofs.lemmas.List.Folds.{concat-append}
@@ -7,12 +7,14 @@ use Rattle.std.proofs.lemmas.List.Elements.{All-append}
 use Rattle.day_file.specs.Cuts.{IsCutBy}
 use Rattle.day_file.specs.Feeding.{CutterView, HasFed, IsFullRun, fed_length}
 use Rattle.day_file.specs.Frames.{IsTruncatedAt}
-use Rattle.sources.specs.Given.{GaveAll}
+use Rattle.sources.specs.Given.{GaveAll, IsDayRead}
+use Rattle.sources.specs.declared.day_reading.ReadFault.{ReadFault}
+use Rattle.sources.specs.declared.day_reading.ReadFault.TheVariants as read
 use Rattle.sources.specs.declared.source.Source.{Ghosts as SourceOf}
 use Rattle.day_file.proofs.Fed.{fed_length_is, truncated_after_full}
 use Rattle.day_file.proofs.CutsBy.{cut_after}
 use Rattle.streaming.specs.Batches.{HasRead, IsLastFault, IsReadTo, IsReading, ReaderView, read_length}
-use Rattle.day_file.specs.Sources.{IsSourceFault}
+use Rattle.day_file.specs.Sources.{IsSourceFault, source_fault_of}
 use Rattle.streaming.specs.Readings.{of_stream}
 use Rattle.day_file.specs.declared.source_fault.SourceFault.{SourceFault}
 use Rattle.day_file.specs.declared.source_fault.SourceFault.TheVariants as fault
@@ -69,6 +71,13 @@ batch_taken {reader} {runs = runs} cut full left h =
       first = omega (arith, h.first, length-append runs cut);
       start = omega (arith, h.start, ap length (concat-append runs cut), length-append (concat runs) (concat cut));
     }
+
+-- what a refused reading says of a source that is read in order
+pub fault_is : {S : Type 0} (stream : SourceOf S) (limit target : ℕ) (before now : S) (f : ReadFault) → IsDayRead stream limit before now (Err f)
+    → IsSourceFault (of_stream stream limit target before now) (source_fault_of f)
+fault_is stream limit target before now read.ReadFailed told = told.0
+fault_is stream limit target before now read.TooLong told = told.0
+fault_is stream limit target before now read.OutOfMemory told = told.0
 
 -- the source is at its end
 module _ {S : Type 0} (stream : SourceOf S) {limit : ℕ} {before now : S} {runs : List (List ℕ)}

@@ -1,5 +1,5 @@
 //! Reading a source in batches of morsels.
-ghost use Rattle.std.specs.Prelude.{◌≡◌, ◌≤◌, ◌<◌, ◌+◌, ◌++◌, ◌↔◌, ℕ, List, [], length, true, false, vec_len};
+ghost use Rattle.std.specs.Prelude.{◌≡◌, ◌≤◌, ◌<◌, ◌+◌, ◌++◌, ◌↔◌, ℕ, List, [], length, true, false};
 ghost use Rattle.std.specs.Prelude.{IfErr, IfOk, IfSome, IsErrOf, IsNone, OnErr, OnOk};
 ghost use Rattle.std.specs.List.{concat};
 ghost use Rattle.base.specs.declared.limits.TheConstants.{LONGEST_FILE, MOST_MORSELS};
@@ -11,18 +11,15 @@ ghost use Rattle.day_file.specs.Sources.{IsSourceFault};
 ghost use Rattle.streaming.specs.Readings.{of_stream};
 
 use crate::batch::Batch;
-use day_file::{CutFault, Cutter, LONGEST_FILE, MOST_MORSELS, OutOfMemory, Source, SourceFault};
+use day_file::{CutFault, Cutter, LONGEST_FILE, MOST_MORSELS, Source, SourceFault};
 use std::alloc::Global;
 use std::marker::Model;
 use std::mem;
 
-/// The most bytes that one call asks of a source.
-const PIECE: usize = 65_536;
-
 /// Reads a source of at most `limit` bytes to its end, and cuts what it gives into batches of morsels, which are,
 /// joined, the morsels of the whole: each is the shortest run of frames that has at least `target` bytes, or the rest.
-/// Besides a batch it holds no more than a morsel that is not full yet, a piece of at most 65,536 bytes, and the
-/// vectors of a batch that was given back.
+/// Besides a batch it holds no more than a morsel that is not full yet, into whose vector the source's bytes are read,
+/// and the vectors of a batch that was given back.
 #[derive(Drop)]
 pub struct BatchReader {
     alloc: Global,
@@ -32,7 +29,6 @@ pub struct BatchReader {
     start: u64,
     first: u32,
     cutter: Cutter,
-    piece: Vec<u8>,
 }
 
 impl Model for BatchReader {
@@ -46,18 +42,18 @@ impl Model for BatchReader {
       cutter = r.cutter;
     } };
 
-    ghost invariant = { λ r. IsReading r.limit r.target r.start r.first r.cutter × (0 < vec_len r.piece) };
+    ghost invariant = { λ r. IsReading r.limit r.target r.start r.first r.cutter };
 }
 
 impl BatchReader {
     /// A reader that has read nothing yet. Each of its batches but the last will have at least `batch` bytes.
-    pub fn new(alloc: Global, limit: u64, target: u64, batch: u64) -> Result<Self, OutOfMemory>
+    pub fn new(alloc: Global, limit: u64, target: u64, batch: u64) -> Self
         requires limit { limit ≤ LONGEST_FILE }
         requires target { 0 < target }
-        ensures same { IfOk result (λ reader. (reader.limit ≡ limit) × (reader.target ≡ target)) }
-        ensures none { IfOk result (λ reader. HasRead reader [] []) }
+        ensures same { (result.limit ≡ limit) × (result.target ≡ target) }
+        ensures none { HasRead result [] [] }
     {
-        Ok(BatchReader {
+        BatchReader {
             alloc,
             limit,
             target,
@@ -65,8 +61,7 @@ impl BatchReader {
             start: 0,
             first: 0,
             cutter: Cutter::new(alloc, target),
-            piece: vec![in alloc; 0u8; PIECE]?,
-        })
+        }
     }
 
     /// How many bytes it has read.
@@ -148,8 +143,7 @@ impl BatchReader {
         ensures failed { IsErrOf result SourceFault.ReadFailed ↔ (S.has_failed source.new ≡ true) }
     {
         let left = self.limit - self.length();
-        let taken = feed_next(source, &mut self.cutter, &mut self.piece, left)?;
-        Ok(taken > 0)
+        Ok(self.cutter.feed(source, left)? > 0)
     }
 
     // Takes the morsels that were cut so far, if they are a batch and not too many.
@@ -178,39 +172,6 @@ impl BatchReader {
             is_last: false,
         })
     }
-}
-
-// Feeds the cutter what one call of the source gives, at most what has room in `piece`, and says how many bytes those
-// are. No more than `left` and one more are asked for.
-#[tactic(auto, using(sources::proofs::Given::some_given))]
-fn feed_next<S: Source>(
-    source: &mut S,
-    cutter: &mut Cutter,
-    piece: &mut [u8],
-    left: u64,
-) -> Result<usize, SourceFault>
-    requires source { S.has_failed source.old ≡ false }
-    requires room { 0 < length piece.old }
-    requires left { fed_length cutter.old + left ≤ LONGEST_FILE }
-    ensures fed { IfOk result (λ count. (taken : List ℕ) × (length taken ≡ count) × S.Gave source.old source.new taken
-        × ((fed : List ℕ) → HasFed cutter.old fed → HasFed cutter.new (fed ++ taken))) }
-    ensures within { IfOk result (λ count. count ≤ left) }
-    ensures end { IfOk result (λ count. count ≡ 0 → S.HasEnded source.new) }
-    ensures same { OnErr result ((fed : List ℕ) → HasFed cutter.old fed → HasFed cutter.new fed) }
-    ensures target { cutter.new.target ≡ cutter.old.target }
-    ensures room { length piece.new ≡ length piece.old }
-    ensures fault { IfErr result (λ fault. (before : S) (bytes : List ℕ) (limit target : ℕ)
-        → S.Gave before source.old bytes → length bytes + left ≡ limit
-        → IsSourceFault (of_stream S.Source limit target before source.new) fault) }
-    ensures failed { IsErrOf result SourceFault.ReadFailed ↔ (S.has_failed source.new ≡ true) }
-{
-    let most = (left + 1).min(piece.len() as u64) as usize;
-    let taken = source.take(&mut piece[..most])?;
-    if taken as u64 > left {
-        return Err(SourceFault::TooLong);
-    }
-    cutter.feed(&piece[..taken])?;
-    Ok(taken)
 }
 
 // The rest, once the source is at its end: what is left in the cutter, behind `first` morsels of `start` bytes.

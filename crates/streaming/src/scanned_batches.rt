@@ -56,7 +56,7 @@ pub fn scan_source<R: Threads + Wait + Sync, S: Source>(
         (IsSourceFault (of_stream S.Source settings.limit settings.morsel source.old source.new)) }
     ensures failed { IsErrOf result SourceFault.ReadFailed ↔ (S.has_failed source.new ≡ true) }
 {
-    let mut reader = BatchReader::new(alloc, settings.limit, settings.morsel, BATCH_BYTES)?;
+    let mut reader = BatchReader::new(alloc, settings.limit, settings.morsel, BATCH_BYTES);
     let batch = reader.next_batch(source)?;
     if batch.is_last && Division::of(batch.cut.length(), settings.crew.workers).blocks == 1 {
         return Ok(WholeSource::Short(batch.cut));

@@ -23,7 +23,7 @@ type Read = (u32, u64, u32);
 /// Reads all batches of a source, and gives each back to the reader.
 fn read_batches<S: Source>(alloc: Global, source: &mut S, way: Way) -> Result<Read, SourceFault> {
     let limit = way.limit.min(LONGEST_FILE);
-    let mut reader = BatchReader::new(alloc, limit, way.target.max(1), way.batch)?;
+    let mut reader = BatchReader::new(alloc, limit, way.target.max(1), way.batch);
     for number in 1..300_000u32 {
         if source.failed() {
             break;

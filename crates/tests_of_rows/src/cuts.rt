@@ -3,7 +3,8 @@
 use crate::days::named;
 use crate::rows::pass_if;
 use day_file::{
-    Cut, CutFault, Cutter, DayFile, LONGEST_FILE, check, cut, cut_at, frames, one_cut, one_reading,
+    Counted, Cut, CutFault, Cutter, DayFile, LONGEST_FILE, check, cut, cut_at, frames, one_cut,
+    one_reading,
 };
 use std::alloc::{AllocError, Global};
 use std::test::Fail;
@@ -20,7 +21,9 @@ enum Way {
 
 /// Whether the cutter takes the piece.
 fn takes(cutter: &mut Cutter, piece: &[u8]) -> bool {
-    cutter.length() + piece.len() as u64 <= LONGEST_FILE && cutter.feed(piece).is_ok()
+    let left = LONGEST_FILE - cutter.length();
+    let mut reader = piece;
+    cutter.feed(&mut Counted::of(&mut reader), left) == Ok(piece.len())
 }
 
 /// The cut of the bytes, which are fed in pieces of these sizes by turns. A piece that is refused is fed again.

@@ -7,16 +7,16 @@ use Rattle.streaming.proofs.scanned_batches.scan_source.Goals as goal
 
 pub returns-in_err-batch-clause-fault : goal.returns-in_err-batch-clause-fault
 returns-in_err-batch-clause-fault g c =
-    let p = err_from_is_err_and c.from_residual-in_err-batch.result c.from_residual-in_err-batch.ensures.1 in
-    let none = read_to_none g.S.Source c.args.source.now c.in_ok-reader.reader (g.met.S.Source.gave_nothing c.args.source.now)
-    c.in_ok-reader.ensures.none in
-    let same = c.in_ok-reader.ensures.same in
+    let p = err_from_is_err_and c.from_residual.result c.from_residual.ensures.1 in
+    let none = read_to_none g.S.Source c.args.source.now c.new-reader.result (g.met.S.Source.gave_nothing c.args.source.now)
+    c.new-reader.ensures.none in
+    let same = c.new-reader.ensures.same in
     rw (p.1, p.2) (rw (same.0, same.1) at (c.in_err-batch.ensures.fault c.args.source.now [] none))
 
 pub loop-scanned-init : goal.loop-scanned-init
 loop-scanned-init g c =
-    let none = read_to_none g.S.Source c.args.source.now c.in_ok-reader.reader (g.met.S.Source.gave_nothing c.args.source.now)
-    c.in_ok-reader.ensures.none in record {
+    let none = read_to_none g.S.Source c.args.source.now c.new-reader.result (g.met.S.Source.gave_nothing c.args.source.now)
+    c.new-reader.ensures.none in record {
       to = record {
         runs = [];
         scanned = [];
@@ -24,7 +24,7 @@ loop-scanned-init g c =
         each = All-nil _;
         bytes = All-nil _;
         is = c.empty-total.ensures;
-        ahead = read_ahead none c.in_ok-reader.ensures.same c.in_ok-batch.ensures.same c.in_ok-batch.ensures.next;
+        ahead = read_ahead none c.new-reader.ensures.same c.in_ok-batch.ensures.same c.in_ok-batch.ensures.next;
       };
       fine = search rules;
     }
@@ -53,7 +53,7 @@ returns-clause-scanned g c =
 
 pub returns-then-of-eq1-clause-scanned : goal.returns-then-of-eq1-clause-scanned
 returns-then-of-eq1-clause-scanned g c =
-    let none = read_to_none g.S.Source c.args.source.now c.in_ok-reader.reader (g.met.S.Source.gave_nothing c.args.source.now)
-    c.in_ok-reader.ensures.none in
+    let none = read_to_none g.S.Source c.args.source.now c.new-reader.result (g.met.S.Source.gave_nothing c.args.source.now)
+    c.new-reader.ensures.none in
     let is_last : c.in_ok-batch.batch.is_last ≡ true = search rules in
-    one_batch (read_ahead none c.in_ok-reader.ensures.same c.in_ok-batch.ensures.same c.in_ok-batch.ensures.next) is_last
+    one_batch (read_ahead none c.new-reader.ensures.same c.in_ok-batch.ensures.same c.in_ok-batch.ensures.next) is_last

@@ -5,8 +5,5 @@ use Rattle.streaming.proofs.batches.BatchReader.next_batch.Goals as goal
 
 pub invariant_of-self : goal.invariant_of-self
 invariant_of-self g c =
-    let inv = c.self.invariant.0 in (
-      reading_on inv c.new.ensures.fed c.new.ensures.target
-          (omega (arith, inv.within, fed_length_is c.new.result [] c.new.ensures.fed)),
-      c.self.invariant.1,
-    )
+    let inv = c.self.invariant in
+    reading_on inv c.new.ensures.fed c.new.ensures.target (omega (arith, inv.within, fed_length_is c.new.result [] c.new.ensures.fed))

@@ -17,24 +17,22 @@ returns-in_err-feed-clause-fault g c =
 
 pub last_batch-requires-clause-within : goal.last_batch-requires-clause-within
 last_batch-requires-clause-within g c =
-    let inv = c.self.invariant.0 in
+    let inv = c.self.invariant in
     (inv.fed, rw c.replace-cutter.ensures.value inv.has, omega (arith, inv.within, inv.limit_is, fed_length_is c.self.inside.cutter inv.fed inv.has))
 
 pub invariant_of-self : goal.invariant_of-self
 invariant_of-self g c =
-    let inv = c.self.invariant.0 in
-    let has : HasFed c.replace-cutter.new.dest [] = rw c.replace-cutter.ensures.after c.new-none.ensures.fed in (
-      reading_on inv has (ap (λ (v : CutterView). v.target) c.replace-cutter.ensures.after ∙ c.new-none.ensures.target)
-          (omega (arith, inv.within, fed_length_is c.replace-cutter.new.dest [] has)),
-      c.self.invariant.1,
-    )
+    let inv = c.self.invariant in
+    let has : HasFed c.replace-cutter.new.dest [] = rw c.replace-cutter.ensures.after c.new-none.ensures.fed in
+    reading_on inv has (ap (λ (v : CutterView). v.target) c.replace-cutter.ensures.after ∙ c.new-none.ensures.target)
+    (omega (arith, inv.within, fed_length_is c.replace-cutter.new.dest [] has))
 
 pub returns-clause-next : goal.returns-clause-next
 returns-clause-next g c = IfOk-weaker c.last_batch.result _ _ (λ batch (first, start, is_last, made).
     let inv = c.loop-self.invariant in
     let kept = c.in_ok-feed.ensures.same ∙ ap (λ (v : ReaderView). record v { cutter = c.feed.new.self.cutter }) inv.same in
     let limit = ap (λ (v : ReaderView). v.limit) kept in
-    let same = subst (λ (v : ReaderView). v.cutter.target ≡ v.target) c.self.view_is c.self.invariant.0.same in
+    let same = subst (λ (v : ReaderView). v.cutter.target ≡ v.target) c.self.view_is c.self.invariant.same in
     let taken = c.replace-cutter.ensures.value ∙ ap (λ (v : ReaderView). v.cutter) c.self.view_is in record {
       more = λ e. absurd (false≢true (sym e ∙ is_last));
       last = λ e before runs to.
@@ -52,7 +50,7 @@ returns-clause-fault g c = IfErr-weaker c.last_batch.result _ _ (λ f told befor
     let inv = c.loop-self.invariant in
     let kept = c.in_ok-feed.ensures.same ∙ ap (λ (v : ReaderView). record v { cutter = c.feed.new.self.cutter }) inv.same in
     let limit = ap (λ (v : ReaderView). v.limit) kept in
-    let same = subst (λ (v : ReaderView). v.cutter.target ≡ v.target) c.self.view_is c.self.invariant.0.same in
+    let same = subst (λ (v : ReaderView). v.cutter.target ≡ v.target) c.self.view_is c.self.invariant.same in
     rw (← ap (λ (v : ReaderView). v.target) kept)
     (last_fault g.S.Source (c.in_ok-feed.ensures.read before runs (inv.read before runs to)) same
     (c.in_ok-feed.ensures.end c.if-branch.false) (omega (arith, c.in_ok-feed.ensures.within, limit)) f
