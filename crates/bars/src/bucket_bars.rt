@@ -18,8 +18,8 @@ use row_types::Sale;
 use std::alloc::Global;
 use std::marker::Model;
 
-/// The least number of sales a bar, on average, for which bars are made. They are made while the sales, and the rows
-/// that these are of, are still there, perhaps by two workers at once: of so many sales a bar that takes a sixth more.
+/// The least number of sales a bar, on average, for which bars are made. They are made while the sales' ticks, and the
+/// rows that these are of, are still there, perhaps by two workers at once.
 const SALES_A_BAR: usize = 16;
 
 /// The bars of some sales, in the form that takes less: where the sales of one key are in many

@@ -13,7 +13,7 @@ pub enum Form {
         /// Of the bars, in seconds.
         width: u32,
     },
-    /// The sales themselves, in the same order, if one of them has no tick, or there was no memory for ticks.
+    /// The sales themselves, in the same order, if one of them has no tick.
     Sales {
         sales: Vec<Sale>,
         /// Of the bars, in seconds.
