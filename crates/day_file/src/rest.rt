@@ -141,7 +141,8 @@ impl Rest {
             self.start += end;
             return Ok(());
         }
-        let behind = vector_of(alloc, spares, length)?;
+        // The next run takes about as much as this one, and the rest of the piece in which it ends.
+        let behind = vector_of(alloc, spares, length, end + PIECE)?;
         let run = split(&mut self.bytes, length, end, behind);
         self.end = length - end;
         if let Err(refused) = cut.append(alloc, run) {
@@ -178,20 +179,21 @@ fn lengthen(bytes: &mut Vec<u8>, least: usize) -> Result<(), OutOfMemory>
     Ok(())
 }
 
-// A vector that is at least this long: one of the spare ones, or a new one, in which there is room to read more.
+// A vector that is at least this long: one of the spare ones, or a new one, which has this room.
 fn vector_of(
     alloc: Global,
     spares: &mut Vec<Vec<u8>>,
     length: usize,
+    room: usize,
 ) -> Result<Vec<u8>, OutOfMemory>
-    requires { length ≤ LONGEST_FILE }
     ensures { IfOk result (λ bytes. length ≤ vec_len bytes) }
 {
-    let Some(mut spare) = spares.pop() else {
-        return vec![in alloc; 0u8; length + PIECE];
+    let mut bytes = match spares.pop() {
+        Some(spare) => spare,
+        None => Vec::with_capacity(alloc, room)?,
     };
-    lengthen(&mut spare, length)?;
-    Ok(spare)
+    lengthen(&mut bytes, length)?;
+    Ok(bytes)
 }
 
 // Takes the first `end` of the vector's `length` bytes out of it, without a copy. The vector is then `behind`, and
