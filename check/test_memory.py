@@ -73,8 +73,9 @@ class OfMemory(Case):
         self.assertLess(took[1], 64 << 10)
 
     def test_batches(self):
-        """Of a stream's bytes no more than two batches are held, however long it is, and the pages of morsels that are let go are
-        used again for the next ones: so no more are touched for the first time than four batches have."""
+        """Of a stream's bytes no more than two batches are held, however long it is, in vectors that have room for a morsel and a
+        piece, and the pages of morsels that are let go are used again for the next ones: so no more are touched for the first time
+        than four batches have."""
         day = self.file("day")
         os.truncate(day, 6 * BATCH)
         library()  # (whose making touches pages, too)
@@ -82,7 +83,7 @@ class OfMemory(Case):
             faults = resource.getrusage(resource.RUSAGE_CHILDREN).ru_minflt
             held = self.took(day, "sales", workers, "stream")[0] << 10
             faults = resource.getrusage(resource.RUSAGE_CHILDREN).ru_minflt - faults
-            self.assertTrue(BATCH <= held <= 2 * BATCH + 6 * MIB, f"{held} bytes are held, workers {workers}")
+            self.assertTrue(BATCH <= held <= 2 * BATCH * 17 // 16 + 6 * MIB, f"{held} bytes are held, workers {workers}")
             self.assertLess(faults * resource.getpagesize(), 4 * BATCH, f"workers {workers}")
 
     def test_time_of_cuts(self):
