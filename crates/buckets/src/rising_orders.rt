@@ -9,13 +9,9 @@ ghost use Rattle.buckets.specs.RisingLists.{AreRising, IsAbove, rows_of_lists};
 
 use crate::OutOfMemory;
 use morsel_rows::{OrderList, Partition, RisingRows};
-use order_table::{OrderRow, PricesExecutions, Referenced, Spread, point_of};
+use order_table::{Expected, OrderRow, PricesExecutions, Referenced, Spread, point_of};
 use std::alloc::Global;
 use std::marker::Model;
-
-/// How many lists to either side of the one where a reference is expected are looked at first. Lists have nearly as
-/// many rows each.
-const NEAR_LISTS: usize = 1;
 
 /// The rows of one list, one or more, and the reference of the last, which is the greatest.
 #[derive(Drop)]
@@ -69,14 +65,14 @@ impl<'a> RisingOrders<'a> {
         Ok(Some(RisingOrders { lists, spread }))
     }
 
-    /// The row that gives the reference.
+    /// The row that gives the reference, searched from where it is expected.
     #[inline(always)]
-    fn first(&self, order_no: u64) -> Option<OrderRow>
+    fn first(&self, order_no: u64, expected: Expected) -> Option<OrderRow>
         ensures { result ≡ first_row self.now order_no }
     {
-        let at = point_of(self.lists.as_slice(), self.spread, NEAR_LISTS, order_no);
+        let at = point_of(self.lists.as_slice(), expected.list, order_no);
         match self.lists.get(at) {
-            Some(list) => list.rows.first(order_no),
+            Some(list) => list.rows.first(order_no, expected.near),
             None => None,
         }
     }
@@ -86,8 +82,34 @@ impl<'a> PricesExecutions for RisingOrders<'a> {
     ghost PricesBy = { λ rows orders. orders ≡ rows };
 
     #[inline(always)]
-    fn price_before(&self, order_no: u64, place: u64) -> Option<u32> {
-        match self.first(order_no) {
+    fn expect(&self, order_no: u64) -> Expected {
+        let list = self.spread.expect_point(self.lists.as_slice(), order_no);
+        match self.lists.get(list) {
+            Some(rising) => Expected {
+                list,
+                near: rising.rows.expect(order_no),
+            },
+            None => Expected {
+                list,
+                near: self.spread.expect(order_no),
+            },
+        }
+    }
+
+    #[inline(always)]
+    fn look(&self, order_no: u64, expected: Expected) -> Expected {
+        match self.lists.get(expected.list) {
+            Some(rising) => Expected {
+                list: expected.list,
+                near: rising.rows.look(order_no, expected.near),
+            },
+            None => expected,
+        }
+    }
+
+    #[inline(always)]
+    fn price_before(&self, order_no: u64, place: u64, expected: Expected) -> Option<u32> {
+        match self.first(order_no, expected) {
             Some(row) if row.place < place => Some(row.price),
             _ => None,
         }

@@ -5,7 +5,7 @@ ghost use Rattle.order_list.specs.ShortRows.{IsOrigin, Rise, offset_of, row_of_l
 
 use crate::lean::Lean;
 use crate::offsets::Origin;
-use order_table::{Referenced, Spread, first_of};
+use order_table::{Near, Referenced, Spread, first_of};
 use row_types::OrderRow;
 use std::marker::Model;
 
@@ -74,16 +74,29 @@ impl<'a> RisingRows<'a> {
         self.origin.order_no + u64::from(self.rows[self.rows.len() - 1].offset())
     }
 
-    /// The row that gives the reference.
+    /// Where the row that gives the reference is expected. No row is read.
     #[inline(always)]
-    pub fn first(&self, order_no: u64) -> Option<OrderRow>
+    pub fn expect(&self, order_no: u64) -> Near {
+        self.spread
+            .expect(order_no.saturating_sub(self.origin.order_no))
+    }
+
+    /// The same, after a look at the rows there.
+    #[inline(always)]
+    pub fn look(&self, order_no: u64, near: Near) -> Near {
+        near.look(self.rows, order_no.saturating_sub(self.origin.order_no))
+    }
+
+    /// The row that gives the reference, searched from where it is expected.
+    #[inline(always)]
+    pub fn first(&self, order_no: u64, near: Near) -> Option<OrderRow>
         ensures { result ≡ find (λ row. row.order_no == order_no) self.now }
     {
         if order_no < self.origin.order_no {
             return None;
         }
         let reference = order_no - self.origin.order_no;
-        match first_of(self.rows, self.spread, reference) {
+        match first_of(self.rows, self.spread, near, reference) {
             Some(row) => Some(row.row(self.origin)),
             None => None,
         }

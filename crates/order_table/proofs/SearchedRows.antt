@@ -1,12 +1,11 @@
 -- Rows whose references don't fall, and what a search finds that begins in a part of them.
-use Rattle.std.proofs.Common.{◌≡◌, ◌≢◌, ℕ, suc, ◌+◌, ◌-◌, ◌<◌, ◌≤◌, true, false, eqb, ltb, List, [], ◌∷◌, length, get_or, slice_get, take, drop, Some, None}
-use Rattle.std.proofs.Common.{⊎_elim, arith, ap, sym, subst, ◌∙◌, refl}
+use Rattle.std.proofs.Common.{◌≡◌, ◌≢◌, ℕ, suc, ◌-◌, ◌<◌, ◌≤◌, true, false, eqb, ltb, List, [], ◌∷◌, length, get_or, slice_get, Some, None}
+use Rattle.std.proofs.Common.{⊎_elim, arith, ap, sym, ◌∙◌, refl}
 use Rattle.std.specs.List.{AllWithin, find}
-use Rattle.std.specs.List.Sorted.{IsNonDecreasingBy, IsPartitionPoint, IsPartitionedBy}
+use Rattle.std.specs.List.Sorted.{IsNonDecreasingBy, IsPartitionPoint}
 use Rattle.std.proofs.lemmas.Bool.{cases_lt, eq-eqb, le-ltb, lt-ltb, ltb-false, ltb-true, ne_eqb}
-use Rattle.std.proofs.lemmas.List.{get_or-take, get_or-drop, get_or_default, length-take, length-drop}
+use Rattle.std.proofs.lemmas.List.{get_or_default}
 use Rattle.std.proofs.lemmas.List.Folds.{find_at}
-use Rattle.std.proofs.lemmas.List.Sorted.{IsPartitionedBy-ltb}
 use Rattle.std.proofs.lemmas.List.Sums.{position_or_len_is}
 use Rattle.std.proofs.lemmas.Option.{slice_get-get_or}
 
@@ -21,53 +20,16 @@ module _ {X : Type 0} (f : X → ℕ) (rows : List X) (q : ℕ) where
   none_gives (row ∷ xs) differ = rw (ne_eqb (f row) q (differ 0 row (omega arith))) (none_gives xs (λ k d l. differ (suc k) d (omega (arith, l))))
 
   module _ (up : IsNonDecreasingBy f rows) where
-    pub smaller_before : (i : ℕ) (row : X) → i < length rows → row ≡ get_or rows i row → f row < q → AllWithin (λ row. ltb (f row) q ≡ true) rows 0 i
-    smaller_before i row within here less k d low below =
-        lt-ltb _ q (omega (arith, ap f (here ∙ get_or_default rows i row d within), up k i d (omega (arith, below)) within, less))
+    pub smaller_before : (i : ℕ) (row : X) → 0 < i → i < length rows → row ≡ get_or rows (i - 1) row → f row < q
+        → AllWithin (λ row. ltb (f row) q ≡ true) rows 0 i
+    smaller_before i row some within here less k d low below =
+        let inside : i - 1 < length rows = omega (arith, within) in
+        lt-ltb _ q (omega (arith, ap f (here ∙ get_or_default rows (i - 1) row d inside), up k (i - 1) d (omega (arith, below, some)) inside, less))
 
     pub others_behind : (i : ℕ) (row : X) → i < length rows → row ≡ get_or rows i row → q ≤ f row
         → AllWithin (λ row. ltb (f row) q ≡ false) rows i (length rows)
     others_behind i row within here more k d low below =
         le-ltb _ q (omega (arith, ap f (here ∙ get_or_default rows i row d within), up i k d low below, more))
-
-    module _ (from to : ℕ) (order : from ≤ to) (end : to ≤ length rows) where
-      abbrev part : List X
-      part = take (to - from) (drop from rows)
-
-      long : length part ≡ to - from
-      long = omega (arith, length-take (to - from) (drop from rows), length-drop from rows, order, end)
-
-      at_part : (k : ℕ) (d : X) → k < to - from → get_or part k d ≡ get_or rows (from + k) d
-      at_part k d h = get_or-take (to - from) (drop from rows) k d h ∙ get_or-drop from rows k d
-
-      pub parted : IsPartitionedBy (λ (row : X). ltb (f row) q) part
-      parted = IsPartitionedBy-ltb f part q (λ i j d less within.
-          let inside = subst (λ n. j < n) long within in
-          let one = ap f (at_part i d (omega (arith, less, inside))) in
-          let two = ap f (at_part j d inside) in
-          omega (arith, one, two, up (from + i) (from + j) d (omega (arith, less)) (omega (arith, inside, order, end))))
-
-      -- the place in the part is that in all rows
-      pub point_of_part : (at : ℕ) → at ≤ length part → AllWithin (λ row. ltb (f row) q ≡ true) rows 0 from
-          → AllWithin (λ row. ltb (f row) q ≡ false) rows to (length rows)
-          → IsPartitionPoint (λ row. ltb (f row) q ≡ true) (λ row. ltb (f row) q ≡ false) part at
-          → Point (from + at)
-      point_of_part at bound smaller others point = (
-        λ k d low below. ⊎_elim (smaller k d low)
-            (λ (high : from ≤ k). inside k d high (omega (arith, bound, long, below, high)) true
-            (point.0 (k - from) d (omega arith) (omega (arith, below, high))))
-            (cases_lt k from),
-        λ k d low below. ⊎_elim
-            (λ (less : k < to). inside k d (omega (arith, low)) (omega (arith, less, low)) false
-            (point.1 (k - from) d (omega (arith, low)) (subst (λ n. k - from < n) (sym long) (omega (arith, less, low)))))
-            (λ high. others k d high below)
-            (cases_lt k to),
-      )
-        where
-          inside : (k : ℕ) (d : X) → from ≤ k → k - from < to - from → (b : _) → ltb (f (get_or part (k - from) d)) q ≡ b → ltb (f (get_or rows k d)) q ≡ b
-          inside k d high within b h =
-              let same : from + (k - from) ≡ k = omega (arith, high) in
-              subst (λ n. ltb (f (get_or rows n d)) q ≡ b) same (subst (λ (row : X). ltb (f row) q ≡ b) (at_part (k - from) d within) h)
 
     module _ (at : ℕ) (point : Point at) where
       less : (k : ℕ) (d : X) → k < at → f (get_or rows k d) ≢ q

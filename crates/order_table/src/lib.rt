@@ -15,7 +15,7 @@ mod table;
 
 pub use base::OutOfMemory;
 pub use partitions::{greatest_prime, partition};
-pub use prices::PricesExecutions;
+pub use prices::{Expected, PricesExecutions};
 pub use row_types::OrderRow;
-pub use searching::{Referenced, Spread, first_of, point_of};
+pub use searching::{Near, Referenced, Spread, first_of, point_of};
 pub use table::{Built, OrderTable, Repeated};

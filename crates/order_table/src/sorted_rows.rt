@@ -3,7 +3,7 @@ ghost use Rattle.std.specs.Prelude.{◌≡◌, ◌==◌};
 ghost use Rattle.std.specs.List.{find};
 ghost use Rattle.std.specs.List.Sorted.{IsNonDecreasingBy};
 
-use crate::searching::{Referenced, Spread, first_of};
+use crate::searching::{Near, Referenced, Spread, first_of};
 use row_types::OrderRow;
 use std::alloc::Allocator;
 use std::marker::Model;
@@ -48,11 +48,23 @@ impl<A: Allocator> SortedRows<A> {
         SortedRows { spread, rows }
     }
 
-    /// The first row that gives the reference.
+    /// Where the reference is expected. No row is read.
     #[inline(always)]
-    pub(crate) fn first(&self, order_no: u64) -> Option<OrderRow>
+    pub(crate) fn expect(&self, order_no: u64) -> Near {
+        self.spread.expect(order_no)
+    }
+
+    /// The same, after a look at the rows there.
+    #[inline(always)]
+    pub(crate) fn look(&self, order_no: u64, near: Near) -> Near {
+        near.look(&self.rows, order_no)
+    }
+
+    /// The first row that gives the reference, searched from where it is expected.
+    #[inline(always)]
+    pub(crate) fn first(&self, order_no: u64, near: Near) -> Option<OrderRow>
         ensures { result ≡ find (λ row. row.order_no == order_no) self.now }
     {
-        first_of(&self.rows, self.spread, order_no).copied()
+        first_of(&self.rows, self.spread, near, order_no).copied()
     }
 }

@@ -5,7 +5,7 @@ ghost use Rattle.order_table.specs.Orders.{IsTableOf, first_repeated, repeated_o
 ghost use Rattle.order_table.specs.Orders.{kept_row, price_before, price_if_before};
 
 use crate::OutOfMemory;
-use crate::prices::PricesExecutions;
+use crate::prices::{Expected, PricesExecutions};
 use crate::sorted_rows::SortedRows;
 use crate::sorting::{first_repeated, put_in_order, rises};
 use row_types::OrderRow;
@@ -75,15 +75,15 @@ impl<A: Allocator + Clone> OrderTable<A> {
         }
     }
 
-    /// The price of an execution of the reference at the place: that of the reference's first row,
-    /// if that row comes before the place. In ten-thousandths of a dollar.
+    /// The price of an execution of the reference at the place: that of the reference's first row, wherever it was
+    /// expected, if that row comes before the place. In ten-thousandths of a dollar.
     #[inline(always)]
-    pub fn price_before(&self, order_no: u64, place: u64) -> Option<u32>
+    pub fn price_before(&self, order_no: u64, place: u64, expected: Expected) -> Option<u32>
         ensures kept { result ≡ price_if_before place (kept_row self.now order_no) }
         ensures first { (rows : List OrderRow) → IsTableOf rows self.now
             → result ≡ price_before rows order_no place }
     {
-        match self.rows.first(order_no) {
+        match self.rows.first(order_no, expected.near) {
             Some(row) if row.place < place => Some(row.price),
             _ => None,
         }
@@ -94,7 +94,23 @@ impl<A: Allocator + Clone> PricesExecutions for OrderTable<A> {
     ghost PricesBy = { IsTableOf };
 
     #[inline(always)]
-    fn price_before(&self, order_no: u64, place: u64) -> Option<u32> {
-        OrderTable::price_before(self, order_no, place)
+    fn expect(&self, order_no: u64) -> Expected {
+        Expected {
+            list: 0,
+            near: self.rows.expect(order_no),
+        }
+    }
+
+    #[inline(always)]
+    fn look(&self, order_no: u64, expected: Expected) -> Expected {
+        Expected {
+            list: 0,
+            near: self.rows.look(order_no, expected.near),
+        }
+    }
+
+    #[inline(always)]
+    fn price_before(&self, order_no: u64, place: u64, expected: Expected) -> Option<u32> {
+        OrderTable::price_before(self, order_no, place, expected)
     }
 }

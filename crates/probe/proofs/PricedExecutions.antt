@@ -1,7 +1,8 @@
 -- What one more execution adds to the sales, and to the first that has no price; and those of a part.
-use Rattle.std.proofs.Common.{◌≡◌, ℕ, ◌+◌, ◌<◌, cond, length, get_or, take, List, [], ◌∷◌, ◌++◌, Option, Some, None, is_none, option_map, option_to_list}
+use Rattle.std.proofs.Common.{◌≡◌, ℕ, ◌+◌, ◌-◌, ◌<◌, arith, cond, drop, length, get_or, take, List, [], ◌∷◌, ◌++◌, Option, Some, None, is_none, option_map, option_to_list}
 use Rattle.std.proofs.Common.{filter, refl, sym, ap, ◌∙◌, ◌%◌, eqb, filter_map}
 use Rattle.std.specs.List.{cons_option}
+use Rattle.std.proofs.Math.Seq.{take-add}
 use Rattle.std.proofs.lemmas.List.{append-nil, append_assoc, take_more}
 use Rattle.std.proofs.lemmas.List.Elements.{filter-append, filter_map-append}
 use Rattle.order_table.specs.declared.OrderRow.{OrderRow}
@@ -90,3 +91,14 @@ first_unknown_of_parts n rows executions some apart =
     each b = ap (least_by (λ (execution : Execution). execution.place))
         (filters_commute (is_unknown (part_rows n rows b)) (is_unknown rows) (λ (execution : Execution). eqb (execution.order_no % n) b)
         (λ execution h. ap is_none (price_where (λ order_no. eqb (order_no % n) b) rows execution.order_no execution.place h)) executions)
+
+-- ---- some executions at a time
+
+-- those that are done and the next few
+pub few_more : (before executions : List Execution) (done count : ℕ)
+    → before ++ take (done + count) executions ≡ (before ++ take done executions) ++ take (done + count - done) (drop done executions)
+few_more before executions done count =
+    let same : done + count - done ≡ count = omega arith in
+    ap (λ l. before ++ l) (take-add done count executions)
+    ∙ sym (append_assoc before (take done executions) (take count (drop done executions)))
+    ∙ ap (λ n. (before ++ take done executions) ++ take n (drop done executions)) (sym same)

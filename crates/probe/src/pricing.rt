@@ -8,7 +8,7 @@ ghost use Rattle.probe.specs.Pricing.{IsPricingOf};
 ghost use Rattle.probe.specs.Pricing.{Execution as TheExecution, first_unknown, priced, sale_at, unknown_of};
 
 use base::earlier;
-use order_table::{OrderTable, OutOfMemory, PricesExecutions};
+use order_table::{Expected, Near, OrderTable, OutOfMemory, PricesExecutions};
 use row_types::{Execution, Kind, Sale, Unknown};
 use std::alloc::{Allocator, Global};
 
@@ -83,6 +83,18 @@ pub fn price_into<A: Allocator, P: PricesExecutions>(
     Ok(())
 }
 
+/// How many executions are looked up at a time.
+const AT_A_TIME: usize = 16;
+
+/// Where an execution is expected before that is known.
+const ANYWHERE: Expected = Expected {
+    list: 0,
+    near: Near {
+        row: 0,
+        reference: 0,
+    },
+};
+
 /// Prices executions as `price_into` does, in room that was taken for the sales of all of them.
 fn price_each<A: Allocator, P: PricesExecutions>(
     priced: &mut Priced<A>,
@@ -93,8 +105,68 @@ fn price_each<A: Allocator, P: PricesExecutions>(
     ensures { (rows : List OrderRow) (before : List TheExecution) → P.PricesBy rows prices.now →
         IsPricingOf rows before priced.old → IsPricingOf rows (before ++ executions.now) priced.new }
 {
-    for execution in executions {
-        match prices.price_before(execution.order_no, execution.place) {
+    let mut done = 0;
+    while done < executions.len() {
+        let count = AT_A_TIME.min(executions.len() - done);
+        price_few(priced, prices, &executions[done..done + count]);
+        done += count;
+    }
+}
+
+/// Prices no more executions than are looked up at a time. First it is reckoned where each is expected, then all are
+/// looked at there, and then they are priced: so a processor waits for the rows of several at once.
+fn price_few<A: Allocator, P: PricesExecutions>(
+    priced: &mut Priced<A>,
+    prices: &P,
+    executions: &[Execution],
+)
+    requires few { length executions.now ≤ AT_A_TIME }
+    requires room { vec_len priced.old.sales + length executions.now ≤ vec_capacity priced.old.sales }
+    ensures priced { (rows : List OrderRow) (before : List TheExecution) → P.PricesBy rows prices.now →
+        IsPricingOf rows before priced.old → IsPricingOf rows (before ++ executions.now) priced.new }
+    ensures len { vec_len priced.new.sales ≤ vec_len priced.old.sales + length executions.now }
+    ensures capacity { vec_capacity priced.new.sales ≡ vec_capacity priced.old.sales }
+{
+    let mut expected = [ANYWHERE; AT_A_TIME];
+    expect_each(&mut expected, prices, executions);
+    look_each(&mut expected, prices, executions);
+    price_looked(priced, prices, executions, &expected);
+}
+
+/// Reckons where each execution is expected.
+fn expect_each<P: PricesExecutions>(
+    expected: &mut [Expected],
+    prices: &P,
+    executions: &[Execution],
+) {
+    for (expected, execution) in expected.iter_mut().zip(executions) {
+        *expected = prices.expect(execution.order_no);
+    }
+}
+
+/// Looks at where each execution is expected.
+fn look_each<P: PricesExecutions>(expected: &mut [Expected], prices: &P, executions: &[Execution]) {
+    for (expected, execution) in expected.iter_mut().zip(executions) {
+        *expected = prices.look(execution.order_no, *expected);
+    }
+}
+
+/// Prices executions, each from where it is expected.
+fn price_looked<A: Allocator, P: PricesExecutions>(
+    priced: &mut Priced<A>,
+    prices: &P,
+    executions: &[Execution],
+    expected: &[Expected; AT_A_TIME],
+)
+    requires few { length executions.now ≤ AT_A_TIME }
+    requires room { vec_len priced.old.sales + length executions.now ≤ vec_capacity priced.old.sales }
+    ensures priced { (rows : List OrderRow) (before : List TheExecution) → P.PricesBy rows prices.now →
+        IsPricingOf rows before priced.old → IsPricingOf rows (before ++ executions.now) priced.new }
+    ensures len { vec_len priced.new.sales ≤ vec_len priced.old.sales + length executions.now }
+    ensures capacity { vec_capacity priced.new.sales ≡ vec_capacity priced.old.sales }
+{
+    for (at, execution) in executions.iter().enumerate() {
+        match prices.price_before(execution.order_no, execution.place, expected[at]) {
             Some(price) => priced.sales.push_reserved(sale_of(execution, price)),
             None => {
                 let other = Some(unknown_of(execution));

@@ -265,7 +265,9 @@ fn a_list_that_rises_is_searched_where_it_lies(rt: HostRuntime) -> Result<(), Fa
 
 /// Where a list that is searched where it lies has a reference first.
 fn place_of(list: &OrderList, order_no: u64) -> Option<u64> {
-    match list.rising()?.first(order_no) {
+    let rising = list.rising()?;
+    let near = rising.look(order_no, rising.expect(order_no));
+    match rising.first(order_no, near) {
         Some(row) => Some(row.place),
         None => None,
     }

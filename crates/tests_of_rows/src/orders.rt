@@ -3,7 +3,7 @@ use crate::room::{Came, enough_for, needs_more};
 use crate::rows::{forty_rows, order_rows, pass_if, pass_told};
 use linked_list_allocator::LocalHeap;
 use order_list::OrderFilter;
-use order_table::{Built, OrderTable, Repeated, greatest_prime, partition};
+use order_table::{Built, Expected, Near, OrderTable, Repeated, greatest_prime, partition};
 use std::alloc::{AllocError, Allocator, Global};
 use std::test::Fail;
 
@@ -16,11 +16,21 @@ static PRICED: [(u64, u64, Option<u32>); 5] = [
     (2, 80, None),
 ];
 
-/// Whether the first row of the reference 1 prices, and the second one repeats it.
+/// Rows where a reference may be expected, and the references that they are thought to have: the price is the same.
+static EXPECTED: [(usize, u64); 4] = [(0, 1), (1, 1), (2, 0), (usize::MAX, u64::MAX)];
+
+/// Whether the first row of the reference 1 prices, wherever it is expected, and the second one repeats it.
 fn is_built<A: Allocator + Clone>(built: &Built<A>) -> bool {
     for (order_no, place, want) in &PRICED {
-        if built.table.price_before(*order_no, *place) != *want {
-            return false;
+        for (row, reference) in &EXPECTED {
+            let near = Near {
+                row: *row,
+                reference: *reference,
+            };
+            let expected = Expected { list: 0, near };
+            if built.table.price_before(*order_no, *place, expected) != *want {
+                return false;
+            }
         }
     }
     let repeated = Repeated {

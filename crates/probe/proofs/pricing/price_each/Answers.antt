@@ -1,50 +1,23 @@
-use Rattle.std.proofs.Common.{◌∙◌, ◌<◌, ◌++◌, ◌∷◌, [], ap, ap₂, arith, length, option_map, option_to_list, rules, sym}
-use Rattle.std.proofs.lemmas.Grind.{common_steps}
-use Rattle.std.proofs.lemmas.List.Sorted.{answers_always}
-use Rattle.base.specs.Least.{least_by}
-use Rattle.probe.specs.Pricing.{Sale, Unknown, unknown_of}
-use Rattle.probe.proofs.PricedExecutions.{priced_more, priced_stays, unknown_more, unknown_stays}
+use Rattle.std.proofs.Common.{◌++◌, rules, subst, sym}
+use Rattle.std.proofs.lemmas.List.{take_all}
+use Rattle.probe.specs.Pricing.{IsPricingOf}
+use Rattle.probe.proofs.PricedExecutions.{few_more}
 use Rattle.probe.proofs.pricing.price_each.Goals as goal
-use Rattle.probe.proofs.pricing.price_each.Goals.{in-Some, in-None}
 
-pub loop-execution-preserved : goal.loop-execution-preserved
-loop-execution-preserved g c =
-    let executions = c.args.executions.now in
-    let i = c.loop-execution.execution-index in
-    let below : i < length executions = omega arith in
-    let before = c.loop-execution.invariant in
-    elim c.match-price_before.branch [
-      | in-Some w ↦ record {
-        priced = λ rows others by was.
-            let now = before.priced rows others by was in
-            record {
-              sales =
-                  let more = priced_more rows others executions i _ below w.in-Some.price (w.in-Some.ensures rows by) in
-                  ap (λ p. p.sales.items) w.priced-is ∙ w.push_reserved.ensures.items
-                  ∙ ap₂ (λ l (s : Sale). l ++ s ∷ []) now.sales w.sale_of.ensures ∙ sym more;
-              unknown =
-                  let stays = ap (option_map unknown_of) (unknown_stays rows others executions i _ below w.in-Some.price (w.in-Some.ensures rows by)) in
-                  ap (λ p. p.unknown) w.priced-is ∙ now.unknown ∙ sym stays;
-            };
-        len = search rules;
-        capacity = search rules;
-      }
-      | in-None w ↦ record {
-        priced = λ rows others by was.
-            let now = before.priced rows others by was in
-            record {
-              sales =
-                  let stays = priced_stays rows others executions i _ below (w.in-None.ensures rows by) in
-                  ap (λ p. p.sales.items) w.priced-is ∙ now.sales ∙ sym stays;
-              unknown =
-                  let more = unknown_more rows others executions i _ below (w.in-None.ensures rows by) in
-                  ap (λ p. p.unknown) w.priced-is ∙ w.earlier-priced.ensures (λ unknown. unknown.place) (answers_always _ _ _ (λ f a r g called. search rules))
-                  ∙ ap₂ (λ o (u : Unknown). least_by (λ unknown. unknown.place) (option_to_list o ++ u ∷ [])) now.unknown w.unknown_of.ensures ∙ sym more;
-            };
-        len = search rules;
-        capacity = search rules;
-      }
-    ]
+pub loop-done-preserved : goal.loop-done-preserved
+loop-done-preserved g c =
+    let done = c.loop-done.done in
+    let before = c.loop-done.invariant in
+    let count = c.min-count.result in record {
+      priced = λ rows others by was.
+          subst (λ l. IsPricingOf rows l c.price_few.new.priced) (sym (few_more others c.args.executions.now done count))
+          (c.price_few.ensures.priced rows _ by (before.priced rows others by was));
+      within = search rules;
+      len = search rules;
+      capacity = search rules;
+    }
 
 pub returns : goal.returns
-returns g c = grind (arith, common_steps)
+returns g c = λ rows before by was.
+    subst (λ l. IsPricingOf rows (before ++ l) c.loop-done.priced) (take_all _ _ c.loop-done-test.false)
+    (c.loop-done.invariant.priced rows before by was)
