@@ -26,7 +26,7 @@ class Threads:
             # (of each batch but the last, one that waits for the others while the caller reads on)
             self.first.append(self.behind(gatherers - 1 + (batch < batches - 1), workers))
         self.second = self.behind(gatherers - 1, workers)
-        # Each makes ranges of the text, while the caller frees the rows. The last one frees what buckets listed.
+        # Each makes a share of the text, while the caller frees the rows. The last one frees what buckets listed.
         self.text = self.behind(0, workers)
         self.count += 1
 
@@ -53,10 +53,11 @@ class OfThreads(Case):
         ran, report = self.counted(program(), *words, preload=preload, **more)
         self.assertEqual((ran.status, ran.errors), (0, b""), words)
         self.assertEqual((report.started, report.alone), (threads.count, []), words)
-        # All together take room for the lines once, and little beside it: the keys of bars.
-        room = sum(report.threads[number] for number in threads.text)
-        if len(ran.out) > PIECE * len(threads.text):
-            self.assertTrue(0.8 * len(ran.out) <= room <= 3 * len(ran.out), f"{words}: {room} for {len(ran.out)}")
+        # Each thread takes its share of the room for lines, and little beside it: the keys of bars.
+        rooms = [report.threads[number] for number in threads.text]
+        share = len(ran.out) / len(rooms)
+        if share > PIECE:
+            self.assertTrue(all(0.8 * share <= it <= 4 * share and it <= 2 * min(rooms) for it in rooms), f"{words}: {rooms}")
         return report
 
     def blocks(self, file, workers, gatherers=1, query="sales", again=0, is_empty=False):
@@ -64,7 +65,7 @@ class OfThreads(Case):
         nothing else, but where guesses are wrong so many bytes `again`."""
         length, threads = file.stat().st_size, Threads(workers, gatherers)
         words = [file, query, "--workers", workers, "--gatherers", gatherers]
-        meet = meeting("p", threads.first) + ("" if is_empty else meeting("a", [threads.second, threads.text]))
+        meet = meeting("p", threads.first) + ("" if is_empty else meeting("a", [threads.second]))
         report = self.looked_at(words, threads, {"MEET": meet})
         self.assertFalse(report.of("read"), words)
         own = [call for call in report.of("pread") if call.thread == 0]
@@ -91,7 +92,7 @@ class OfThreads(Case):
         words = [file, query, "--morsel", 500_000] if by_name else ["-", query]
         words += ["--workers", workers, "--gatherers", gatherers]
         threads = Threads(workers, gatherers, batches=length // BATCH + 1)
-        meet = {"MEET": meeting("a", [*threads.first, threads.second, threads.text]), **({"JOINS": length // PIECE} if threads.first[1:] else {})}
+        meet = {"MEET": meeting("a", [*threads.first, threads.second]), **({"JOINS": length // PIECE} if threads.first[1:] else {})}
         report = self.looked_at(words, threads, meet, input=b"" if by_name else file)
         self.assertEqual({(call.kind, call.thread) for call in report.of("read", "pread")}, {("read", 0)}, words)
         self.assertEqual(sum(call.count for call in report.of("read")), length, words)

@@ -21,7 +21,7 @@ use crate::keyed::{Keyed, append_bars, append_sales, append_ticks};
 use bar::Bar;
 use std::alloc::Global;
 use std::thread::Threads;
-use time_and_sales::{Names, count_ranges, numbers_of, texts_in_ranges, within};
+use time_and_sales::{Names, numbers_of, texts_in_ranges, within};
 
 /// About how many sales and bars a range has at most. Their keys then stay in a processor's nearer caches while they
 /// are sorted, and take little memory.
@@ -29,7 +29,7 @@ const LONG_RANGE: usize = 4_096;
 
 /// The lines of the bars of all tables, those of one locate and start joined, in pieces that are one text when they are
 /// put together. Each piece is of the bars in a range of locates. At most `threads` threads join and write them, each
-/// the next range that none has taken. It is refused if a thread was refused memory.
+/// an even share of the ranges, one after the other. It is refused if a thread was refused memory.
 pub fn lines_in_ranges<R: Threads + Sync>(
     rt: &R,
     alloc: Global,
@@ -43,7 +43,7 @@ pub fn lines_in_ranges<R: Threads + Sync>(
         IsUnionOf (all_bars (lent tables.now)) all →
         all_items texts.items ≡ lines_text (names_by names.now) all) }
 {
-    let ranges = count_ranges(count_all(tables), threads, LONG_RANGE);
+    let ranges = count_ranges(tables, threads);
     let locates = match longest(tables) {
         Some(Form::Ticks { ticks, .. }) => {
             numbers_of::<ByLocate, _>(alloc, ticks.as_slice(), ranges)?
@@ -63,13 +63,15 @@ pub fn lines_in_ranges<R: Threads + Sync>(
     )
 }
 
-/// How much all tables keep.
-fn count_all(tables: &[&BucketBars]) -> usize {
+/// How many ranges there are best: `threads`, or a multiple of that if they would be long.
+fn count_ranges(tables: &[&BucketBars], threads: u32) -> u32 {
     let mut count = 0usize;
     for table in tables {
         count = count.saturating_add(table.form().len());
     }
-    count
+    let share = count / threads.max(1) as usize;
+    let further = u32::try_from(share / LONG_RANGE).unwrap_or(0);
+    threads.saturating_mul(further.saturating_add(1))
 }
 
 /// Of what most is kept among the tables.

@@ -1,21 +1,18 @@
 -- Items in ranges of numbers: what a search finds, and that the texts of all ranges are the text of the whole.
 use Rattle.std.proofs.Common.{◌≡◌, ℕ, suc, ◌+◌, ◌-◌, ◌<◌, ◌≤◌, Bool, true, false, not, ◌&&◌, ltb, All, List, [], ◌∷◌, ◌++◌, length, map, max, take, drop}
-use Rattle.std.proofs.Common.{get_or, filter, Bor, Vec, None, Option, Some, Result, Ok, IsPermutation, refl, sym, ap, ap₂, subst, ◌∙◌, arith, rules, inl, inr, length-drop, flat_map}
+use Rattle.std.proofs.Common.{get_or, filter, Bor, Vec, Result, Ok, refl, sym, ap, ap₂, subst, ◌∙◌, arith, rules, inl, inr, length-drop, flat_map}
 use Rattle.std.specs.Fn.{FnReturnsAt, Shared}
-use Rattle.std.specs.Option.{option_to_list}
-use Rattle.std.specs.declared.alloc.Global.{Global}
 use Rattle.std.specs.List.Sorted.{IsNonDecreasingBy, IsPartitionPoint}
 use Rattle.std.proofs.lemmas.Bool.{cases_Bool, le-ltb, ltb-false, ltb-true}
 use Rattle.std.proofs.lemmas.Bool.Decides.{nat_tests}
-use Rattle.std.proofs.lemmas.List.{append-nil, get_or_append_left, get_or-drop, get_or_push, get_or-take, length-append, length-map, length-take-le, map_push, take-append-drop}
+use Rattle.std.proofs.lemmas.List.{append-nil, drop-drop, get_or-append_right, get_or_append_left, get_or-drop, get_or-take, length-append, length-map}
+use Rattle.std.proofs.lemmas.List.{length-take-le, map-append, take-append-drop, take_rest}
 use Rattle.std.proofs.lemmas.List.Concat.{flat_map-append}
 use Rattle.std.proofs.lemmas.List.Elements.{filter-append, All-head, All-tail}
 use Rattle.std.proofs.lemmas.List.Kept.{IsNonDecreasingBy-filter}
-use Rattle.std.proofs.lemmas.List.Sorted.{All-permutation}
 use Rattle.base.proofs.Lists.{filter_of_filter}
 use Rattle.time_and_sales.specs.Ranges.{GivesRanges, all_items, greatest_so_far, is_in_first}
-use Rattle.time_and_sales.specs.Turns.{AreOfRanges, AreTextsOf}
-use Rattle.time_and_sales.specs.declared.range_texts.RangeText.{RangeText}
+use Rattle.time_and_sales.specs.Turns.{AreTextsOf}
 
 -- ---- what a search finds
 
@@ -102,38 +99,27 @@ module _ {X : Type 0} (number : X → ℕ) where
       sym (ap₂ ◌++◌ (filter_both (below high) (from low) xs) (filter_of_filter (from high) (from low) (λ x. not_lower low high (number x) le) xs))
       ∙ halves high (filter (from low) xs) (IsNonDecreasingBy-filter number (from low) xs up)
 
-module _ {F E : Type 0} (calls : Shared F (Bor (List ℕ) × Unit {0}) (Result (Vec ℕ Global) E)) (f : F) (bounds : List ℕ) where
-  IsOfRange : RangeText → Type 0
-  IsOfRange one = FnReturnsAt calls f (drop one.number bounds) (Ok one.text)
-
-  -- the texts that are left when the first is taken
-  pub left_are : (before after : List RangeText) (first : Option RangeText) → before ≡ option_to_list first ++ after
-      → AreOfRanges calls f bounds before → AreOfRanges calls f bounds after
-  unfolding IsOfRange
-  left_are before after None is are = subst (AreOfRanges calls f bounds) is are
-  left_are before after (Some one) is are = All-tail IsOfRange one after (subst (AreOfRanges calls f bounds) is are)
-
-  -- the same texts in another order
-  pub moved_are : (before after : List RangeText) → IsPermutation before after → AreOfRanges calls f bounds before → AreOfRanges calls f bounds after
-  unfolding IsOfRange
-  moved_are before after moved are = All-permutation IsOfRange before after moved are
-
-  -- the texts of the first ranges, and that of one more
-  pub one_text_more : (count : ℕ) (texts : List (Vec ℕ Global)) (text : Vec ℕ Global) → AreTextsOf calls f bounds count texts
-      → FnReturnsAt calls f (drop count bounds) (Ok text) → AreTextsOf calls f bounds (count + 1) (texts ++ text ∷ [])
-  one_text_more count texts text so_far more =
-      let ok : Vec ℕ Global → Result (Vec ℕ Global) E = told in
-      let n = length-map texts ok in
-      record {
-        few = omega (arith, length-append texts (text ∷ []), so_far.few);
-        each = λ k d h. subst (λ rs. FnReturnsAt calls f (drop k bounds) (get_or rs k d)) (sym (map_push ok texts text)) (elim (cases_Bool (ltb k count)) [
-          | inl e ↦ (let before = ltb-true _ _ e in
-              subst (FnReturnsAt calls f (drop k bounds)) (sym (get_or_append_left (map ok texts) (ok text ∷ []) d k (omega (arith, before, n, so_far.few))))
-              (so_far.each k d before))
-          | inr e ↦ (let is : k ≡ count = omega (arith, h, ltb-false _ _ e) in
-              subst (FnReturnsAt calls f (drop k bounds)) (sym (get_or_push (map ok texts) (ok text) d k (omega (arith, is, n, so_far.few)))) (rw is more))
-        ]);
-      }
+-- the texts of the first ranges and those of the ranges behind them
+pub texts_join : {F Z E : Type 0} (calls : Shared F (Bor (List ℕ) × Unit {0}) (Result (Vec ℕ Z) E)) (f : F)
+    (bounds : List ℕ) (low high count : ℕ) (a b : List (Vec ℕ Z)) → AreTextsOf calls f bounds low a
+    → AreTextsOf calls f (take (length bounds - low) (drop low bounds)) high b → count ≡ low + high → AreTextsOf calls f bounds count (a ++ b)
+texts_join {F} {Z} {E} calls f bounds low high count a b first taken all =
+    let rest = subst (λ bs. AreTextsOf calls f bs high b) (take_rest bounds low) taken in
+    let ok : Vec ℕ Z → Result (Vec ℕ Z) E = told in
+    let fronts = length-map a ok in
+    record {
+      few = omega (arith, length-append a b, first.few, rest.few, all);
+      each = λ n d h. subst (λ rs. FnReturnsAt calls f (drop n bounds) (get_or rs n d)) (sym (map-append ok a b)) (elim (cases_Bool (ltb n low)) [
+        | inl e ↦ (let before = ltb-true _ _ e in
+            subst (FnReturnsAt calls f (drop n bounds)) (sym (get_or_append_left (map ok a) (map ok b) d n (omega (arith, before, fronts, first.few))))
+            (first.each n d before))
+        | inr e ↦ (let behind = ltb-false _ _ e in
+            subst (FnReturnsAt calls f (drop n bounds)) (sym (get_or-append_right (map ok a) (map ok b) low n d (fronts ∙ first.few) behind))
+            (subst (λ bs. FnReturnsAt calls f bs (get_or (map ok b) (n - low) d))
+            (drop-drop (n - low) low bounds ∙ ap (λ k. drop k bounds) (omega (arith, behind)))
+            (rest.each (n - low) d (omega (arith, behind, h, all)))))
+      ]);
+    }
 
 -- the texts of all ranges, one after another, are the text of all
 module _ {F X Z E : Type 0} (calls : Shared F (Bor (List ℕ) × Unit {0}) (Result (Vec ℕ Z) E)) (f : F)

@@ -1,10 +1,8 @@
 -- The texts that calls with the bounds of one range after another give.
 -- Derived: no public clause cites it.
-use Rattle.std.specs.Prelude.{◌≡◌, ℕ, ◌<◌, All, List, Vec, Result, Ok, length, drop, slice_index_or, map}
+use Rattle.std.specs.Prelude.{◌≡◌, ℕ, ◌<◌, List, Vec, Result, Ok, length, drop, slice_index_or, map}
 use Rattle.std.specs.Borrow.{Bor}
 use Rattle.std.specs.Fn.{FnReturnsAt, Shared}
-use Rattle.std.specs.declared.alloc.Global.{Global}
-use Rattle.time_and_sales.specs.declared.range_texts.RangeText.{RangeText}
 
 module _ {F Z E : Type 0} (calls : Shared F (Bor (List ℕ) × Unit {0}) (Result (Vec ℕ Z) E)) (f : F) where
   -- the texts are those of the first `count` ranges, in their order
@@ -12,7 +10,3 @@ module _ {F Z E : Type 0} (calls : Shared F (Bor (List ℕ) × Unit {0}) (Result
     pub few : length texts ≡ count
     pub each : (n : ℕ) (d : Result (Vec ℕ Z) E) → n < count
         → FnReturnsAt calls f (drop n bounds) (slice_index_or (map Ok texts) n d)
-
--- each text is that of its range
-abbrev pub AreOfRanges : {F E : Type 0} → Shared F (Bor (List ℕ) × Unit {0}) (Result (Vec ℕ Global) E) → F → List ℕ → List RangeText → Type 0
-AreOfRanges calls f bounds made = All (λ one. FnReturnsAt calls f (drop one.number bounds) (Ok one.text)) made

@@ -16,7 +16,7 @@ use crate::listings::{ByPlace, Listing};
 use crate::made_names::{made_names, write_named};
 use crate::names::Names;
 use crate::numbered::{numbers_of, within};
-use crate::range_texts::{count_ranges, texts_in_ranges};
+use crate::range_texts::texts_in_ranges;
 use crate::symbol::Name;
 use itertools::Itertools;
 use row_types::Sale;
@@ -25,15 +25,12 @@ use std::iter::Copied;
 use std::slice::Iter;
 use std::thread::Threads;
 
-/// About how many sales a range has at most, so that no thread has much left to do when another has ended.
-const LONG_RANGE: usize = 32_768;
-
 /// How many bytes most lines have at most.
 const USUAL_LINE: usize = 48;
 
-/// The lines of the sales of all listings, by place, in pieces that are one text when they are put together. Each piece
-/// is of the sales in a range of places. At most `threads` threads merge and write them, each the next range that none
-/// has taken. It is refused if a thread was refused memory.
+/// The lines of the sales of all listings, by place, in pieces that are one text when they are put
+/// together. There are at most `threads` pieces: each is of the sales in a range of
+/// places, which a thread of its own merges and writes. It is refused if a thread was refused memory.
 pub fn lines_in_ranges<R: Threads + Sync>(
     rt: &R,
     alloc: Global,
@@ -48,8 +45,7 @@ pub fn lines_in_ranges<R: Threads + Sync>(
         all_items texts.items ≡ lines_text (names_by names.now) all) }
 {
     let longest = longest(listings);
-    let ranges = count_ranges(count_sales(listings), threads, LONG_RANGE);
-    let places = numbers_of::<ByPlace, _>(alloc, longest, ranges)?;
+    let places = numbers_of::<ByPlace, _>(alloc, longest, threads)?;
     let made = made_names(alloc, names, longest.len())?;
     texts_in_ranges::<Sale, _, _>(
         rt,
@@ -58,15 +54,6 @@ pub fn lines_in_ranges<R: Threads + Sync>(
         threads,
         &|bounds: &[u64]| range_lines(alloc, listings, made.as_slice(), names, bounds),
     )
-}
-
-/// How many sales all listings have.
-fn count_sales(listings: &[&Listing]) -> usize {
-    let mut count = 0usize;
-    for listing in listings {
-        count = count.saturating_add(listing.items().len());
-    }
-    count
 }
 
 /// The sales of the longest listing.
