@@ -121,8 +121,8 @@ fn sort_ticks(ticks: &mut Vec<Tick>)
 }
 
 /// The ticks in order of their locates, and then of their seconds. Sorted are numbers of 8 bytes, which have both and
-/// the tick's own number: to sort the ticks themselves, of 20 bytes, takes more than twice as long. There is none of too
-/// many ticks, or if there is no memory.
+/// the tick's own number: to sort the ticks themselves, of 20 bytes, takes three times as long. There are none if there
+/// are too many ticks, or if there is no memory.
 fn sorted_copy(alloc: Global, ticks: &[Tick]) -> Option<Vec<Tick>>
     ensures permutation { IfSome result (λ sorted. IsPermutation ticks.now sorted.items) }
     ensures rise { IfSome result (λ sorted.
@@ -133,8 +133,8 @@ fn sorted_copy(alloc: Global, ticks: &[Tick]) -> Option<Vec<Tick>>
     ticks_of_keys(alloc, ticks, keys.as_slice())
 }
 
-/// A number for each tick: its locate, then its second, then which of the ticks it is. There are none of too many ticks,
-/// of a second past the last that has room, or if there is no memory.
+/// A number for each tick: its locate, then its second, then which of the ticks it is. There are none if there are too
+/// many ticks, if one has a second for which there is no room, or if there is no memory.
 fn numbered_keys(alloc: Global, ticks: &[Tick]) -> Option<Vec<u64>>
     ensures keys { IfSome result (λ keys. keys.items ≡ numbered_keys 0 ticks.now) }
     ensures few { IfSome result (λ _. length ticks.now < 2 ^ 29) }
