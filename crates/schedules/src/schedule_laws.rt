@@ -21,6 +21,7 @@ pub fn arrived_tasks_are_covered()
 
 /// If each list of inputs has one total and that of the first inputs is linked to one thing, two schedules have one
 /// answer.
+#[tactic(auto, using(crate::proofs::OneRehearsed::one_rehearsed))]
 pub fn functions_have_one_rehearsal<A: Work, B: Work, L: Link<A, B>>()
     ensures { (link : L) (inputs : List A.Input) (total_of_first : List A.Input → A.Total)
         (linked : A.Total → TheLinked (List B.Input) L.Kept L.Stop) (total_of : List B.Input → B.Total)
