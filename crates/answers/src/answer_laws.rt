@@ -6,7 +6,6 @@ ghost use Rattle.outcomes.specs.declared.day_fault.DayFault.{DayFault};
 ghost use Rattle.meaning.specs.Meaning.{Meaning};
 
 /// The law of answers: a file and a query have at most one. It does nothing when it runs.
-#[tactic(auto, using(crate::proofs::AnswerLaws::answers_are_one))]
 pub fn one_answer()
     ensures { (file : List ℕ) (query : Meaning) (one other : Result (List ℕ) DayFault) →
         IsAnswer file query one → IsAnswer file query other → one ≡ other }
@@ -14,7 +13,6 @@ pub fn one_answer()
 
 /// The law of a late moment: if no message of a file is past it, a query has the answers that it
 /// has without the moment. It does nothing when it runs.
-#[tactic(auto, using(crate::proofs::AnswerLaws::past_all))]
 pub fn moment_past_all()
     ensures { (file : List ℕ) (query : Meaning) (answer : Result (List ℕ) DayFault) →
         NoneIsPast query.as_of file →
@@ -23,7 +21,6 @@ pub fn moment_past_all()
 
 /// The law of a moment: two files, neither truncated nor with a wrong length, of whose messages the same
 /// count, at the same places, have the same answers. It does nothing when it runs.
-#[tactic(auto, using(crate::proofs::AnswerLaws::counted_decide))]
 pub fn counted_messages_decide()
     ensures { (one other : List ℕ) (query : Meaning) (messages : List Placed)
         (answer : Result (List ℕ) DayFault) →
