@@ -111,6 +111,7 @@ fn many_listings_are_merged_or_refused(rt: HostRuntime) -> Result<(), Fail> {
 }
 
 /// Whether no listings, merged, have no sales.
+#[tactic(auto, using(crate::proofs::Apart::no_places_apart))]
 fn none_are_empty(alloc: Global) -> Result<bool, OutOfMemory> {
     Ok(
         Listing::merge_all(alloc, Vec::new(alloc))?

@@ -67,6 +67,7 @@ fn pricing_that_is_refused_leaves_what_was_priced(rt: HostRuntime) -> Result<(),
 }
 
 /// Whether no executions are priced, and none is unknown.
+#[tactic(auto, using(crate::proofs::Apart::no_places_apart))]
 fn prices_none(alloc: Global, table: &OrderTable) -> bool {
     match price_all(alloc, table, &[]) {
         Ok(priced) => priced.sales.is_empty() && priced.unknown.is_none(),
@@ -75,6 +76,7 @@ fn prices_none(alloc: Global, table: &OrderTable) -> bool {
 }
 
 /// The same by a table of no orders, which repeat none.
+#[tactic(auto, using(crate::proofs::Apart::no_places_apart))]
 fn none_are_priced(alloc: Global) -> Result<bool, AllocError> {
     let built = OrderTable::build(alloc, &[])?;
     Ok(built.repeated.is_none() && prices_none(alloc, &built.table))
