@@ -32,7 +32,6 @@ pub struct Faults {
 /// Prices the executions of a bucket's partitions by their orders, and hands over the sales that are asked for: first
 /// the executions at their prices, and then the sales that have a price of their own. They are made a partition at a
 /// time, so that they are few at once.
-#[tactic(auto, using(crate::proofs::RowsOfPartitions::orders_apart))]
 pub(crate) fn trade<T: TakesSales>(
     alloc: Global,
     bucket: &Bucket,

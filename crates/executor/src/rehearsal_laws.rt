@@ -34,7 +34,6 @@ pub fn schedules_and_threads_agree<F: ReadsAt>()
 {}
 
 /// Over one cut, for one query, by the same schedules, all rehearsals give the same.
-#[tactic(auto, using(crate::proofs::RehearsalLaws::rehearsals_are_one))]
 pub fn one_rehearsal()
     ensures { (runs : List (List ℕ)) (query : Meaning) (parts gatherers : ℕ) (events1 events2 : List TheEvent)
         (one other : TheRehearsal) →
@@ -44,7 +43,6 @@ pub fn one_rehearsal()
 
 /// Once each task of both pipelines has arrived, at whichever gatherers, in whichever order and however often, a
 /// rehearsal has the answer.
-#[tactic(auto, using(crate::proofs::RehearsalLaws::all_arrived))]
 pub fn all_arrived_answers()
     ensures { (runs : List (List ℕ)) (query : Meaning) (parts gatherers : ℕ) (events1 events2 : List TheEvent)
         (rehearsal : TheRehearsal) →
@@ -55,7 +53,6 @@ pub fn all_arrived_answers()
 {}
 
 /// If each task arrives once, in order, at one gatherer, a rehearsal has the answer.
-#[tactic(auto, using(crate::proofs::RehearsalLaws::once_in_order))]
 pub fn each_once_answers()
     ensures { (runs : List (List ℕ)) (query : Meaning) (parts : ℕ) (rehearsal : TheRehearsal) →
         IsRehearsed runs query parts 1 (each_once (length runs)) (each_once parts) rehearsal →
