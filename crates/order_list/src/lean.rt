@@ -1,12 +1,12 @@
 //! Order rows in 10 bytes each.
-ghost use Rattle.std.specs.Prelude.{◌≡◌, ◌^◌, ◌<◌, ◌≤◌, [], ◌∷◌, ◌++◌, if◌then◌else◌, length};
-ghost use Rattle.std.specs.Prelude.{IfOk, IsTrue, List, OnErr, slice_index_or};
+ghost use Rattle.std.specs.Prelude.{◌≡◌, ◌^◌, ◌<◌, [], ◌∷◌, ◌++◌, if◌then◌else◌, length};
+ghost use Rattle.std.specs.Prelude.{◌+◌, IfOk, IsTrue, List, OnErr, slice_index_or};
 ghost use Rattle.std.specs.List.{AllPairs};
 ghost use Rattle.std.specs.Option.{IfSome};
 ghost use Rattle.order_list.specs.ShortRows.{IsOrigin, RiseTo, offset_of, row_of_lean};
 
 use crate::OutOfMemory;
-use crate::offsets::{LAST_START, Origin, RANGE, offset_from};
+use crate::offsets::{LAST_START, Origin, offset_from};
 use crate::rising_rows::RisingRows;
 use crate::unaligned::Unaligned;
 use base::{copied, push};
@@ -27,17 +27,15 @@ pub(crate) struct Lean {
 }
 
 impl Lean {
-    /// A row is near an origin if its place is less than 2^24 past it, and its reference less than `reach`.
+    /// A row is near an origin if its place and its reference are less than 2^24 past it.
     #[inline(always)]
-    fn of(origin: Origin, row: OrderRow, reach: u64) -> Option<Self>
-        requires origin { IsOrigin origin }
-        requires reach { reach ≤ 2 ^ 24 }
-        ensures row { IfSome result (λ lean. row_of_lean origin lean ≡ row) }
-        ensures some { IfSome result (λ _. 0 < reach) }
+    fn of(origin: Origin, row: OrderRow) -> Option<Self>
+        requires { IsOrigin origin }
+        ensures { IfSome result (λ lean. row_of_lean origin lean ≡ row) }
     {
         match (
-            offset_from(origin.order_no, row.order_no, reach),
-            offset_from(origin.place, row.place, RANGE),
+            offset_from(origin.order_no, row.order_no),
+            offset_from(origin.place, row.place),
         ) {
             (Some(reference), Some(place)) => {
                 let price_low = u64::from(row.price % (1 << 16));
@@ -87,21 +85,13 @@ fn around(row: OrderRow) -> Origin
     }
 }
 
-/// Past each offset: what an offset above all rows is if these don't rise.
-const NONE_ABOVE: u32 = u32::MAX;
-
-/// An offset above those of rows and of one more at their end, if they rise, and else one that is past each offset.
-/// Without it `above` is such an offset.
+/// Whether rows rise with one more at their end. Without it they do if `rises` says so, to offsets below `above`.
 #[inline(always)]
-fn above_with(above: u32, lean: Lean) -> u32
-    ensures { result ≤ 2 ^ 24 → (rows : List Lean) → (above ≤ 2 ^ 24 → RiseTo above rows)
-        → RiseTo result (rows ++ lean ∷ []) }
+fn rise_with(rises: bool, above: u32, lean: Lean) -> bool
+    ensures { IsTrue result → (rows : List Lean) → (IsTrue rises → RiseTo above rows)
+        → RiseTo (offset_of lean + 1) (rows ++ lean ∷ []) }
 {
-    if above <= lean.offset() {
-        lean.offset() + 1
-    } else {
-        NONE_ABOVE
-    }
+    rises & (above <= lean.offset())
 }
 
 /// Order rows that are near the first one.
@@ -109,13 +99,15 @@ fn above_with(above: u32, lean: Lean) -> u32
 pub(crate) struct LeanRows<A: Allocator> {
     pub(crate) origin: Origin,
     pub(crate) rows: Vec<Lean, A>,
-    /// An offset of a reference above those of all rows, if each has a greater one than the row before it, and else one
-    /// that is past each offset. It is kept here, since the last row often isn't in the processor's cache.
+    /// The least offset of a reference above those of all rows. It is kept here, since the last row often isn't in the
+    /// processor's cache.
     above: u32,
+    /// Whether each row has a greater reference than the row before it.
+    rises: bool,
 }
 
 impl<A: Allocator> Model for LeanRows<A> {
-    ghost use Rattle.std.specs.Prelude.{List, map, ◌≤◌, ◌^◌};
+    ghost use Rattle.std.specs.Prelude.{List, map, IsTrue};
     ghost use Rattle.row_types.specs.declared.order.OrderRow.{OrderRow as TheRow};
     ghost use Rattle.order_list.specs.ShortRows.{IsOrigin, RiseTo, row_of_lean};
 
@@ -123,7 +115,7 @@ impl<A: Allocator> Model for LeanRows<A> {
 
     ghost view = { λ lean. map (row_of_lean lean.origin) lean.rows.items };
 
-    ghost invariant = { λ lean. IsOrigin lean.origin × (lean.above ≤ 2 ^ 24 → RiseTo lean.above lean.rows.items) };
+    ghost invariant = { λ lean. IsOrigin lean.origin × (IsTrue lean.rises → RiseTo lean.above lean.rows.items) };
 }
 
 impl<A: Allocator> LeanRows<A> {
@@ -138,6 +130,7 @@ impl<A: Allocator> LeanRows<A> {
             },
             rows: Vec::new(alloc),
             above: 0,
+            rises: true,
         }
     }
 
@@ -161,28 +154,22 @@ impl<A: Allocator> LeanRows<A> {
         self.rows.shrink_to_fit();
     }
 
-    /// Has the first row be this one: rows are near that then, if they are near.
-    pub(crate) fn begin(&mut self, row: OrderRow)
-        requires { self.old ≡ [] }
-        ensures { self.new ≡ [] }
-    {
-        self.origin = around(row);
-        self.above = 0;
-    }
-
-    /// Adds a row at the end, if it is near the first one, its reference less than `reach` past the origin. If there is
-    /// no memory for it, the rows stay as they were.
+    /// Adds a row at the end, if it is near the first one, as the first one itself is. If there is no memory
+    /// for it, the rows stay as they were.
     #[inline(always)]
-    pub(crate) fn push_near(&mut self, row: OrderRow, reach: u64) -> Result<bool, OutOfMemory>
-        requires { reach ≤ 2 ^ 24 }
+    pub(crate) fn push_near(&mut self, row: OrderRow) -> Result<bool, OutOfMemory>
         ensures near { IfOk result (λ near. self.new ≡ (if near then self.old ++ row ∷ [] else self.old)) }
-        ensures some { IfOk result (λ near. IsTrue near → 0 < reach) }
         ensures unchanged { OnErr result (self.new ≡ self.old) }
     {
-        match Lean::of(self.origin, row, reach) {
+        if self.rows.is_empty() {
+            self.origin = around(row);
+        }
+        match Lean::of(self.origin, row) {
             Some(lean) => {
+                let rises = rise_with(self.rises, self.above, lean);
                 push(&mut self.rows, lean)?;
-                self.above = above_with(self.above, lean);
+                self.rises = rises;
+                self.above = lean.offset() + 1;
                 Ok(true)
             }
             None => Ok(false),
@@ -197,6 +184,7 @@ impl<A: Allocator> LeanRows<A> {
             origin: self.origin,
             rows: copied(alloc, self.rows.as_slice())?,
             above: self.above,
+            rises: self.rises,
         })
     }
 
@@ -230,7 +218,7 @@ impl<A: Allocator> LeanRows<A> {
         ensures rows { IfSome result (λ rising. rising ≡ self.now) }
         ensures rise { IfSome result (λ rising. AllPairs (λ x y. x.order_no < y.order_no) rising) }
     {
-        if u64::from(self.above) <= RANGE && !self.rows.is_empty() {
+        if self.rises && !self.rows.is_empty() {
             Some(RisingRows::of(self.origin, self.rows.as_slice()))
         } else {
             None

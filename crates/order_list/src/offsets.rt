@@ -10,23 +10,21 @@ pub(crate) struct Origin {
 }
 
 /// How many numbers an offset reaches, from the one that it counts from on.
-pub(crate) const RANGE: u64 = 1 << 24;
+const RANGE: u64 = 1 << 24;
 
 /// The greatest number that offsets count from, so that none goes past the last number.
 pub(crate) const LAST_START: u64 = u64::MAX - (RANGE - 1);
 
-/// How far the number lies past the start, if that is less than `reach`.
+/// How far the number lies past the start, if that is less than 2^24.
 #[inline(always)]
-pub(crate) fn offset_from(start: u64, number: u64, reach: u64) -> Option<u32>
-    requires start { start + 2 ^ 24 ≤ 2 ^ 64 }
-    requires reach { reach ≤ 2 ^ 24 }
+pub(crate) fn offset_from(start: u64, number: u64) -> Option<u32>
+    requires { start + 2 ^ 24 ≤ 2 ^ 64 }
     ensures near { IfSome result (λ offset. offset < 2 ^ 24) }
     ensures offset { IfSome result (λ offset. start + offset ≡ number) }
-    ensures some { IfSome result (λ _. 0 < reach) }
 {
     // One comparison tells both: a number before the start comes out past the range.
     let past = number.wrapping_sub(start);
-    if past < reach {
+    if past < RANGE {
         Some(past as u32)
     } else {
         None

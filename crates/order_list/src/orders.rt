@@ -1,5 +1,5 @@
 //! Order rows in little memory.
-ghost use Rattle.std.specs.Prelude.{◌≡◌, ◌<◌, [], ◌∷◌, ◌++◌, length, if◌then◌else◌, IfOk, OnErr, OnOk, slice_index_or};
+ghost use Rattle.std.specs.Prelude.{◌≡◌, ◌<◌, [], ◌∷◌, ◌++◌, length, IfOk, OnErr, OnOk, slice_index_or};
 ghost use Rattle.std.specs.Cmp.{partial_equiv_from_equiv};
 ghost use Rattle.std.specs.List.{AllPairs};
 ghost use Rattle.std.specs.Option.{IfSome};
@@ -7,7 +7,6 @@ ghost use Rattle.order_list.specs.SameOrders.{are_same_orders, orders_equiv};
 
 use crate::OutOfMemory;
 use crate::lean::LeanRows;
-use crate::offsets::RANGE;
 use crate::order_rows::OrderRows;
 use crate::rising_rows::RisingRows;
 use crate::wide::Wide;
@@ -24,23 +23,18 @@ use std::marker::Model;
 #[derive(Drop)]
 pub struct OrderList<A: Allocator = Global> {
     lean: LeanRows<A>,
-    /// How far past the origin of lean rows the reference of one more may lie: not at all before the first one, nor
-    /// behind a wide one.
-    reach: u64,
     /// The first row that isn't lean, and all that follow it. If only one is before it, that is here, too.
     wide: Vec<Wide, A>,
 }
 
 impl<A: Allocator> Model for OrderList<A> {
-    ghost use Rattle.std.specs.Prelude.{◌≡◌, ◌<◌, ◌≤◌, ◌^◌, List, [], ◌++◌, map};
+    ghost use Rattle.std.specs.Prelude.{List, ◌++◌, map};
     ghost use Rattle.row_types.specs.declared.order.OrderRow.{OrderRow};
     ghost use Rattle.order_list.specs.ShortRows.{row_of_wide};
 
     ghost Value = { List OrderRow };
 
     ghost view = { λ list. list.lean ++ map row_of_wide list.wide.items };
-
-    ghost invariant = { λ list. (list.reach ≤ 2 ^ 24) × (0 < list.reach → list.wide.items ≡ []) };
 }
 
 impl<A: Allocator + Copy> OrderList<A> {
@@ -50,7 +44,6 @@ impl<A: Allocator + Copy> OrderList<A> {
     {
         OrderList {
             lean: LeanRows::new(alloc),
-            reach: 0,
             wide: Vec::new(alloc),
         }
     }
@@ -61,7 +54,6 @@ impl<A: Allocator + Copy> OrderList<A> {
     {
         Ok(OrderList {
             lean: self.lean.copied(alloc)?,
-            reach: self.reach,
             wide: copied(alloc, self.wide.as_slice())?,
         })
     }
@@ -81,39 +73,22 @@ impl<A: Allocator> OrderList<A> {
         ensures added { OnOk result (self.new ≡ self.old ++ row ∷ []) }
         ensures unchanged { OnErr result (self.new ≡ self.old) }
     {
-        if self.lean.push_near(row, self.reach)? {
-            return Ok(());
+        if self.wide.is_empty() {
+            if self.lean.push_near(row)? {
+                return Ok(());
+            }
+            self.begin_wide()?;
         }
-        if self.wide.is_empty() && self.begin(row)? {
-            return Ok(());
-        }
-        self.reach = 0;
         push(&mut self.wide, Wide::of(row))
-    }
-
-    /// Adds the first row, if it is lean, and says whether it did. Before the first one that is wide it takes room for
-    /// those.
-    #[cold]
-    #[inline(never)]
-    fn begin(&mut self, row: OrderRow) -> Result<bool, OutOfMemory>
-        ensures added { IfOk result (λ added. self.new ≡ (if added then self.old ++ row ∷ [] else self.old)) }
-        ensures unchanged { OnErr result (self.new ≡ self.old) }
-    {
-        if self.len() == 0 {
-            self.lean.begin(row);
-            self.reach = RANGE;
-            return self.lean.push_near(row, RANGE);
-        }
-        self.begin_wide()?;
-        Ok(false)
     }
 
     /// Takes room for wide rows, in place of what lean ones leave. If there is but one lean row, as where references
     /// are any numbers, it is made wide, so that no memory of lean rows is left between that of others.
+    #[cold]
+    #[inline(never)]
     fn begin_wide(&mut self) -> Result<(), OutOfMemory>
         ensures { self.new ≡ self.old }
     {
-        self.reach = 0;
         let room = self.lean.room();
         if self.lean.len() == 1 && self.wide.is_empty() {
             self.wide.reserve_exact(room)?;
