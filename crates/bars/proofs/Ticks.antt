@@ -1,18 +1,14 @@
 -- A sale in whole seconds has the same bar, so ticks have the bars of their sales.
-use Rattle.std.proofs.Common.{◌≡◌, ℕ, ◌+◌, ◌*◌, ◌/◌, ◌%◌, ◌^◌, ◌<◌, ◌≤◌, All, Bor, List, [], ◌∷◌, length, map, filter, get_or, refl, sym, ap, ap₂, ◌∙◌}
-use Rattle.std.proofs.Common.{◌++◌, ◌⊎◌, IsPermutation, append_assoc, arith, inl, inr, ltb, nat_cmp, nat_eq, subst, suc, take}
+use Rattle.std.proofs.Common.{◌≡◌, ℕ, ◌+◌, ◌<◌, ◌≤◌, All, Bor, List, [], ◌∷◌, length, map, filter, get_or, refl, sym, ap, ap₂, ◌∙◌, subst, arith}
+use Rattle.std.proofs.Common.{◌++◌, IsPermutation, nat_eq}
 use Rattle.std.specs.Fn.{Mut, Called, ComputesKey}
 use Rattle.std.specs.List.{IsDistinct}
 use Rattle.std.specs.List.Sorted.{IsNonDecreasingBy, IsSorted, IsSortedByKey}
-use Rattle.std.proofs.lemmas.Bool.{cases_Bool, ltb-false, ltb-true}
 use Rattle.std.proofs.lemmas.Bool.Decides.{nat_tests}
-use Rattle.std.proofs.lemmas.List.{get_or-map, length-append, length-map, map-append, map_push}
-use Rattle.std.proofs.lemmas.List.Elements.{All-cons, All-map, All-nil, All-push, filter_agree}
-use Rattle.std.proofs.lemmas.List.Sorted.{All-permutation, IsNonDecreasingBy-from_sort, answers_always, IsPermutation-map, length_permutation}
-use Rattle.std.proofs.lemmas.Nat.{div-mul-add, le-div, mod-mul-add}
+use Rattle.std.proofs.lemmas.List.{get_or-map, length-map, map_push}
+use Rattle.std.proofs.lemmas.List.Elements.{All-map, All-push, filter_agree}
+use Rattle.std.proofs.lemmas.List.Sorted.{All-permutation, answers_always, IsPermutation-map, IsPermutation-trans, length_permutation}
 use Rattle.std.proofs.lemmas.Simd.{map-map}
-use Rattle.std.proofs.Math.Nat.{div-mul-le_self}
-use Rattle.std.proofs.Math.Seq.{get_or-append_seam, take-suc}
 use Rattle.base.specs.declared.limits.TheConstants.{SECONDS_OF_DAY, TRADE_LIMIT}
 use Rattle.row_types.specs.declared.trade.Sale.{Sale}
 use Rattle.time_and_sales.specs.Lent.{AreApart}
@@ -22,7 +18,7 @@ use Rattle.time_and_sales.proofs.SortedByPlace.{differ_in_order, no_sale}
 use Rattle.bar.specs.declared.bar.Bar.{Bar}
 use Rattle.bar.specs.OneBar.{IsTraded, interval_start, key_cmp}
 use Rattle.bars.specs.Bars.{AreBarsOf}
-use Rattle.bars.specs.Steps.{AreJoinedAlike, AreTraded, AreUnmade, bar_of_one, bar_of_tick, bars_of, in_seconds, numbered_key, numbered_keys, put, sale_of_tick}
+use Rattle.bars.specs.Steps.{AreJoinedAlike, AreTraded, AreUnmade, bar_of_one, bar_of_tick, bars_of, in_seconds, put, sale_of_tick}
 use Rattle.bars.specs.declared.tick.Tick.{Tick}
 use Rattle.bars.proofs.BarsInRanges.{locate_of, sales_in_range}
 use Rattle.bars.proofs.BarsOfSales.{bars_of_are, locates_rise, start_rises, table_is}
@@ -64,7 +60,7 @@ traded_more ticks tick sale are is some traded = record {
 
 -- ---- sorted ticks
 
-abbrev pub no_tick : Tick
+no_tick : Tick
 no_tick = record { second = 0; price = 0; shares = 0; place_low = 0; place_high = 0; locate = 0 }
 
 pub ticks_rise : {F : Type 0} {g : Mut F (Bor Tick × Unit {0}) (ℕ × ℕ)} {f : F} (width : ℕ) (ticks : List Tick) → 0 < width
@@ -82,104 +78,9 @@ ticks_rise {g = g} {f = f} width ticks some up h k d low within =
     rw (get_or-map one ticks k no_tick d (omega (arith, n)), get_or-map one ticks (k + 1) no_tick d (omega (arith, n)))
     (grind (arith, nat_tests))
 
--- ---- ticks in the order of their keys, which end with their numbers
-
--- the first tick comes before the other: by their locates, and then by their seconds
-abbrev IsBefore : Tick → Tick → Type 0
-IsBefore a b = (a.locate < b.locate) ⊎ ((a.locate ≡ b.locate) × (a.second ≤ b.second))
-
--- if each comes before the next, the keys of their bars rise
-rise_in_order : (width : ℕ) (ticks : List Tick) → 0 < width
-    → ((k : ℕ) → k + 1 < length ticks → IsBefore (get_or ticks k no_tick) (get_or ticks (k + 1) no_tick))
-    → IsSorted key_cmp (map (bar_of_tick width) ticks)
-rise_in_order width ticks some up k d low within =
-    let one = bar_of_tick width in
-    let n = length-map ticks one in
-    let a = get_or ticks k no_tick in
-    let b = get_or ticks (k + 1) no_tick in
-    let times : a.second ≤ b.second → interval_start width (sale_of_tick a).time ≤ interval_start width (sale_of_tick b).time =
-    λ up. start_rises width (sale_of_tick a).time (sale_of_tick b).time some (omega (arith, up)) in
-    let turn = up k (omega (arith, n)) in
-    rw (get_or-map one ticks k no_tick d (omega (arith, n)), get_or-map one ticks (k + 1) no_tick d (omega (arith, n)))
-    (elim turn [
-      | inl lower ↦ grind (arith, nat_tests)
-      | inr same ↦ (let start = times same.1 in grind (arith, nat_tests))
-    ])
-
--- the tick of a key, and what the key has in front
-module _ (ticks : List Tick) where
-  abbrev of_key : ℕ → Tick
-  of_key key = get_or ticks (key % 2 ^ 29) no_tick
-
-  abbrev HasFront : ℕ → Type 0
-  HasFront key = key / 2 ^ 29 ≡ (of_key key).locate * 2 ^ 19 + (of_key key).second
-
-  own_tick : (number : ℕ) (t : Tick) → number < 2 ^ 29 → get_or ticks number no_tick ≡ t → of_key (numbered_key number t) ≡ t
-  own_tick number t few is = ap (λ n. get_or ticks n no_tick) (mod-mul-add (t.locate * 2 ^ 19 + t.second) (2 ^ 29) number few) ∙ is
-
-  own_front : (number : ℕ) (t : Tick) → number < 2 ^ 29 → get_or ticks number no_tick ≡ t → HasFront (numbered_key number t)
-  own_front number t few is =
-      div-mul-add (t.locate * 2 ^ 19 + t.second) (2 ^ 29) number few
-      ∙ sym (ap (λ (u : Tick). u.locate * 2 ^ 19 + u.second) (own_tick number t few is))
-
-keys_stand : (before ticks : List Tick) → length before + length ticks < 2 ^ 29
-    → map (of_key (before ++ ticks)) (numbered_keys (length before) ticks) ≡ ticks
-keys_stand before [] few = refl
-keys_stand before (t ∷ ts) few =
-    let n = length-append before (t ∷ []) in
-    let more = keys_stand (before ++ t ∷ []) ts (omega (arith, few, n)) in
-    ap₂ (λ u l. u ∷ l) (own_tick (before ++ t ∷ ts) (length before) t (omega (arith, few)) (get_or-append_seam before t ts no_tick))
-    (rw (append_assoc before (t ∷ []) ts, n) at more)
-
-have_fronts : (before ticks : List Tick) → length before + length ticks < 2 ^ 29
-    → All (HasFront (before ++ ticks)) (numbered_keys (length before) ticks)
-have_fronts before [] few = All-nil (HasFront (before ++ []))
-have_fronts before (t ∷ ts) few =
-    let n = length-append before (t ∷ []) in
-    let more = have_fronts (before ++ t ∷ []) ts (omega (arith, few, n)) in
-    All-cons (HasFront (before ++ t ∷ ts)) (numbered_key (length before) t) (numbered_keys (length before + 1) ts)
-    (own_front (before ++ t ∷ ts) (length before) t (omega (arith, few)) (get_or-append_seam before t ts no_tick))
-    (rw (append_assoc before (t ∷ []) ts, n) at more)
-
--- the ticks of the first keys, and that of one key more
-pub one_key_more : (ticks found : List Tick) (keys : List ℕ) (k : ℕ) (t other : Tick) → k < length keys
-    → found ≡ map (λ key. get_or ticks (key % 2 ^ 29) other) (take k keys) → t ≡ get_or ticks (get_or keys k 0 % 2 ^ 29) other
-    → found ++ t ∷ [] ≡ map (λ key. get_or ticks (key % 2 ^ 29) other) (take (k + 1) keys)
-one_key_more ticks found keys k t other within so_far is =
-    let f : ℕ → Tick = λ key. get_or ticks (key % 2 ^ 29) other in
-    let one : take (k + 1) keys ≡ take k keys ++ (get_or keys k 0 ∷ []) = ap (λ n. take n keys) {y = suc k} (omega arith) ∙ take-suc keys k 0 within in
-    ap₂ (λ l u. l ++ u ∷ []) so_far is ∙ sym (map-append f (take k keys) (get_or keys k 0 ∷ [])) ∙ ap (map f) (sym one)
-
-module _ (ticks found : List Tick) (keys : List ℕ) (few : length ticks < 2 ^ 29) (moved : IsPermutation (numbered_keys 0 ticks) keys)
-    (are : (other : Tick) → found ≡ map (λ key. get_or ticks (key % 2 ^ 29) other) keys) where
-  pub same_ticks : IsPermutation ticks found
-  same_ticks =
-      let kept = IsPermutation-map (of_key ticks) (numbered_keys 0 ticks) keys moved in
-      rw (are no_tick) (subst (λ l. IsPermutation l (map (of_key ticks) keys)) (keys_stand [] ticks (omega (arith, few))) kept)
-
-  pub keys_rise : All (λ tick. tick.second < 2 ^ 19) ticks → IsSorted nat_cmp keys → (width : ℕ) → 0 < width → IsSorted key_cmp (map (bar_of_tick width) found)
-  keys_rise seconds up width some =
-      let n : length found ≡ length keys = ap length (are no_tick) ∙ length-map keys (of_key ticks) in
-      let is : (k : ℕ) → k < length found → get_or found k no_tick ≡ of_key ticks (get_or keys k 0) =
-      λ k h. ap (λ l. get_or l k no_tick) (are no_tick) ∙ get_or-map (of_key ticks) keys k 0 no_tick (omega (arith, h, n)) in
-      let fronts : All (HasFront ticks) keys = All-permutation (HasFront ticks) (numbered_keys 0 ticks) keys moved (have_fronts [] ticks (omega (arith, few))) in
-      let front : (k : ℕ) → k < length found → get_or keys k 0 / 2 ^ 29 ≡ (get_or found k no_tick).locate * 2 ^ 19 + (get_or found k no_tick).second =
-      λ k h. rw (is k h) (fronts k 0 (omega (arith, h, n))) in
-      let fit : All (λ (tick : Tick). tick.second < 2 ^ 19) found = All-permutation (λ (tick : Tick). tick.second < 2 ^ 19) ticks found same_ticks seconds in
-      rise_in_order width found some (λ k h.
-      let a = get_or keys k 0 in
-      let b = get_or keys (k + 1) 0 in
-      let rises = IsNonDecreasingBy-from_sort (λ (x : ℕ). x) keys up k (k + 1) 0 (omega arith) (omega (arith, h, n)) in
-      let ahead = le-div (a / 2 ^ 29) b (2 ^ 29) (omega arith) (omega (arith, rises, div-mul-le_self a (2 ^ 29))) in
-      let one = front k (omega (arith, h)) in
-      let two = front (k + 1) h in
-      let lower = fit k no_tick (omega (arith, h)) in
-      let other = fit (k + 1) no_tick h in
-      elim (cases_Bool (ltb (get_or found k no_tick).locate (get_or found (k + 1) no_tick).locate)) [
-        | inl e ↦ inl (ltb-true _ _ e)
-        | inr e ↦ (let not_lower = ltb-false _ _ e in
-            inr (omega (arith, ahead, one, two, lower, other, not_lower), omega (arith, ahead, one, two, lower, other, not_lower)))
-      ])
+-- ticks that have moved, and move once more
+pub moved_on : (ticks moved more : List Tick) → IsPermutation ticks moved → IsPermutation moved more → IsPermutation ticks more
+moved_on = IsPermutation-trans
 
 -- bars can be made of sorted ticks
 pub unmade_ticks : (width : ℕ) (ticks sorted : List Tick) → IsPermutation ticks sorted → AreApart (map sale_of_tick ticks) → length ticks < TRADE_LIMIT

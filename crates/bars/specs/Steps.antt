@@ -60,15 +60,6 @@ sale_of_tick tick = record {
 abbrev pub bar_of_tick : ℕ → Tick → Bar
 bar_of_tick width tick = bar_of_one width (sale_of_tick tick)
 
--- the locate of a tick, then its second, then its number
-abbrev pub numbered_key : ℕ → Tick → ℕ
-numbered_key number tick = (tick.locate * 2 ^ 19 + tick.second) * 2 ^ 29 + number
-
--- those of ticks, which are numbered from this one on
-abbrev pub numbered_keys : ℕ → List Tick → List ℕ
-numbered_keys number [] = []
-numbered_keys number (tick ∷ ticks) = numbered_key number tick ∷ numbered_keys (number + 1) ticks
-
 -- ticks of some shares each, the bar of each of which is traded, whatever the width
 pub record AreTraded (ticks : List Tick) : Type 0 where
   pub shares : All (λ sale. 0 < sale.shares) (map sale_of_tick ticks)

@@ -1,18 +1,16 @@
 //! What a bar needs of a sale.
-ghost use Rattle.std.specs.Prelude.{◌≡◌, ◌↔◌, ℕ, ◌<◌, ◌%◌, ◌^◌, All, IfOk, IsTrue, length, map, slice_index_or};
+ghost use Rattle.std.specs.Prelude.{◌≡◌, ◌↔◌, ℕ, ◌<◌, IfOk, IsTrue, map};
 ghost use Rattle.std.specs.List.Sorted.{IsPermutation, IsSorted};
-ghost use Rattle.std.specs.Option.{IfSome};
 ghost use Rattle.bar.specs.OneBar.{IsTraded, key_cmp};
-ghost use Rattle.bars.specs.Steps.{HasTick, bar_of_tick, in_seconds, numbered_keys, sale_of_tick};
-ghost use Rattle.bars.specs.declared.tick.Tick.{Tick as TheTick};
+ghost use Rattle.bars.specs.Steps.{HasTick, bar_of_tick, in_seconds, sale_of_tick};
 
 use crate::OutOfMemory;
 use base::limits::NANOSECONDS;
 use row_types::{Kind, Sale};
 use std::alloc::Global;
 
-/// How many ticks are put in order by a copy of them at most. It then takes 28 MiB for a while.
-const MOST_COPIED: usize = 1 << 20;
+/// How many ticks have keys to be put in order by, at most: they take 8 MiB then.
+const MOST_KEYS: usize = 1 << 20;
 
 /// Past the seconds that a key has room for. A message's time, of 48 bits, has fewer.
 const SECOND_LIMIT: u32 = 1 << 19;
@@ -94,7 +92,10 @@ pub(crate) fn put_ticks_in_order(ticks: &mut Vec<Tick>, width: u32) -> usize
     ensures permutation { IsPermutation ticks.old.items ticks.new.items }
     ensures rise { IsSorted key_cmp (map (bar_of_tick width) ticks.new.items) }
 {
-    sort_ticks(ticks);
+    let alloc = *ticks.allocator();
+    put_by_keys(alloc, ticks.as_mut_slice());
+    // They are in order already, if there was memory for their keys: then this only looks.
+    ticks.sort_unstable_by_key(|tick| (tick.locate, tick.second));
     let mut count = 0usize;
     let mut last: Option<(u16, u32)> = None;
     let in_order = ticks.as_slice();
@@ -108,39 +109,21 @@ pub(crate) fn put_ticks_in_order(ticks: &mut Vec<Tick>, width: u32) -> usize
     count
 }
 
-/// Puts ticks in order of their locates, and then of their seconds.
-fn sort_ticks(ticks: &mut Vec<Tick>)
-    ensures permutation { IsPermutation ticks.old.items ticks.new.items }
-    ensures rise { (width : ℕ) → 0 < width → IsSorted key_cmp (map (bar_of_tick width) ticks.new.items) }
+/// Puts ticks in order of their locates and then of their seconds, unless they are too many or there is no memory.
+/// Sorted are numbers of 8 bytes: to sort the ticks themselves, of 20 bytes, takes three times as long. The order isn't
+/// promised, only that no tick is lost.
+fn put_by_keys(alloc: Global, ticks: &mut [Tick])
+    ensures { IsPermutation ticks.old ticks.new }
 {
-    let alloc = *ticks.allocator();
-    match sorted_copy(alloc, ticks.as_slice()) {
-        Some(sorted) => *ticks = sorted,
-        None => ticks.sort_unstable_by_key(|tick| (tick.locate, tick.second)),
+    if let Some(mut keys) = keys_of(alloc, ticks) {
+        keys.sort_unstable();
+        move_by_keys(ticks, keys.as_mut_slice());
     }
 }
 
-/// The ticks in order of their locates, and then of their seconds. Sorted are numbers of 8 bytes, which have both and
-/// the tick's own number: to sort the ticks themselves, of 20 bytes, takes three times as long. There are none if there
-/// are too many ticks, or if there is no memory.
-fn sorted_copy(alloc: Global, ticks: &[Tick]) -> Option<Vec<Tick>>
-    ensures permutation { IfSome result (λ sorted. IsPermutation ticks.now sorted.items) }
-    ensures rise { IfSome result (λ sorted.
-        (width : ℕ) → 0 < width → IsSorted key_cmp (map (bar_of_tick width) sorted.items)) }
-{
-    let mut keys = numbered_keys(alloc, ticks)?;
-    keys.sort_unstable();
-    ticks_of_keys(alloc, ticks, keys.as_slice())
-}
-
-/// A number for each tick: its locate, then its second, then which of the ticks it is. There are none if there are too
-/// many ticks, if one has a second for which there is no room, or if there is no memory.
-fn numbered_keys(alloc: Global, ticks: &[Tick]) -> Option<Vec<u64>>
-    ensures keys { IfSome result (λ keys. keys.items ≡ numbered_keys 0 ticks.now) }
-    ensures few { IfSome result (λ _. length ticks.now < 2 ^ 29) }
-    ensures seconds { IfSome result (λ _. All (λ tick. tick.second < 2 ^ 19) ticks.now) }
-{
-    if ticks.len() > MOST_COPIED {
+/// A number for each tick: its locate, then its second, then which of the ticks it is.
+fn keys_of(alloc: Global, ticks: &[Tick]) -> Option<Vec<u64>> {
+    if ticks.len() > MOST_KEYS {
         return None;
     }
     let mut keys = Vec::with_capacity(alloc, ticks.len()).ok()?;
@@ -155,17 +138,29 @@ fn numbered_keys(alloc: Global, ticks: &[Tick]) -> Option<Vec<u64>>
     Some(keys)
 }
 
-/// The ticks that the keys are of, in the order of the keys.
-fn ticks_of_keys(alloc: Global, ticks: &[Tick], keys: &[u64]) -> Option<Vec<Tick>>
-    ensures { IfSome result (λ found. (other : TheTick) →
-        found.items ≡ map (λ key. slice_index_or ticks.now (key % 2 ^ 29) other) keys.now) }
+/// Moves each tick to the place of its key, in rounds: to the place where one starts comes the tick that the key there is
+/// of, to where that was the one that the key there is of, and so on, until that is the one from the start. The key of a
+/// place whose tick has come has the place's own number, so that a round from there ends at once.
+#[tactic(auto, using(crate::proofs::Ticks::moved_on))]
+fn move_by_keys(ticks: &mut [Tick], keys: &mut [u64])
+    ensures { IsPermutation ticks.old ticks.new }
 {
-    let mut found = Vec::with_capacity(alloc, keys.len()).ok()?;
-    for key in keys {
-        let tick = ticks.get((key % NUMBER_LIMIT) as usize)?;
-        found.push(*tick).ok()?;
+    let mut start = 0usize;
+    let mut at = 0;
+    for _ in 0..ticks.len().saturating_mul(2) {
+        let Some(key) = keys.get_mut(at) else {
+            return;
+        };
+        let from = (*key % NUMBER_LIMIT) as usize;
+        *key = at as u64;
+        if from == start {
+            start = start.saturating_add(1);
+            at = start;
+        } else if at < ticks.len() && from < ticks.len() {
+            ticks.swap(at, from);
+            at = from;
+        }
     }
-    Some(found)
 }
 
 /// Sales with the same bars as the ticks.
