@@ -138,9 +138,9 @@ fn keys_of(alloc: Global, ticks: &[Tick]) -> Option<Vec<u64>> {
     Some(keys)
 }
 
-/// Moves each tick to the place of its key, in rounds: to the place where one starts comes the tick that the key there is
-/// of, to where that was the one that the key there is of, and so on, until that is the one from the start. The key of a
-/// place whose tick has come has the place's own number, so that a round from there ends at once.
+/// Moves each tick to the place of its key, in rounds: to the place where one starts comes the tick that the key there
+/// is of, to where that was the one that the key there is of, and so on, until that is the one from the start. The key
+/// of a place whose tick has come has the place's own number, so that a round from there ends at once.
 #[tactic(auto, using(crate::proofs::Ticks::moved_on))]
 fn move_by_keys(ticks: &mut [Tick], keys: &mut [u64])
     ensures { IsPermutation ticks.old ticks.new }
