@@ -110,7 +110,7 @@ pub(crate) fn put_ticks_in_order(ticks: &mut Vec<Tick>, width: u32) -> usize
 }
 
 /// Puts ticks in order of their locates and then of their seconds, unless they are too many or there is no memory.
-/// Sorted are numbers of 8 bytes: to sort the ticks themselves, of 20 bytes, takes three times as long. The order isn't
+/// Sorted are numbers of 8 bytes: to sort the ticks themselves, of 20 bytes, takes twice as long. The order isn't
 /// promised, only that no tick is lost.
 fn put_by_keys(alloc: Global, ticks: &mut [Tick])
     ensures { IsPermutation ticks.old ticks.new }
