@@ -49,7 +49,7 @@ class OfMemory(Case):
     def took(self, file, query, workers, way="file", **more):
         """The KiB that a run holds at most and asks for, its allocations, readings and writes."""
         words = ["-" if way == "stream" else file, query, "--workers", workers]
-        # The caller frees all rows before the text is made, or meanwhile: so the thread behind those of the second pipeline is late.
+        # The thread behind those of the second pipeline frees the rows while the text is made: late, so that each run holds as much.
         given, late = file if way == "stream" else b"", {"LATE": 2 * workers + 1}
         ran, report = self.counted(program(), *words, *more.pop("words", []), input=given, preload=late, **more)
         self.assertEqual((ran.status, ran.errors), (0, b""), words)
@@ -114,18 +114,18 @@ class OfMemory(Case):
 
 
 FIGURES = """
-rising         file    1       3708      22380       3822         53         11
-rising         file   64       6159      25812       7993        105         59
-rising         stream  1       8688      37171       4442         86         11
-scattered      file    1       5203      27893       4263         53         11
-scattered      stream  1      10031      42530       4960         86         11
-one_order      file    1      11819      39780       1227         37         31
-trades         file    1       8908      30929       2701         39         23
-trades         file    4      13400      39700       4760         77         25
-trades         stream  1       8885      42616       3330         65         23
-names          file    1       7255      17846       1470         39          2
-names          stream  1       7244      32048       1750         65          2
-breaks         file    1       5055      23202       3538         57          2
-breaks         stream  1      10642      41620       3824         93          2
-breaks         stream  4      13953      49517       5114        116          5
+rising         file    1       4892      22044       3960         53         11
+rising         file   64       6159      25886       7993        105         59
+rising         stream  1       8880      31941       4559         86         11
+scattered      file    1       6018      27557       4403         53         11
+scattered      stream  1      10223      37583       5080         86         11
+one_order      file    1       9538      40718       1270         37         31
+trades         file    1       6466      30784       2861         39         23
+trades         file    4       8500      39700       4760         77         25
+trades         stream  1       8197      38915       3446         65         23
+names          file    1       7294      17779       1530         39          2
+names          stream  1       7283      27205       1807         65          2
+breaks         file    1       5083      24438       3617         57          2
+breaks         stream  1      10834      35918       3896         93          2
+breaks         stream  4      13953      41621       5114        116          5
 """

@@ -13,6 +13,7 @@ from run import Case, program
 MIB = 1 << 20
 BUFFER, SEEN = 126_976, 4_096  # is read at once of a block; for a guess of where a frame begins, or behind a block's end
 PIECE, BATCH = 65_536, 32 * MIB  # is read of a stream at once; how long its batches are
+SALES = 150_000  # How many a day of these tests has, if nothing else is said.
 LIMIT = 64 << 30  # No file of a run here is longer: only the byte at the limit is asked for there.
 
 
@@ -20,15 +21,17 @@ class Threads:
     """The numbers of the threads of each kind, in the order of their starts. `first` has those of the workers of the first
     pipeline, of each batch of a stream; a file is one."""
 
-    def __init__(self, workers, gatherers, batches=1):
+    def __init__(self, workers, gatherers, query="sales", sales=SALES, batches=1):
         self.count, self.first = 0, []
         for batch in range(batches):
             # (of each batch but the last, one that waits for the others while the caller reads on)
             self.first.append(self.behind(gatherers - 1 + (batch < batches - 1), workers))
         self.second = self.behind(gatherers - 1, workers)
-        # Each makes a share of the text, while the caller frees the rows. The last one frees what buckets listed.
-        self.text = self.behind(0, workers)
-        self.count += 1
+        self.before_text = self.count
+        # One frees the rows, while others make the text, each a share of its parts: there are sixteen for each worker, 256 at
+        # most, or as many as there are parts.
+        parts = max(sales // 8_192, workers) if query == "sales" else workers * (sales // workers // 4_096 + 1)
+        self.text = self.behind(1, -(-parts // max(parts // min(16 * workers, 256), 1)))
 
     def behind(self, others, count):
         """The numbers of this many threads behind others."""
@@ -53,19 +56,14 @@ class OfThreads(Case):
         ran, report = self.counted(program(), *words, preload=preload, **more)
         self.assertEqual((ran.status, ran.errors), (0, b""), words)
         self.assertEqual((report.started, report.alone), (threads.count, []), words)
-        # Each thread takes its share of the room for lines, and little beside it: the keys of bars.
-        rooms = [report.threads[number] for number in threads.text]
-        share = len(ran.out) / len(rooms)
-        if share > PIECE:
-            self.assertTrue(all(0.8 * share <= it <= 4 * share and it <= 2 * min(rooms) for it in rooms), f"{words}: {rooms}")
         return report
 
-    def blocks(self, file, workers, gatherers=1, query="sales", again=0, is_empty=False):
+    def blocks(self, file, workers, gatherers=1, query="sales", again=0, sales=SALES):
         """A named file is read in blocks, by all workers at once. The caller asks for the byte at the limit, first, and reads
         nothing else, but where guesses are wrong so many bytes `again`."""
-        length, threads = file.stat().st_size, Threads(workers, gatherers)
+        length, threads = file.stat().st_size, Threads(workers, gatherers, query, sales)
         words = [file, query, "--workers", workers, "--gatherers", gatherers]
-        meet = meeting("p", threads.first) + ("" if is_empty else meeting("a", [threads.second]))
+        meet = meeting("p", threads.first) + (meeting("a", [threads.second, threads.text[:workers]]) if sales else "")
         report = self.looked_at(words, threads, {"MEET": meet})
         self.assertFalse(report.of("read"), words)
         own = [call for call in report.of("pread") if call.thread == 0]
@@ -85,14 +83,15 @@ class OfThreads(Case):
         self.assertTrue(length <= count + again and count <= givings * (length + 2 * SEEN * blocks), f"{words}: {count}")
         self.assertLessEqual(len(others), givings * blocks * (block // (BUFFER - SEEN) + 4), words)
 
-    def stream(self, file, by_name, workers, gatherers, query="sales"):
+    def stream(self, file, by_name, workers, gatherers, query="sales", sales=SALES):
         """Standard input, and a file whose morsels have a size, are read in order by the caller, while all workers scan the batch
         before: in a day of two batches the caller waits, before its last reading of a whole piece, until each of them does."""
         length = file.stat().st_size
         words = [file, query, "--morsel", 500_000] if by_name else ["-", query]
         words += ["--workers", workers, "--gatherers", gatherers]
-        threads = Threads(workers, gatherers, batches=length // BATCH + 1)
-        meet = {"MEET": meeting("a", [*threads.first, threads.second]), **({"JOINS": length // PIECE} if threads.first[1:] else {})}
+        threads = Threads(workers, gatherers, query, sales, length // BATCH + 1)
+        groups = [*threads.first, threads.second, threads.text[:workers]]
+        meet = {"MEET": meeting("a", groups), **({"JOINS": length // PIECE} if threads.first[1:] else {})}
         report = self.looked_at(words, threads, meet, input=b"" if by_name else file)
         self.assertEqual({(call.kind, call.thread) for call in report.of("read", "pread")}, {("read", 0)}, words)
         self.assertEqual(sum(call.count for call in report.of("read")), length, words)
@@ -108,16 +107,16 @@ class OfThreads(Case):
     def test_two_batches(self):
         file = self.file("day", b"".join(order(number + 1) for number in range(900_000)), day()[:1_000_000 // 46 * 46])
         for by_name, crew in itertools.product((False, True), ((1, 1), (3, 1), (4, 3))):
-            self.stream(file, by_name, *crew)
+            self.stream(file, by_name, *crew, sales=1_000_000 // 46)
 
     def test_each_is_waited_for(self):
-        """Before the answer is written, whichever begins late; the last thread meanwhile, before the program ends."""
-        file, count = self.file("day", day()[: 46 * 60_000]), Threads(2, 2).count
-        for morsel, number in itertools.product(([], ["--morsel", 500_000]), range(1, count + 1)):
+        """Those of the pipelines before anything is written, whichever begins late, and all others before the program ends."""
+        file, threads = self.file("day", day()[: 46 * 60_000]), Threads(2, 2, sales=60_000)
+        for morsel, number in itertools.product(([], ["--morsel", 500_000]), range(1, threads.count + 1)):
             words = [program(), file, "sales", "--workers", 2, "--gatherers", 2, *morsel]
             report = self.counted(*words, preload={"LATE": number})[1]
-            self.assertEqual(report.started, count, words)
-            self.assertIn(report.begun, ([count - 1, count], [count, count]), f"{number} is late: {words}")
+            self.assertEqual((report.started, report.begun[1]), (threads.count, threads.count), words)
+            self.assertIn(report.begun[0], (threads.before_text, threads.before_text + 1), f"{number} is late: {words}")
 
     def test_messages_of_all_lengths(self):
         """A guess knows the longest message and the shortest, which stand beside trades at the opening."""
@@ -135,7 +134,7 @@ class OfThreads(Case):
             self.blocks(self.file("day", file[:at], long * 4, file[at:]), workers, again=MIB + 2 * SEEN)
         # However long a file is, its blocks aren't, and the caller looks at none.
         os.truncate(self.file("long"), 80 * MIB)
-        self.blocks(self.folder / "long", 1, is_empty=True)
+        self.blocks(self.folder / "long", 1, sales=0)
 
     def test_short_days(self):
         """A day of less than two MiB is answered by the caller alone, however it is read, and one of two MiB by threads."""

@@ -121,7 +121,7 @@ fn run_fault_of(fault: CutFault) -> RunFault {
 
 fn append_answer(alloc: Global, out: &mut Vec<u8>, answer: &Answer) -> io::Result<()> {
     match answer {
-        Answer::Printed(text) => Ok(out.extend_from_slice(text.joined(alloc)?.as_slice())?),
+        Answer::Printed(text) => Ok(out.extend_from_slice(text.bytes())?),
         Answer::Faulty(fault) => append_fault(alloc, out, &RunFault::Day(*fault)),
     }
 }

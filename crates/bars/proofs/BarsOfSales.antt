@@ -4,7 +4,7 @@ use Rattle.std.proofs.Common.{filter, get_or, None, Some, IsPermutation, fold, B
 use Rattle.std.specs.Fn.{Mut, Called, ComputesKey}
 use Rattle.std.specs.List.Sorted.{IsNonDecreasingBy, IsSorted, IsSortedByKey, IsStrictlySortedBy}
 use Rattle.std.proofs.lemmas.Bool.Decides.{nat_tests}
-use Rattle.std.proofs.lemmas.List.{get_or-map, length-map, map-append}
+use Rattle.std.proofs.lemmas.List.{get_or-map, length-append, length-map, map-append}
 use Rattle.std.proofs.lemmas.List.Elements.{All-head, All-map, filter_passes}
 use Rattle.std.proofs.lemmas.List.Sorted.{answers_always, IsNonDecreasingBy-from_all_adjacent, IsPermutation-sym}
 use Rattle.std.proofs.lemmas.Nat.{le-div}
@@ -23,7 +23,7 @@ use Rattle.bars.specs.declared.kept_form.Form.TheVariants.{Ticks, Sales, Bars}
 use Rattle.bars.specs.Steps.{AreJoinedAlike, AreOfForm, bars_of_form, bar_of_one, bars_of, sale_of_tick}
 use Rattle.bar.proofs.OneBar.{has, made}
 use Rattle.bars.proofs.Bars.{AreBarsOf-permutation, AreBarsOf-unique}
-use Rattle.bars.proofs.JoinedTables.{alike_from, alike_parts, by_parts, filter-map, joined_traded, put_union, table_has, together, union_alike, union_of_one}
+use Rattle.bars.proofs.JoinedTables.{alike_from, alike_parts, by_parts, count_of_put, filter-map, joined_traded, put_union, table_has, together, union_alike, union_of_one}
 
 -- ---- bars of one sale each
 
@@ -114,6 +114,27 @@ pub union_of_bars : (width : ℕ) (lists : List (List Sale)) (tables : List (Lis
     → AreBarsOf width (all_sales lists) table → IsUnionOf (all_bars tables) table
 union_of_bars width lists tables table are of =
     union_alike (all_bars tables) _ table (each_alike width lists tables are) (ones_union width (all_sales lists) table of)
+
+-- ---- there are no more bars than sales
+
+count_of_bars : (width : ℕ) (sales : List Sale) → length (bars_of width sales) ≤ length sales
+count_of_bars width [] = omega arith
+count_of_bars width (x ∷ xs) = omega (arith, count_of_put (bar_of_one width x) (bars_of width xs), count_of_bars width xs)
+
+pub count_of_each : (width : ℕ) (lists : List (List Sale)) (tables : List (List Bar)) → AreBarsOfEach width lists tables
+    → length (all_bars tables) ≤ length (all_sales lists)
+count_of_each width [] [] are = omega arith
+count_of_each width [] (table ∷ tables) are = absurd are
+count_of_each width (sales ∷ lists) [] are = absurd are
+count_of_each width (sales ∷ lists) (table ∷ tables) are =
+    omega (
+      arith,
+      ap length (table_is width sales table are.0),
+      count_of_bars width sales,
+      count_of_each width lists tables are.1,
+      length-append table (all_bars tables),
+      length-append sales (all_sales lists),
+    )
 
 -- ---- each bar of sales is traded
 

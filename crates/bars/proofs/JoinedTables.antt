@@ -1,5 +1,5 @@
 -- Bars joined under each key: of lists one after another, and of tables, which are what lists are joined to.
-use Rattle.std.proofs.Common.{◌≡◌, ℕ, ◌+◌, ◌<◌, Bool, true, ◌&&◌, cond, not, All, List, [], ◌∷◌, ◌++◌, length, map, filter, take, eqb, get_or, Option}
+use Rattle.std.proofs.Common.{◌≡◌, ℕ, ◌+◌, ◌<◌, ◌≤◌, Bool, true, ◌&&◌, cond, not, All, List, [], ◌∷◌, ◌++◌, length, map, filter, take, eqb, get_or, Option}
 use Rattle.std.proofs.Common.{Some, None, Contains, IsPermutation, Ordering, Less, Equal, Greater, Bor, refl, sym, ap, ap₂, ◌∙◌, subst, arith}
 use Rattle.std.proofs.Common.{IfSome}
 use Rattle.std.specs.List.{AllByRecursion, sum_by}
@@ -17,7 +17,7 @@ use Rattle.time_and_sales.specs.Lent.{lent}
 use Rattle.bar.specs.declared.bar.Bar.{Bar}
 use Rattle.bar.specs.OneBar.{Key, key_cmp, joined_bar, joined, IsTraded}
 use Rattle.bars.specs.Bars.{found, joined_all, under, all_bars, IsByKey, IsUnionOf}
-use Rattle.bars.specs.Steps.{AreJoinedAlike, put}
+use Rattle.bars.specs.Steps.{AreJoinedAlike, put, united}
 use Rattle.bar.proofs.OneBar.{has, higher_misses, joined_none, joined_three, key_of, key_total, same_has}
 use Rattle.bars.proofs.Bars.{found_itself, tables_agree}
 
@@ -240,3 +240,19 @@ puts a (b ∷ table) up =
 
 pub put_union : (bar : Bar) (table : List Bar) → IsByKey table → IsUnionOf (bar ∷ table) (put bar table)
 put_union bar table up = let m = puts bar table up in union_from (bar ∷ table) (put bar table) m.rise m.alike
+
+-- a list of bars has a union, which has no more bars
+pub united_is : (bars : List Bar) → IsUnionOf bars (united bars)
+united_is [] = union_of_none
+united_is (bar ∷ bars) =
+    let others = united_is bars in
+    union_alike (bar ∷ bars) (bar ∷ united bars) (put bar (united bars))
+    (alike_parts (bar ∷ []) (bar ∷ []) bars (united bars) (λ key. refl) (λ key. sym (alike_from others key))) (put_union bar (united bars) others.rise)
+
+pub count_of_put : (bar : Bar) (table : List Bar) → length (put bar table) ≤ length table + 1
+count_of_put bar [] = omega arith
+count_of_put bar (other ∷ table) = let more = count_of_put bar table in grind (arith, nat_tests)
+
+pub count_of_united : (bars : List Bar) → length (united bars) ≤ length bars
+count_of_united [] = omega arith
+count_of_united (bar ∷ bars) = omega (arith, count_of_put bar (united bars), count_of_united bars)

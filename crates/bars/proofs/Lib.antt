@@ -7,3 +7,6 @@ pub mod SumsAreBounded
 pub mod BarsOfSales
 pub mod Seconds
 pub mod Ticks
+pub mod NextBar
+pub mod LinesOneByOne
+pub mod RangeTexts

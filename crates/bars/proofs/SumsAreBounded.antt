@@ -56,7 +56,7 @@ all_sums_fit width lists tables are = sums_of_few width (all_sales lists) (all_b
 -- ---- two bars whose sums fit together
 
 -- where all sums fit, each next bar can be joined
-each_joins : (bars : List Bar) → AllSumsFit bars → (key : Key) (front rest : List Bar) (bar kept : Bar) → under key bars ≡ front ++ bar ∷ rest
+pub each_joins : (bars : List Bar) → AllSumsFit bars → (key : Key) (front rest : List Bar) (bar kept : Bar) → under key bars ≡ front ++ bar ∷ rest
     → joined_all None front ≡ Some kept → CanJoin kept bar
 each_joins bars fit key front rest bar kept split before =
     let volume = within (λ z. z.volume) (λ a b. refl) in

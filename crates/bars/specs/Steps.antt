@@ -29,6 +29,11 @@ put bar (other ∷ table) =
     else if is_eq (key_cmp bar other) then joined_bar bar other ∷ table
     else other ∷ put bar table
 
+-- the table of the bars of a list, those of one key joined
+abbrev pub united : List Bar → List Bar
+united [] = []
+united (bar ∷ bars) = put bar (united bars)
+
 -- the table of the bars of some sales
 abbrev pub bars_of : ℕ → List Sale → List Bar
 bars_of width [] = []

@@ -1,7 +1,7 @@
-//! The lines of many tables, of ranges of locates by threads.
-ghost use Rattle.std.specs.Prelude.{◌≡◌, ◌<◌, ◌++◌, All, IfOk, OnOk, List, filter, map};
+//! The lines of the bars of many tables, of a range of locates.
+ghost use Rattle.std.specs.Prelude.{◌≡◌, ◌<◌, ◌-◌, ◌≤◌, ◌++◌, All, IfOk, OnOk, List, filter, length, map};
 ghost use Rattle.base.specs.declared.limits.TheConstants.{TIME_LIMIT};
-ghost use Rattle.time_and_sales.specs.Ranges.{all_items, is_in_first};
+ghost use Rattle.time_and_sales.specs.Ranges.{is_in_first};
 ghost use Rattle.time_and_sales.specs.Lent.{lent};
 ghost use Rattle.time_and_sales.specs.Names.{names_by};
 ghost use Rattle.bar.specs.OneBar.{IsTraded};
@@ -18,53 +18,18 @@ use crate::grid::Grid;
 use crate::joined_lines::joined_lines;
 use crate::kept_form::Form;
 use crate::keyed::{Keyed, append_bars, append_sales, append_ticks};
-use bar::Bar;
 use std::alloc::Global;
-use std::thread::Threads;
-use time_and_sales::{Names, numbers_of, texts_in_ranges, within};
+use time_and_sales::{Names, numbers_of, within};
 
 /// About how many sales and bars a range has at most. Their keys then stay in a processor's nearer caches while they
 /// are sorted, and take little memory.
 const LONG_RANGE: usize = 4_096;
 
-/// The lines of the bars of all tables, those of one locate and start joined, in pieces that are one text when they are
-/// put together. Each piece is of the bars in a range of locates. At most `threads` threads join and write them, each
-/// an even share of the ranges, one after the other. It is refused if a thread was refused memory.
-pub fn lines_in_ranges<R: Threads + Sync>(
-    rt: &R,
-    alloc: Global,
-    tables: &[&BucketBars],
-    names: &Names,
-    threads: u32,
-) -> Result<Vec<Vec<u8>>, OutOfMemory>
-    requires sums { FitIfTraded (all_bars (lent tables.now)) }
-    requires starts { All (λ bar. bar.start < TIME_LIMIT) (all_bars (lent tables.now)) }
-    ensures { IfOk result (λ texts. (all : List TheBar) →
-        IsUnionOf (all_bars (lent tables.now)) all →
-        all_items texts.items ≡ lines_text (names_by names.now) all) }
+/// How many ranges there are best: `threads`, or a multiple of that if they would be long. Each table's type says that
+/// its bars are traded, and all tables are looked at here.
+pub(crate) fn count_ranges(tables: &[&BucketBars], threads: u32) -> u32
+    ensures { All IsTraded (all_bars (lent tables.now)) }
 {
-    let ranges = count_ranges(tables, threads);
-    let locates = match longest(tables) {
-        Some(Form::Ticks { ticks, .. }) => {
-            numbers_of::<ByLocate, _>(alloc, ticks.as_slice(), ranges)?
-        }
-        Some(Form::Sales { sales, .. }) => {
-            numbers_of::<ByLocate, _>(alloc, sales.as_slice(), ranges)?
-        }
-        Some(Form::Bars(bars)) => numbers_of::<ByLocate, _>(alloc, bars.items(), ranges)?,
-        None => Vec::new(alloc),
-    };
-    texts_in_ranges::<Bar, _, _>(
-        rt,
-        alloc,
-        locates.as_slice(),
-        threads,
-        &|bounds: &[u64]| range_lines(alloc, tables, names, bounds),
-    )
-}
-
-/// How many ranges there are best: `threads`, or a multiple of that if they would be long.
-fn count_ranges(tables: &[&BucketBars], threads: u32) -> u32 {
     let mut count = 0usize;
     for table in tables {
         count = count.saturating_add(table.form().len());
@@ -72,6 +37,26 @@ fn count_ranges(tables: &[&BucketBars], threads: u32) -> u32 {
     let share = count / threads.max(1) as usize;
     let further = u32::try_from(share / LONG_RANGE).unwrap_or(0);
     threads.saturating_mul(further.saturating_add(1))
+}
+
+/// The locates with which the ranges begin, so that of what most is kept as much is in each, without the first.
+pub(crate) fn numbers_of_ranges(
+    alloc: Global,
+    tables: &[&BucketBars],
+    ranges: u32,
+) -> Result<Vec<u64>, OutOfMemory>
+    ensures { IfOk result (λ numbers. length numbers.items ≤ ranges - 1) }
+{
+    match longest(tables) {
+        Some(Form::Ticks { ticks, .. }) => {
+            numbers_of::<ByLocate, _>(alloc, ticks.as_slice(), ranges)
+        }
+        Some(Form::Sales { sales, .. }) => {
+            numbers_of::<ByLocate, _>(alloc, sales.as_slice(), ranges)
+        }
+        Some(Form::Bars(bars)) => numbers_of::<ByLocate, _>(alloc, bars.items(), ranges),
+        None => Ok(Vec::new(alloc)),
+    }
 }
 
 /// Of what most is kept among the tables.
@@ -86,7 +71,7 @@ fn longest<'a>(tables: &[&'a BucketBars]) -> Option<&'a Form> {
 }
 
 /// The lines of the bars of all tables whose locates are in the first range.
-fn range_lines(
+pub(crate) fn range_lines(
     alloc: Global,
     tables: &[&BucketBars],
     names: &Names,

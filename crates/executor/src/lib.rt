@@ -11,7 +11,6 @@
 #![tactic(auto)]
 
 mod answering;
-mod joined;
 mod outcome_law;
 mod refused;
 mod rehearsal_laws;

@@ -4,12 +4,11 @@ ghost use Rattle.base.specs.declared.limits.TheConstants.{MOST_PARTITIONS};
 ghost use Rattle.executor.specs.Rehearsals.{IsRehearsed};
 
 use crate::OutOfMemory;
-use crate::joined::answer_of;
 use answers::Answer;
 use day_file::Cut;
 use planning::PlanLink;
 use query::Query;
-use runs::told_of;
+use runs::{answer_of_total, told_of};
 use scanning::scan_inputs;
 use schedules::{Event, Rehearsed, rehearse_pair};
 use std::alloc::Global;
@@ -46,7 +45,7 @@ pub fn rehearse(
     let link = PlanLink::new(query, parts);
     match rehearse_pair(alloc, inputs, &link, gatherers, events1, events2)? {
         Rehearsed::Finished { total, kept } => {
-            let answer = answer_of(alloc, query, total, &kept)?;
+            let answer = answer_of_total(alloc, query, total, kept)?;
             Ok(Rehearsal::Finished(answer))
         }
         Rehearsed::Stopped { stop } => Ok(Rehearsal::Finished(told_of(stop))),

@@ -73,18 +73,25 @@ text_is (Bars width) query names messages sales text up h (table, are, written) 
     (TellsApart-from_distinct (λ (s : Sale). s.place) every (kept_distinct asked messages up)) in
     (table, AreBarsOf-permutation width sales _ table apart (IsPermutation-trans _ _ _ h (kept_are_sales asked messages)) are, written)
 
+pub text_named : (query : Meaning) (total : TotalView) (rows : List DirectoryRow) (messages : List Placed) (names : ℕ → List ℕ) (text : List ℕ)
+    (what : What) → (are : AreGatheredOf query total rows messages) → query.what ≡ what → fault_from total.repeated total.unknown ≡ None
+    → ((locate : ℕ) → names locate ≡ name_of rows locate)
+    → IsTextOfAll what names (all_sales (lists_in are.parts query messages)) text
+    → IsAnswerToMessages messages query (Ok text)
+text_named query total rows messages names text what are same none named is =
+    let no = neither (first_repeated (order_rows messages)) (first_unknown (order_rows messages) (executions messages))
+    (fault_is query total rows messages are ∙ none) in
+    text_answers messages query text no.0 no.1
+    (text_asked messages query (selected_sales query messages) names text refl (λ locate. named locate ∙ ap (λ l. name_of l locate) are.names_are)
+    (rw same (text_is what query names messages (all_sales (lists_in are.parts query messages)) text are.by_place
+    (lists_are are.parts query messages are.some are.stamped) is)))
+
 pub text_gathered : {A : Type 0} (query : Meaning) (total : TotalView) (rows : List DirectoryRow) (messages : List Placed) (names : Names A) (text : List ℕ)
     (what : What) → (are : AreGatheredOf query total rows messages) → query.what ≡ what → fault_from total.repeated total.unknown ≡ None → IsNamesOf rows names
     → IsTextOfAll what (names_by names) (all_sales (lists_in are.parts query messages)) text
     → IsAnswerToMessages messages query (Ok text)
 text_gathered query total rows messages names text what are same none named is =
-    let no = neither (first_repeated (order_rows messages)) (first_unknown (order_rows messages) (executions messages))
-    (fault_is query total rows messages are ∙ none) in
-    text_answers messages query text no.0 no.1
-    (text_asked messages query (selected_sales query messages) (names_by names) text refl
-    (λ locate. ap (name_text locate) (named locate) ∙ ap (λ l. name_of l locate) are.names_are)
-    (rw same (text_is what query (names_by names) messages (all_sales (lists_in are.parts query messages)) text are.by_place
-    (lists_are are.parts query messages are.some are.stamped) is)))
+    text_named query total rows messages (names_by names) text what are same none (λ locate. ap (name_text locate) (named locate)) is
 
 -- ---- lists of numbers
 

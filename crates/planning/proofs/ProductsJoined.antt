@@ -1,14 +1,15 @@
 -- What is listed of many lists of sales, joined: one listing, or one table.
-use Rattle.std.proofs.Common.{◌≡◌, ℕ, ◌<◌, All, List, [], ◌∷◌, filter_map, map, IsPermutation, refl, sym, ap, ◌∙◌, subst, arith}
-use Rattle.std.proofs.Common.{Option, Some}
-use Rattle.std.proofs.lemmas.List.Sorted.{All-permutation, IsPermutation-append, IsPermutation-refl, IsPermutation-sym, IsPermutation-trans}
+use Rattle.std.proofs.Common.{◌≡◌, ℕ, ◌+◌, ◌<◌, ◌≤◌, length, All, List, [], ◌∷◌, filter_map, map, IsPermutation, refl, sym, ap, ◌∙◌, subst, arith}
+use Rattle.std.proofs.Common.{Option, Some, None, Ok}
+use Rattle.std.proofs.lemmas.List.Sorted.{All-permutation, IsPermutation-append, length_permutation, IsPermutation-refl, IsPermutation-sym, IsPermutation-trans}
 pub use Rattle.std.proofs.lemmas.Result.{IfOk-weaker as on_ok}
-use Rattle.base.specs.declared.limits.TheConstants.{TIME_LIMIT}
+use Rattle.base.specs.declared.limits.TheConstants.{TIME_LIMIT, TRADE_LIMIT}
 use Rattle.row_types.specs.declared.trade.Sale.{Sale}
 use Rattle.bars.specs.Bars.{AreBarsOfEach, FitIfTraded, IsUnionOf, all_bars}
 use Rattle.bar.specs.declared.bar.Bar.{Bar}
-use Rattle.bars.specs.Steps.{bars_of}
-use Rattle.bars.proofs.BarsOfSales.{bars_of_are, each_alike, union_of_bars}
+use Rattle.bars.specs.Steps.{bars_of, united}
+use Rattle.bars.proofs.BarsOfSales.{AreBarsOf-union, bars_of_are, count_of_each, each_alike, union_of_bars}
+use Rattle.bars.proofs.JoinedTables.{count_of_united, united_is}
 use Rattle.bars.proofs.SumsAreBounded.{all_sums_fit, starts_of_sales}
 use Rattle.time_and_sales.proofs.SortedByPlace.{differ_in_order}
 pub use Rattle.answers.proofs.SelectedSales.{times_fit}
@@ -20,8 +21,11 @@ use Rattle.time_and_sales.specs.Lent.{AreApart, all_sales}
 use Rattle.day_rows.specs.Messages.{Placed}
 use Rattle.buckets.specs.FoundRows.{TotalView}
 use Rattle.buckets.specs.Products.{by_place, product_of}
-use Rattle.buckets.proofs.ProductsOfSales.{by_place_is}
-use Rattle.planning.specs.AllBuckets.{AreGatheredOf, AreProductsOf, Product, listing_of, table_of}
+use Rattle.buckets.proofs.ProductsOfSales.{by_place_is, by_place_rises}
+use Rattle.planning.specs.AllBuckets.{AreGatheredOf, AreProductsOf, IsTextOfAll, Product, fault_from, listing_of, table_of, text_of_products}
+use Rattle.time_and_sales.specs.Names.{name_of}
+use Rattle.answers.specs.Answers.{IsAnswerToMessages}
+use Rattle.planning.proofs.AnswerOfBuckets.{text_named}
 use Rattle.planning.proofs.BucketsOfMessages.{lists_in, lists_listed}
 
 -- what each product gives
@@ -84,3 +88,59 @@ pub gathered_products : (query : Meaning) (total : TotalView) (names : List Dire
 gathered_products query total names messages what products of is same =
     subst (λ w. AreProductsOf w (lists_in of.parts query messages) products) is
     (lists_listed of.parts query messages products of.some of.by_place of.stamped of.few (same ∙ ap (λ (t : TotalView). t.products) of.total_is))
+
+-- ---- the text of all that is listed
+
+-- tables of few sales have few bars together
+pub few_bars : (width : ℕ) (lists : List (List Sale)) (products : List Product) (tables : List (List Bar)) → AreProductsOf (Bars width) lists products
+    → tables ≡ filter_map table_of products → length (united (all_bars tables)) < TRADE_LIMIT
+few_bars width lists products tables of same =
+    omega (arith, count_of_united (all_bars tables), count_of_each width lists tables (tables_are width lists products tables of same), of.few)
+
+-- listings of few sales have few together
+pub few_sales : (lists : List (List Sale)) (products : List Product) (listings : List (List Sale)) → AreProductsOf Sales lists products
+    → listings ≡ filter_map listing_of products → length (by_place (all_sales listings)) < TRADE_LIMIT
+few_sales lists products listings of same =
+    omega (arith, length_permutation _ _ (by_place_is (all_sales listings)), length_permutation _ _ (listings_are lists products listings of same), of.few)
+
+-- what lines of sales ask of listings, and those of bars of tables
+pub can_list : (what : What) (lists : List (List Sale)) (products : List Product) (listings : List (List Sale)) → AreProductsOf what lists products
+    → listings ≡ filter_map listing_of products → what ≡ Sales
+    → AreApart (all_sales listings) × All (λ sale. sale.time < TIME_LIMIT) (all_sales listings) × (length (by_place (all_sales listings)) < TRADE_LIMIT)
+can_list what lists products listings of same is =
+    let sales = subst (λ w. AreProductsOf w lists products) is of in
+    (listings_apart lists products listings sales same, listings_times lists products listings sales same, few_sales lists products listings sales same)
+
+pub can_tabulate : (what : What) (lists : List (List Sale)) (products : List Product) (tables : List (List Bar)) → AreProductsOf what lists products
+    → tables ≡ filter_map table_of products → (width : ℕ) → what ≡ Bars width
+    → FitIfTraded (all_bars tables) × All (λ bar. bar.start < TIME_LIMIT) (all_bars tables) × (length (united (all_bars tables)) < TRADE_LIMIT)
+can_tabulate what lists products tables of same width is =
+    let bars = subst (λ w. AreProductsOf w lists products) is of in
+    (tables_sums width lists products tables bars same, tables_starts width lists products tables bars same, few_bars width lists products tables bars same)
+
+-- the text is that of all sales
+pub text_is_of_all : (what : What) (names : ℕ → List ℕ) (lists : List (List Sale)) (products : List Product) → AreProductsOf what lists products
+    → IsTextOfAll what names (all_sales lists) (text_of_products what names products)
+text_is_of_all Sales names lists products of =
+    let listings = filter_map listing_of products in
+    let are = listings_are lists products listings of refl in (
+      by_place (all_sales listings),
+      by_place_rises (all_sales listings) (listings_apart lists products listings of refl),
+      IsPermutation-trans _ _ _ are (by_place_is (all_sales listings)),
+      refl,
+    )
+text_is_of_all (Bars width) names lists products of =
+    let tables = filter_map table_of products in (
+      united (all_bars tables),
+      AreBarsOf-union width lists tables (united (all_bars tables)) (tables_are width lists products tables of refl) (united_is (all_bars tables)),
+      refl,
+    )
+
+-- so it answers
+pub text_listed : (query : Meaning) (total : TotalView) (rows : List DirectoryRow) (messages : List Placed) (what : What)
+    → AreGatheredOf query total rows messages → query.what ≡ what → fault_from total.repeated total.unknown ≡ None
+    → IsAnswerToMessages messages query (Ok (text_of_products what (name_of rows) total.products))
+text_listed query total rows messages what are same none =
+    text_named query total rows messages (name_of rows) _ what are same none (λ locate. refl)
+    (text_is_of_all what (name_of rows) (lists_in are.parts query messages) total.products
+    (gathered_products query total rows messages what total.products are same refl))

@@ -1,6 +1,6 @@
 -- What all buckets of a message list have found, and the text of what they list.
 -- To be believed of a crate used by itself: the answer isn't defined by buckets.
-use Rattle.std.specs.Prelude.{◌≡◌, ℕ, ◌<◌, ◌+◌, List, length, map, All, Option, Some, None, IsPermutation}
+use Rattle.std.specs.Prelude.{◌≡◌, ℕ, ◌<◌, ◌+◌, List, length, map, filter_map, All, Option, Some, None, IsPermutation}
 use Rattle.base.specs.Least.{numbers_below}
 use Rattle.base.specs.declared.limits.TheConstants.{TRADE_LIMIT}
 use Rattle.order_table.specs.declared.table.Repeated.{Repeated}
@@ -8,11 +8,12 @@ use Rattle.probe.specs.Selection.{admits}
 use Rattle.row_types.specs.declared.trade.Unknown.{Unknown}
 use Rattle.row_types.specs.SalesByPlace.{IsByPlace}
 use Rattle.time_and_sales.specs.Lent.{AreApart, all_sales}
-use Rattle.time_and_sales.specs.Texts.{Sale, listing_text}
+use Rattle.time_and_sales.specs.Texts.{Sale, listing_text, sales_header}
 use Rattle.row_types.specs.declared.directory.DirectoryRow.{DirectoryRow}
-use Rattle.bars.specs.Bars.{AreBarsOf}
+use Rattle.bars.specs.Bars.{AreBarsOf, all_bars}
+use Rattle.bars.specs.Steps.{united}
 use Rattle.bar.specs.declared.bar.Bar.{Bar}
-use Rattle.bars.specs.Texts.{bars_text}
+use Rattle.bars.specs.Texts.{bars_header, bars_text}
 use Rattle.meaning.specs.Meaning.{Meaning}
 use Rattle.meaning.specs.declared.query.What.TheVariants.{Bars, Sales}
 use Rattle.meaning.specs.declared.query.What.{What}
@@ -22,7 +23,7 @@ use Rattle.outcomes.specs.declared.day_fault.DayFault.TheVariants.{RepeatedRefer
 use Rattle.day_rows.specs.Messages.{Placed, break_numbers, directory_rows, executions, own_priced_sales}
 use Rattle.morsel_rows.specs.Partitions.{partition_of}
 use Rattle.buckets.specs.FoundRows.{TotalView, all_found, found_of}
-use Rattle.buckets.specs.Products.{product_of}
+use Rattle.buckets.specs.Products.{by_place, product_of}
 pub use Rattle.buckets.specs.declared.product.Product.{Product}
 pub use Rattle.buckets.specs.declared.product.Product.TheVariants.{Listed, Tabled}
 use Rattle.buckets.specs.Plans.{rising, selection_of}
@@ -70,6 +71,21 @@ pub record AreProductsOf (what : What) (lists : List (List Sale)) (products : Li
   pub few : length (all_sales lists) < TRADE_LIMIT
   pub stamped : All (λ sale. IsStamped sale.time sale.locate) (all_sales lists)
   pub are : products ≡ map (product_of what) lists
+
+-- the text of these listings, or of these tables
+abbrev pub text_of_lists : What → (ℕ → List ℕ) → List (List Sale) → List (List Bar) → List ℕ
+text_of_lists Sales names listings tables = listing_text names (by_place (all_sales listings))
+text_of_lists (Bars width) names listings tables = bars_text names (united (all_bars tables))
+
+-- the text of all that is listed
+abbrev pub text_of_products : What → (ℕ → List ℕ) → List Product → List ℕ
+text_of_products what names products =
+    text_of_lists what names (filter_map listing_of products) (filter_map table_of products)
+
+-- the first line of the text
+abbrev pub header_of : What → List ℕ
+header_of Sales = sales_header
+header_of (Bars width) = bars_header
 
 -- the text of sales in any order: each is listed once, by place, or they have these bars
 abbrev pub IsTextOfAll : What → (ℕ → List ℕ) → List Sale → List ℕ → Type 0

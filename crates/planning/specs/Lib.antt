@@ -1,2 +1,3 @@
 pub mod AllBuckets
+pub mod Lines
 pub mod Planned

@@ -62,7 +62,7 @@ impl BucketTotal {
     }
 
     /// What is listed of each bucket, in the order of their numbers.
-    pub(crate) fn products(&self) -> &[Arc<Product, Global>]
+    pub fn products(&self) -> &[Arc<Product, Global>]
         ensures { map arc_value result.now ≡ self.now.products }
     {
         self.products.as_slice()

@@ -1,6 +1,6 @@
 -- What follows of the promise of a run: it is kept once an answer is handed over, leaves one answer, and leaves the sink
 -- alone.
-use Rattle.std.proofs.Common.{◌≡◌, ℕ, List, Result, Ok, Err, false, subst, sym}
+use Rattle.std.proofs.Common.{◌≡◌, ℕ, List, Result, Ok, Err, false, inr, subst, sym}
 use Rattle.std.proofs.lemmas.Bool.{false≢true}
 use Rattle.outcomes.specs.declared.day_fault.DayFault.{DayFault}
 use Rattle.outcomes.specs.declared.run_fault.RunFault.{RunFault}
@@ -13,7 +13,8 @@ use Rattle.answers.specs.Answers.{IsAnswer}
 use Rattle.answers.proofs.AnswerLaws.{answers_are_one}
 use Rattle.sinks.specs.declared.sink.Sink.{Ghosts as SinkOf}
 use Rattle.day_file.specs.Sources.{Reading}
-use Rattle.runs.specs.Runs.{Answers, IsAnswered, IsHandedOver, Ran, is_write_failed}
+use Rattle.runs.specs.Runs.{Answers, IsAnswered, Ran, is_write_failed}
+use Rattle.runs.specs.Steps.{IsHandedOrRefused}
 
 -- an answer over all that was read, once it is handed over, is what a run of its query promises
 module _ (reading : Reading) {query : Meaning} (words : List ℕ) {answer : Result (List ℕ) DayFault} (means : Means (words_of words) query)
@@ -21,16 +22,16 @@ module _ (reading : Reading) {query : Meaning} (words : List ℕ) {answer : Resu
   told : {r : Result (List ℕ) DayFault} → answer ≡ r → Answers reading words r
   told is = (query, means, subst (IsAnswered reading query) is answered)
 
-  pub ran : {K : Type 0} (sink : SinkOf K) (limit : ℕ) (before after : K) (outcome : Result (Unit {0}) RunFault)
-      → IsHandedOver sink (λ r. answer ≡ r) before after outcome → Ran reading sink words limit before after outcome
-  ran sink limit before after (Ok done) (text, is, took, flushed) = (text, told is, took, flushed)
-  ran sink limit before after (Err (fault.Day f)) w = (told w.0, w.1)
-  ran sink limit before after (Err (fault.WriteFailed written)) (text, is, within, took) = (text, told is, within, took)
-  ran sink limit before after (Err (fault.Query f)) w = absurd w
-  ran sink limit before after (Err fault.ReadFailed) w = absurd w
-  ran sink limit before after (Err (fault.TooLong most)) w = absurd w
-  ran sink limit before after (Err fault.TooManyMorsels) w = absurd w
-  ran sink limit before after (Err fault.OutOfMemory) w = absurd w
+  pub ran : {K : Type 0} (sink : SinkOf K) (limit : ℕ) (before after : K) (outcome : Result (Unit {0}) RunFault) → reading.some
+      → IsHandedOrRefused sink (λ r. answer ≡ r) before after outcome → Ran reading sink words limit before after outcome
+  ran sink limit before after (Ok done) some (text, is, took, flushed) = (text, told is, took, flushed)
+  ran sink limit before after (Err (fault.Day f)) some w = (told w.0, w.1)
+  ran sink limit before after (Err (fault.WriteFailed written)) some (text, is, within, took) = (text, told is, within, took)
+  ran sink limit before after (Err (fault.Query f)) some w = absurd w
+  ran sink limit before after (Err fault.ReadFailed) some w = absurd w
+  ran sink limit before after (Err (fault.TooLong most)) some w = absurd w
+  ran sink limit before after (Err fault.TooManyMorsels) some w = absurd w
+  ran sink limit before after (Err fault.OutOfMemory) some w = (inr (query, means), some, w)
 
 -- a reading that allows one list of bytes leaves one answer
 pub answers_of_one_day : (reading : Reading) → ((day more : List ℕ) → reading.all day → reading.all more → day ≡ more)

@@ -1,8 +1,7 @@
 -- What a run reads of its source, answers, and hands to its sink.
 -- To be believed.
 use Rattle.std.specs.Prelude.{◌≡◌, ℕ, ◌≤◌, ◌⊎◌, Bool, true, false, List, length, take, Some, Result, Ok, Err}
-use Rattle.answers.specs.Answers.{DayFault, IsAnswer, told_by}
-use Rattle.answers.specs.declared.answer.Answer.{Answer}
+use Rattle.answers.specs.Answers.{DayFault, IsAnswer}
 use Rattle.query.specs.Faults.{first_query_fault}
 use Rattle.query.specs.Grammar.{Means}
 use Rattle.meaning.specs.Meaning.{Meaning}
@@ -24,14 +23,16 @@ IsAnswered reading query answer = (day : List ℕ) × reading.all day × reading
 abbrev pub Answers : Reading → List ℕ → Result (List ℕ) DayFault → Type 0
 Answers reading words answer = (query : Meaning) × Means (words_of words) query × IsAnswered reading query answer
 
--- what a call without a sink gives, as `answer_blocks` does: the answer, or a refusal and what it says of the source
-abbrev pub IsAnsweredOrRefused : {A : Type 0} → Reading → Meaning → ℕ → Result (Answer A) RunFault → Type 0
-IsAnsweredOrRefused reading query limit (Ok answer) = IsAnswered reading query (told_by answer)
-IsAnsweredOrRefused reading query limit (Err fault.ReadFailed) = reading.failed
-IsAnsweredOrRefused reading query limit (Err (fault.TooLong most)) = reading.longer × (most ≡ limit)
-IsAnsweredOrRefused reading query limit (Err fault.TooManyMorsels) = reading.too_many
-IsAnsweredOrRefused reading query limit (Err fault.OutOfMemory) = reading.some
-IsAnsweredOrRefused reading query limit (Err _) = ⊥
+-- what a call without a sink gives, as `answer_blocks` does: what tells the answer, or a refusal and what it says of
+-- the source
+abbrev pub IsAnsweredOrRefused : {T : Type 0} → (T → Result (List ℕ) DayFault)
+    → Reading → Meaning → ℕ → Result T RunFault → Type 0
+IsAnsweredOrRefused told reading query limit (Ok answer) = IsAnswered reading query (told answer)
+IsAnsweredOrRefused told reading query limit (Err fault.ReadFailed) = reading.failed
+IsAnsweredOrRefused told reading query limit (Err (fault.TooLong most)) = reading.longer × (most ≡ limit)
+IsAnsweredOrRefused told reading query limit (Err fault.TooManyMorsels) = reading.too_many
+IsAnsweredOrRefused told reading query limit (Err fault.OutOfMemory) = reading.some
+IsAnsweredOrRefused told reading query limit (Err _) = ⊥
 
 -- K is the states of a sink, `before` and `after` those that it had before and after the run, and `sink` the members
 -- of its `Sink`: `sink.Took` says which bytes it took from one state to a later one, and `sink.HasFlushed` that it has

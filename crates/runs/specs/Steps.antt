@@ -3,6 +3,9 @@
 use Rattle.std.specs.Prelude.{◌≡◌, ℕ, ◌<◌, List, Some, Result, Ok, Err, true}
 use Rattle.outcomes.specs.declared.run_fault.RunFault.{RunFault}
 use Rattle.outcomes.specs.declared.run_fault.RunFault.TheVariants as fault
+use Rattle.std.specs.declared.alloc.AllocError.{AllocError}
+use Rattle.sinks.specs.declared.delivering.WriteFailed.{WriteFailed}
+use Rattle.sinks.specs.declared.sink.Sink.{Ghosts as SinkOf}
 use Rattle.gathering.specs.declared.linked.Linked.{Linked}
 use Rattle.gathering.specs.declared.linked.Linked.TheVariants.{Next, Halt}
 use Rattle.pipelines.specs.Outcomes.{IsOutcome}
@@ -25,6 +28,7 @@ use Rattle.block_scan.specs.declared.block_source.BlockSource.{Ghosts as BlockSo
 use Rattle.buckets.specs.BucketRows.{BucketView}
 use Rattle.buckets.specs.Buckets.{total_found}
 use Rattle.buckets.specs.FoundRows.{TotalView}
+use Rattle.runs.specs.Runs.{IsHandedOver}
 use Rattle.planning.specs.Planned.{LinkView, ToBuckets, linked_to}
 
 -- what a refusal says of the words that should be a query
@@ -40,6 +44,25 @@ reported limit source.TooLong = Err (fault.TooLong limit)
 reported limit (source.Truncated place) = Ok (Err (Truncated place))
 reported limit source.TooManyMorsels = Err fault.TooManyMorsels
 reported limit source.OutOfMemory = Err fault.OutOfMemory
+
+-- what comes of a text that is written, or refused for want of memory
+abbrev pub outcome_of : Result (Result (Unit {0}) WriteFailed) AllocError → Result (Unit {0}) RunFault
+outcome_of (Ok (Ok done)) = Ok done
+outcome_of (Ok (Err refused)) = Err (fault.WriteFailed refused.written)
+outcome_of (Err none) = Err fault.OutOfMemory
+
+-- K is the states of a sink, as in `IsHandedOver`
+module _ {K : Type 0} (sink : SinkOf K) where
+  -- an answer was handed over; or there was no memory to begin with, and the sink was left alone
+  abbrev pub IsHandedOrRefused : (Result (List ℕ) DayFault → Type 0) → K → K → Result (Unit {0}) RunFault → Type 0
+  IsHandedOrRefused IsTheAnswer before after (Err fault.OutOfMemory) = after ≡ before
+  IsHandedOrRefused IsTheAnswer before after outcome = IsHandedOver sink IsTheAnswer before after outcome
+
+-- this was handed over to a sink that had taken nothing, and has these bytes now
+abbrev pub IsCollected : Result (Unit {0}) RunFault → List ℕ → Result (List ℕ) DayFault → Type 0
+IsCollected (Ok done) bytes answer = answer ≡ Ok bytes
+IsCollected (Err (fault.Day f)) bytes answer = answer ≡ Err f
+IsCollected (Err _) bytes answer = ⊥
 
 -- both pipelines gave this over a file that is cut into these runs, in some number of partitions
 pub record IsOutcomeOf (query : Meaning) (outcome : Outcome TotalView (List DirectoryRow) WrongLength)

@@ -7,4 +7,3 @@ pub(crate) mod ends;
 pub(crate) mod made;
 pub(crate) mod run;
 pub(crate) mod run_blocks;
-pub(crate) mod trades;

@@ -18,7 +18,7 @@ pub use answers::{Answer, DayFault, Text};
 pub use base::OutOfMemory;
 pub use block_scan::{BlockSource, Division, FileBlocks, ReadsAt};
 pub use calls::alone::{answer_alone, answer_blocks_alone, run_blocks_alone};
-pub use calls::answer::{answer, told_of};
+pub use calls::answer::{answer, answer_of_total, told_of};
 pub use calls::run::run;
 pub use calls::run_blocks::{answer_blocks, run_blocks};
 pub use day_file::{Counted, Cut, DayFile, DeviceFailed, LONGEST_FILE, Source};

@@ -1,1 +1,3 @@
+pub mod FollowedShares
+pub mod TextParts
 pub mod Written

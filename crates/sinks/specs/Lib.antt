@@ -1,2 +1,4 @@
 pub mod Counted
+pub mod Followed
+pub mod TextParts
 pub mod Written

@@ -1,4 +1,4 @@
-//! A whole text written to a sink.
+//! A whole text, or one in pieces, written to a sink.
 ghost use Rattle.std.specs.Prelude.{◌≡◌, ◌<◌, ◌^◌, false, length, IfOk, OnOk};
 ghost use Rattle.sinks.specs.Written.{IsWritten, text_of};
 
@@ -27,25 +27,8 @@ pub fn deliver<K: Sink>(sink: &mut K, text: &[u8]) -> Result<(), WriteFailed>
     }
 }
 
-/// Writes a whole text that is in pieces, one after another, and passes it on.
-pub fn deliver_pieces<K: Sink, A: Allocator>(
-    sink: &mut K,
-    pieces: &[Vec<u8, A>],
-) -> Result<(), WriteFailed>
-    requires whole { K.has_failed sink.old ≡ false }
-    requires short { length (text_of pieces.now) < 2 ^ 64 }
-    ensures written { IsWritten K.Sink sink.old sink.new (text_of pieces.now) result }
-    ensures flushed { OnOk result (K.HasFlushed sink.new) }
-{
-    let written = put_pieces(sink, pieces)?;
-    if sink.flush().is_err() {
-        return Err(WriteFailed { written });
-    }
-    Ok(())
-}
-
 /// Writes all pieces, and says how many bytes they have.
-fn put_pieces<K: Sink, A: Allocator>(
+pub(crate) fn put_pieces<K: Sink, A: Allocator>(
     sink: &mut K,
     pieces: &[Vec<u8, A>],
 ) -> Result<u64, WriteFailed>
@@ -66,7 +49,8 @@ fn put_pieces<K: Sink, A: Allocator>(
     Ok(written)
 }
 
-fn put_all<K: Sink>(sink: &mut K, text: &[u8]) -> Result<(), WriteFailed>
+/// Writes a whole text.
+pub fn put_all<K: Sink>(sink: &mut K, text: &[u8]) -> Result<(), WriteFailed>
     requires { K.has_failed sink.old ≡ false }
     ensures { IsWritten K.Sink sink.old sink.new text.now result }
 {

@@ -31,17 +31,10 @@ pub const BARS: Asked = (
 );
 
 /// Whether an answer is this text, or this fault.
-pub fn is_told<A: Allocator>(
-    alloc: Global,
-    answer: &Answer<A>,
-    want: Result<&str, DayFault>,
-) -> Result<bool, OutOfMemory> {
+pub fn is_told<A: Allocator>(answer: &Answer<A>, want: Result<&str, DayFault>) -> bool {
     match answer {
-        Answer::Printed(text) => match want {
-            Ok(want) => Ok(text.joined(alloc)?.as_slice() == want.as_bytes()),
-            Err(_) => Ok(false),
-        },
-        Answer::Faulty(fault) => Ok(want == Err(*fault)),
+        Answer::Printed(text) => want.is_ok_and(|want| text.bytes() == want.as_bytes()),
+        Answer::Faulty(fault) => want == Err(*fault),
     }
 }
 
@@ -112,7 +105,7 @@ fn by_morsels<G: Gate, R: Threads + Wait + Sync>(
     let cut = cut(alloc, &file_of(bytes)?, 1)?;
     let answer = match crew {
         Some(crew) => answer(rt, alloc, &cut, query, parts, crew, gate),
-        None => answer_alone(rt, alloc, &cut, query, parts, gate),
+        None => answer_alone(alloc, &cut, query, parts, gate),
     };
     Ok(answer?)
 }
@@ -140,7 +133,7 @@ fn by_blocks<G: Gate, R: Threads + Wait + Sync>(
             let division = Division { bytes: 34, blocks };
             answer_blocks(rt, alloc, &source, division, query, settings, gate)
         }
-        None => answer_blocks_alone(rt, alloc, &source, query, settings, gate),
+        None => answer_blocks_alone(alloc, &source, query, settings, gate),
     };
     Ok(answer?)
 }
@@ -159,7 +152,7 @@ pub fn is_answered<G: Gate, R: Threads + Wait + Sync>(
 {
     let (query, forms, want) = asked;
     let answer = answer_of_day(rt, alloc, way, query, forms, parts, crew, gate)?;
-    Ok(is_told(alloc, &answer, Ok(want))?)
+    Ok(is_told(&answer, Ok(want)))
 }
 
 /// Whether it is answered so in both ways, without a gate.

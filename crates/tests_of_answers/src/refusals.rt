@@ -21,25 +21,24 @@ const QUERY: &str = "sales where symbol in MSFT";
 
 /// Whether `plain`, with all that it keeps in this room, answers so.
 fn is_told_in<A: Allocator + Copy>(
-    alloc: Global,
     room: A,
     file: &DayFile<A>,
     query: &Query<A>,
     want: Result<&str, DayFault>,
 ) -> Result<bool, OutOfMemory> {
     let answer = plain(room, file, query)?;
-    is_told(alloc, &answer, want)
+    Ok(is_told(&answer, want))
 }
 
 /// Whether it answers all sales of `NAMED`, of which the file and the query are in this heap too.
-fn is_told_within(alloc: Global, heap: &LocalHeap, bytes: &[u8]) -> Result<bool, OutOfMemory> {
+fn is_told_within(heap: &LocalHeap, bytes: &[u8]) -> Result<bool, OutOfMemory> {
     let bytes = Vec::from_slice(heap, bytes)?;
     if bytes.len() as u64 > LONGEST_FILE {
         return Ok(false);
     }
     let file = DayFile::of_bytes(bytes);
     match parse(heap, QUERY) {
-        Ok(query) => is_told_in(alloc, heap, &file, &query, Ok(NAMED_TEXT)),
+        Ok(query) => is_told_in(heap, &file, &query, Ok(NAMED_TEXT)),
         Err(_) => Err(AllocError),
     }
 }
@@ -50,7 +49,7 @@ fn a_refused_growth_is_told_by_plain(rt: HostRuntime) -> Result<(), Fail> {
     let mut refused = 0u32;
     for step in 0..400u32 {
         let heap = LocalHeap::new(rt.alloc(), step as usize * 16)?;
-        match is_told_within(rt.alloc(), &heap, bytes.as_slice()) {
+        match is_told_within(&heap, bytes.as_slice()) {
             Ok(is_told) => assert!(rt; is_told),
             Err(OutOfMemory) => refused = step,
         }
@@ -112,7 +111,7 @@ fn is_told_by_plain(alloc: Global, asked: &AskedRow) -> Result<bool, Fail> {
     let (query, forms, want) = asked;
     let file = file_of(Day::of(alloc, forms)?.bytes)?;
     let query = parse(alloc, query)?;
-    Ok(is_told_in(alloc, alloc, &file, &query, *want)?)
+    Ok(is_told_in(alloc, &file, &query, *want)?)
 }
 
 /// Run also with each allocation of the process refused in turn.
@@ -241,7 +240,7 @@ fn is_so(
 ) -> Result<bool, OutOfMemory> {
     match rehearsal {
         Rehearsal::Finished(answer) => match want {
-            Ok(text) => is_told(alloc, answer, Ok(text)),
+            Ok(text) => Ok(is_told(answer, Ok(text))),
             Err(_) => Ok(false),
         },
         Rehearsal::Missing { pipeline, task } => Ok(want == Err((*pipeline, *task))),

@@ -1,14 +1,14 @@
 //! A day that is answered by few workers or by several gatherers, while a gate holds or counts runs.
 use crate::answering::{
-    BARS, SALES, TWO, WAYS, Way, answer_of_day, is_answered, is_answered_freely, is_answered_under,
+    BARS, SALES, TWO, WAYS, Way, is_answered, is_answered_freely, is_answered_under,
 };
-use executor::{Answer, Crew, FreeGate, Gate};
+use executor::{Crew, Gate};
 use std::alloc::Global;
 use std::sync::Wait;
 use std::sync::atomic::{AtomicU64, Ordering};
 use std::test::Fail;
 use std::thread::Threads;
-use tests_support::{Counter, Form, Heard, Hold};
+use tests_support::{Counter, Heard, Hold};
 
 /// This many workers, and one gatherer.
 fn crew_of(workers: u32) -> Option<Crew> {
@@ -110,41 +110,6 @@ fn the_caller_answers_a_short_day_alone(rt: HostRuntime) -> Result<(), Fail> {
     assert!(rt; is_answered_alone(&rt, rt.alloc(), Way::Morsels, 68)?);
     assert!(rt; is_answered_alone(&rt, rt.alloc(), Way::Blocks, 65)?);
     Ok(())
-}
-
-/// Sixty-four trades of one moment.
-const TRADES: [Form; 64] = [Form::P(100, 4_107_000, 12); 64];
-
-/// How many bytes the line of such a trade has.
-const LINE: usize = 40;
-
-/// The text has its header, and a piece for each worker. No piece of sales has more than twice its share of the lines.
-#[test]
-fn each_worker_makes_its_share_of_the_text(rt: HostRuntime) -> Result<(), Fail> {
-    for (way, query, workers, most) in [
-        (Way::Morsels, "sales", 1, 64 * LINE),
-        (Way::Morsels, "sales", 4, 32 * LINE),
-        (Way::Blocks, "sales", 4, 32 * LINE),
-        (Way::Blocks, "bars 1 m", 4, 64 * LINE),
-    ] {
-        let crew = crew_of(workers);
-        let answer = answer_of_day(&rt, rt.alloc(), way, query, &TRADES, 1, crew, &FreeGate)?;
-        assert!(rt; is_shared_out(&answer, workers as usize + 1, most));
-    }
-    Ok(())
-}
-
-/// Whether an answer is a text of `count` pieces, none of which has more bytes than `most`.
-fn is_shared_out(answer: &Answer, count: usize, most: usize) -> bool {
-    let Answer::Printed(text) = answer else {
-        return false;
-    };
-    for piece in text.pieces() {
-        if piece.len() > most {
-            return false;
-        }
-    }
-    text.pieces().len() == count
 }
 
 /// Two workers, and two gatherers.

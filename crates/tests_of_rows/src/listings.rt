@@ -1,17 +1,23 @@
-//! Listings: merged by place, or refused and as they were, and their lines, which threads make by ranges.
-ghost use Rattle.std.specs.Prelude.{◌≡◌, ◌<◌, ◌++◌, All, IfOk, [], ◌∷◌};
-ghost use Rattle.base.specs.declared.limits.TheConstants.{TIME_LIMIT};
-ghost use Rattle.time_and_sales.specs.Lent.{AreApart, all_sales};
+//! Listings: merged by place, or refused and as they were, and their lines in parts.
+ghost use Rattle.std.specs.Prelude.{◌≡◌, ◌<◌, ◌++◌, All, IfOk, [], ◌∷◌, length};
+ghost use Rattle.std.specs.List.Sorted.{IsPermutation};
+ghost use Rattle.base.specs.declared.limits.TheConstants.{TIME_LIMIT, TRADE_LIMIT};
+ghost use Rattle.row_types.specs.SalesByPlace.{IsByPlace};
+ghost use Rattle.time_and_sales.specs.Lent.{AreApart, all_sales, lent};
 
-use crate::ranges::{is_made, names};
+use crate::bar_lines::names;
+use crate::parts::{Trial, pass};
 use crate::room::{Came, needs_more};
 use crate::rows::{pass_if, pass_told};
 use linked_list_allocator::LocalHeap;
 use probe::{Kind, Sale};
+use sinks::Parts;
 use std::alloc::{Allocator, Global};
+use std::marker::Brand;
+use std::sync::Wait;
 use std::test::Fail;
 use std::thread::Threads;
-use time_and_sales::{Listing, OutOfMemory, lines_in_ranges};
+use time_and_sales::{AllSales, Listing, OutOfMemory, SaleLines};
 
 fn sale(place: u64, locate: u16) -> Sale
     ensures place { result.place ≡ place }
@@ -125,23 +131,59 @@ fn no_listings_have_no_sales(rt: HostRuntime) -> Result<(), Fail> {
     pass_told(none_are_empty(rt.alloc()))
 }
 
-const LINES: &str = "09:30:01.000000005,#9,E,410.5000,40,9
+const LINES: &str = "header
+09:30:01.000000005,#9,E,410.5000,40,9
 09:30:01.000000005,ZVZZT,E,410.5000,40,9
 09:30:01.000000005,MSFT,E,410.5000,40,9
 ";
 
-/// Whether threads make the lines of the two by `ranges` ranges, in as many pieces.
-fn are_lines(rt: &(impl Threads + Sync), alloc: Global, ranges: u32) -> Result<bool, OutOfMemory> {
+/// Whether the lines of listings are in a part for each thread, and pass a trial. The proof of a call names the sales:
+/// they are those of `all`.
+fn lines_pass<J: AllSales, R: Threads + Wait + Sync>(
+    rt: &R,
+    alloc: Global,
+    listings: &[&Listing],
+    all: &Listing,
+    threads: u32,
+    trial: Trial,
+) -> Result<bool, OutOfMemory>
+    requires by_place { IsByPlace J.sales }
+    requires all { IsPermutation (all_sales (lent listings.now)) J.sales }
+    requires times { All (λ sale. sale.time < TIME_LIMIT) (all_sales (lent listings.now)) }
+    requires few { length J.sales < TRADE_LIMIT }
+{
     let names = names(alloc)?;
-    let (one, other) = listings(alloc)?;
-    let made = lines_in_ranges(rt, alloc, &[&one, &other], &names, ranges);
-    Ok(is_made(made, LINES, ranges))
+    let lines = SaleLines::<J>::new(alloc, listings, &names, threads)?;
+    let are_even = lines.count() == threads as usize && all.items().len() == 3;
+    Ok(are_even && pass(rt, alloc, &lines, LINES.as_bytes(), trial)?)
 }
 
-/// Whether they do by each of these numbers of ranges.
-fn are_lines_by_each(rt: &(impl Threads + Sync), alloc: Global) -> Result<bool, OutOfMemory> {
-    for ranges in &[1, 2, 3, 5, 100] {
-        if !are_lines(rt, alloc, *ranges)? {
+/// The same of the two.
+fn both_pass<R: Threads + Wait + Sync>(
+    rt: &R,
+    alloc: Global,
+    threads: u32,
+    trial: Trial,
+) -> Result<bool, OutOfMemory> {
+    let (one, other) = listings(alloc)?;
+    let mut sales = Vec::from_slice(alloc, one.items())?;
+    sales.extend_from_slice(other.items())?;
+    let all = Listing::of_sales(sales);
+    if all.items().len() > 3 {
+        return Ok(false);
+    }
+    lines_pass::<Brand, R>(rt, alloc, &[&one, &other], &all, threads, trial)
+}
+
+/// The same of each of these numbers of threads.
+fn pass_by_each<R: Threads + Wait + Sync>(
+    rt: &R,
+    alloc: Global,
+    numbers: &[u32],
+    trial: Trial,
+) -> Result<bool, OutOfMemory> {
+    for threads in numbers {
+        if !both_pass(rt, alloc, *threads, trial)? {
             return Ok(false);
         }
     }
@@ -149,6 +191,23 @@ fn are_lines_by_each(rt: &(impl Threads + Sync), alloc: Global) -> Result<bool, 
 }
 
 #[test]
-fn lines_of_sales_in_ranges_are_those_of_one_listing(rt: HostRuntime) -> Result<(), Fail> {
-    pass_told(are_lines_by_each(&rt, rt.alloc()))
+fn lines_of_sales_in_parts_are_those_of_one_listing(rt: HostRuntime) -> Result<(), Fail> {
+    pass_told(pass_by_each(&rt, rt.alloc(), &[1, 2, 3, 5, 100], Trial::Whole))
+}
+
+#[test]
+fn a_part_of_sales_is_written_slowly_as_it_is_made(rt: HostRuntime) -> Result<(), Fail> {
+    pass_told(pass_by_each(&rt, rt.alloc(), &[1, 2, 3, 5], Trial::Slow))
+}
+
+#[test]
+fn a_sink_without_room_has_the_first_lines_of_sales(rt: HostRuntime) -> Result<(), Fail> {
+    pass_told(pass_by_each(&rt, rt.alloc(), &[1, 3], Trial::Short))
+}
+
+/// Once there are lines, their text is whole, whatever is refused. Run also with each allocation and each thread of the
+/// process refused in turn.
+#[test]
+fn lines_or_want_of_memory(rt: HostRuntime) -> Result<(), Fail> {
+    pass_told(pass_by_each(&rt, rt.alloc(), &[1, 3], Trial::Free))
 }

@@ -1,18 +1,16 @@
 -- Items in ranges of numbers: what a search finds, and that the texts of all ranges are the text of the whole.
-use Rattle.std.proofs.Common.{◌≡◌, ℕ, suc, ◌+◌, ◌-◌, ◌<◌, ◌≤◌, Bool, true, false, not, ◌&&◌, ltb, All, List, [], ◌∷◌, ◌++◌, length, map, max, take, drop}
-use Rattle.std.proofs.Common.{get_or, filter, Bor, Vec, Result, Ok, refl, sym, ap, ap₂, subst, ◌∙◌, arith, rules, inl, inr, length-drop, flat_map}
-use Rattle.std.specs.Fn.{FnReturnsAt, Shared}
+use Rattle.std.proofs.Common.{◌≡◌, ℕ, zero, suc, ◌+◌, ◌-◌, ◌<◌, ◌≤◌, Bool, true, false, not, ◌&&◌, ltb, All, List, [], ◌∷◌, ◌++◌, length, max, take, drop}
+use Rattle.std.proofs.Common.{get_or, filter, refl, sym, ap, ap₂, ◌∙◌, arith, rules, inl, inr, length-drop, flat_map}
 use Rattle.std.specs.List.Sorted.{IsNonDecreasingBy, IsPartitionPoint}
-use Rattle.std.proofs.lemmas.Bool.{cases_Bool, le-ltb, ltb-false, ltb-true}
+use Rattle.std.proofs.lemmas.Bool.{cases_Bool, le-ltb, ltb-false}
 use Rattle.std.proofs.lemmas.Bool.Decides.{nat_tests}
-use Rattle.std.proofs.lemmas.List.{append-nil, drop-drop, get_or-append_right, get_or_append_left, get_or-drop, get_or-take, length-append, length-map}
-use Rattle.std.proofs.lemmas.List.{length-take-le, map-append, take-append-drop, take_rest}
+use Rattle.std.proofs.lemmas.List.{append-nil, get_or-drop, get_or-take}
+use Rattle.std.proofs.lemmas.List.{length-take-le, take-append-drop, take_rest}
 use Rattle.std.proofs.lemmas.List.Concat.{flat_map-append}
 use Rattle.std.proofs.lemmas.List.Elements.{filter-append, All-head, All-tail}
 use Rattle.std.proofs.lemmas.List.Kept.{IsNonDecreasingBy-filter}
 use Rattle.base.proofs.Lists.{filter_of_filter}
-use Rattle.time_and_sales.specs.Ranges.{GivesRanges, all_items, greatest_so_far, is_in_first}
-use Rattle.time_and_sales.specs.Turns.{AreTextsOf}
+use Rattle.time_and_sales.specs.Ranges.{greatest_so_far, is_in_first, texts_of_ranges}
 
 -- ---- what a search finds
 
@@ -72,9 +70,6 @@ two_bounds number (low ∷ high ∷ bounds) xs h = filter_both (λ x. ltb (numbe
 not_lower : (low high n : ℕ) → low ≤ high → not (ltb n high) ≡ true → not (ltb n low) ≡ true
 not_lower low high n le h = grind (arith, nat_tests)
 
-abbrev told : {T E : Type 0} → T → Result T E
-told t = Ok t
-
 module _ {X : Type 0} (number : X → ℕ) where
   abbrev from : ℕ → X → Bool
   from low x = not (ltb (number x) low)
@@ -99,49 +94,40 @@ module _ {X : Type 0} (number : X → ℕ) where
       sym (ap₂ ◌++◌ (filter_both (below high) (from low) xs) (filter_of_filter (from high) (from low) (λ x. not_lower low high (number x) le) xs))
       ∙ halves high (filter (from low) xs) (IsNonDecreasingBy-filter number (from low) xs up)
 
--- the texts of the first ranges and those of the ranges behind them
-pub texts_join : {F Z E : Type 0} (calls : Shared F (Bor (List ℕ) × Unit {0}) (Result (Vec ℕ Z) E)) (f : F)
-    (bounds : List ℕ) (low high count : ℕ) (a b : List (Vec ℕ Z)) → AreTextsOf calls f bounds low a
-    → AreTextsOf calls f (take (length bounds - low) (drop low bounds)) high b → count ≡ low + high → AreTextsOf calls f bounds count (a ++ b)
-texts_join {F} {Z} {E} calls f bounds low high count a b first taken all =
-    let rest = subst (λ bs. AreTextsOf calls f bs high b) (take_rest bounds low) taken in
-    let ok : Vec ℕ Z → Result (Vec ℕ Z) E = told in
-    let fronts = length-map a ok in
-    record {
-      few = omega (arith, length-append a b, first.few, rest.few, all);
-      each = λ n d h. subst (λ rs. FnReturnsAt calls f (drop n bounds) (get_or rs n d)) (sym (map-append ok a b)) (elim (cases_Bool (ltb n low)) [
-        | inl e ↦ (let before = ltb-true _ _ e in
-            subst (FnReturnsAt calls f (drop n bounds)) (sym (get_or_append_left (map ok a) (map ok b) d n (omega (arith, before, fronts, first.few))))
-            (first.each n d before))
-        | inr e ↦ (let behind = ltb-false _ _ e in
-            subst (FnReturnsAt calls f (drop n bounds)) (sym (get_or-append_right (map ok a) (map ok b) low n d (fronts ∙ first.few) behind))
-            (subst (λ bs. FnReturnsAt calls f bs (get_or (map ok b) (n - low) d))
-            (drop-drop (n - low) low bounds ∙ ap (λ k. drop k bounds) (omega (arith, behind)))
-            (rest.each (n - low) d (omega (arith, behind, h, all)))))
-      ]);
-    }
+-- ---- the texts of the ranges
 
--- the texts of all ranges, one after another, are the text of all
-module _ {F X Z E : Type 0} (calls : Shared F (Bor (List ℕ) × Unit {0}) (Result (Vec ℕ Z) E)) (f : F)
-    (number : X → ℕ) (line : X → List ℕ) (xs : List X) (up : IsNonDecreasingBy number xs) (gives : GivesRanges calls f number line xs) where
-  one_range : (bounds : List ℕ) (t : Vec ℕ Z) → FnReturnsAt calls f bounds (Ok t) → t.items ≡ flat_map line (filter (is_in_first number bounds) xs)
-  one_range bounds t at = gives at.shown t at.says.met ∙ ap (λ b. flat_map line (filter (is_in_first number b) xs)) at.shows
+pub length-greatest_so_far : (bound : ℕ) (numbers : List ℕ) → length (greatest_so_far bound numbers) ≡ length numbers
+length-greatest_so_far bound [] = refl
+length-greatest_so_far bound (number ∷ numbers) = ap suc (length-greatest_so_far (max bound number) numbers)
 
-  from_bound : (low : ℕ) (numbers : List ℕ) (texts : List (Vec ℕ Z)) → length texts ≡ length (low ∷ greatest_so_far low numbers)
-      → ((n : ℕ) (d : Result (Vec ℕ Z) E) → n < length (low ∷ greatest_so_far low numbers)
-      → FnReturnsAt calls f (drop n (low ∷ greatest_so_far low numbers)) (get_or (map told texts) n d))
-      → all_items texts ≡ flat_map line (filter (from number low) xs)
-  from_bound low numbers [] count each = absurd (omega (arith, count))
-  from_bound low [] (t ∷ []) count each = append-nil t.items ∙ one_range (low ∷ []) t (each 0 (told t) (omega arith))
-  from_bound low [] (t ∷ s ∷ texts) count each = absurd (omega (arith, count))
-  from_bound low (n ∷ numbers) (t ∷ texts) count each =
+module _ {X : Type 0} (number : X → ℕ) (line : X → List ℕ) (xs : List X) where
+  pub length_texts : (bounds : List ℕ) → length (texts_of_ranges number line xs bounds) ≡ length bounds
+  length_texts [] = refl
+  length_texts (low ∷ bounds) = ap suc (length_texts bounds)
+
+  text_of_range : (bounds : List ℕ) (n : ℕ) → n < length bounds
+      → get_or (texts_of_ranges number line xs bounds) n [] ≡ flat_map line (filter (is_in_first number (drop n bounds)) xs)
+  text_of_range [] n h = absurd (omega (arith, h))
+  text_of_range (low ∷ bounds) zero h = refl
+  text_of_range (low ∷ bounds) (suc n) h = text_of_range bounds n (omega (arith, h))
+
+  -- the text of a part, by the bounds from its own on
+  pub text_of_part : (bounds slice : List ℕ) (part : ℕ) (texts : List (List ℕ)) → slice ≡ bounds → texts_of_ranges number line xs bounds ≡ texts
+      → part < length texts → get_or texts part [] ≡ flat_map line (filter (is_in_first number (take (length slice - part) (drop part slice))) xs)
+  text_of_part bounds slice part texts same are within =
+      ap (λ l. get_or l part []) (sym are)
+      ∙ text_of_range bounds part (omega (arith, length_texts bounds, ap length are, within))
+      ∙ ap (λ b. flat_map line (filter (is_in_first number b) xs)) (ap (drop part) (sym same) ∙ sym (take_rest slice part))
+
+  texts_from : (low : ℕ) (numbers : List ℕ) → IsNonDecreasingBy number xs
+      → flat_map (λ (text : List ℕ). text) (texts_of_ranges number line xs (low ∷ greatest_so_far low numbers)) ≡ flat_map line (filter (from number low) xs)
+  texts_from low [] up = append-nil (flat_map line (filter (from number low) xs))
+  texts_from low (n ∷ numbers) up =
       let high = max low n in
-      let first = one_range (low ∷ high ∷ greatest_so_far high numbers) t (each 0 (told t) (omega arith)) in
-      let more = from_bound high numbers texts (omega (arith, count)) (λ k d h. each (suc k) d (omega arith)) in
-      ap₂ ◌++◌ first more ∙ sym (flat_map-append line _ _) ∙ ap (flat_map line) (split number low high xs (omega arith) up)
+      let first = flat_map line (filter (is_in_first number (low ∷ high ∷ [])) xs) in
+      ap (λ l. first ++ l) (texts_from high numbers up) ∙ sym (flat_map-append line _ _) ∙ ap (flat_map line) (split number low high xs (omega arith) up)
 
-  pub ranges_join : (numbers bounds : List ℕ) (texts : List (Vec ℕ Z)) → bounds ≡ 0 ∷ greatest_so_far 0 numbers
-      → AreTextsOf calls f bounds (length bounds) texts → all_items texts ≡ flat_map line xs
-  ranges_join numbers bounds texts is made =
-      let all = subst (λ b. AreTextsOf calls f b (length b) texts) is made in
-      from_bound 0 numbers texts all.few all.each ∙ ap (flat_map line) (all_pass (from number 0) xs (λ k d h. ap not (le-ltb _ _ (omega arith))))
+  -- the texts of the ranges, one after another, are the text of all
+  pub texts_of_all : (numbers : List ℕ) → IsNonDecreasingBy number xs
+      → flat_map (λ (text : List ℕ). text) (texts_of_ranges number line xs (0 ∷ greatest_so_far 0 numbers)) ≡ flat_map line xs
+  texts_of_all numbers up = texts_from 0 numbers up ∙ ap (flat_map line) (all_pass (from number 0) xs (λ k d h. ap not (le-ltb _ _ (omega arith))))

@@ -1,8 +1,6 @@
 -- Ranges of numbers, and texts in pieces.
 -- To be believed of a crate used by itself: clauses on a text that is made in ranges are in these words.
-use Rattle.std.specs.Prelude.{◌≡◌, ℕ, Bool, false, not, ◌&&◌, nat_lt, max, List, [], ◌∷◌, Vec, Result, Ok, filter}
-use Rattle.std.specs.Borrow.{Bor}
-use Rattle.std.specs.Fn.{Shared}
+use Rattle.std.specs.Prelude.{ℕ, Bool, true, false, not, ◌&&◌, nat_lt, max, List, [], ◌∷◌, Vec, Option, Some, None, filter}
 use Rattle.std.specs.List.{flat_map}
 
 -- the items of all vectors, vector by vector
@@ -15,13 +13,18 @@ is_in_first number [] x = false
 is_in_first number (low ∷ []) x = not (nat_lt (number x) low)
 is_in_first number (low ∷ high ∷ bounds) x = not (nat_lt (number x) low) && nat_lt (number x) high
 
+-- the number of an item is greater than the last one; there may be none yet
+abbrev pub is_behind : {X : Type 0} → (X → ℕ) → Option ℕ → X → Bool
+is_behind number None x = true
+is_behind number (Some last) x = nat_lt last (number x)
+
+-- the texts of the ranges that begin at the bounds: each has the lines of the items in it
+abbrev pub texts_of_ranges : {X : Type 0} → (X → ℕ) → (X → List ℕ) → List X → List ℕ → List (List ℕ)
+texts_of_ranges number line items [] = []
+texts_of_ranges number line items (low ∷ bounds) =
+    flat_map line (filter (is_in_first number (low ∷ bounds)) items) ∷ texts_of_ranges number line items bounds
+
 -- the greatest number so far, for each of the numbers in turn
 abbrev pub greatest_so_far : ℕ → List ℕ → List ℕ
 greatest_so_far bound [] = []
 greatest_so_far bound (number ∷ numbers) = max bound number ∷ greatest_so_far (max bound number) numbers
-
--- each text that a call of f with some bounds may give has the lines of the items that are in the first range
-abbrev pub GivesRanges : {F X Z E : Type 0} → Shared F (Bor (List ℕ) × Unit {0}) (Result (Vec ℕ Z) E) → F
-    → (X → ℕ) → (X → List ℕ) → List X → Type 0
-GivesRanges {F} {X} {Z} calls f number line items = (bounds : Bor (List ℕ)) (text : Vec ℕ Z)
-    → calls.post f (bounds, tt) (Ok text) → text.items ≡ flat_map line (filter (is_in_first number bounds.now) items)

@@ -1,7 +1,7 @@
-//! Items in the order of a number that each of them has, and the search for a range of numbers.
-ghost use Rattle.std.specs.Prelude.{◌≡◌, ℕ, ◌-◌, ◌≤◌, IfOk, filter, length, nat_lt, not};
+//! Items in the order of a number that each of them has, ranges of numbers, and the search for what is in a range.
+ghost use Rattle.std.specs.Prelude.{◌≡◌, ℕ, ◌∷◌, ◌-◌, ◌≤◌, IfOk, filter, length, nat_lt, not};
 ghost use Rattle.std.specs.List.Sorted.{IsNonDecreasingBy};
-ghost use Rattle.time_and_sales.specs.Ranges.{is_in_first};
+ghost use Rattle.time_and_sales.specs.Ranges.{greatest_so_far, is_behind, is_in_first};
 
 use crate::OutOfMemory;
 use std::alloc::Global;
@@ -33,6 +33,21 @@ pub fn numbers_of<N: Numbered<T>, T>(
     Ok(numbers)
 }
 
+/// The least numbers of ranges: 0, then the greatest of the numbers so far, for each of them in turn. So no range
+/// begins below the one before it, whatever the order of the numbers.
+pub fn bounds_of(alloc: Global, numbers: &[u64]) -> Result<Vec<u64>, OutOfMemory>
+    ensures { IfOk result (λ bounds. bounds.items ≡ 0 ∷ greatest_so_far 0 numbers.now) }
+{
+    let mut bounds = Vec::with_capacity(alloc, numbers.len().saturating_add(1))?;
+    let mut bound = 0;
+    bounds.push(bound)?;
+    for number in numbers {
+        bound = bound.max(*number);
+        bounds.push(bound)?;
+    }
+    Ok(bounds)
+}
+
 /// The items whose numbers are in the first range.
 pub fn within<'a, N: Numbered<T>, T>(items: &'a [T], bounds: &[u64]) -> &'a [T]
     requires { IsNonDecreasingBy N.number_of items.now }
@@ -53,4 +68,17 @@ fn parted<N: Numbered<T>, T>(items: &[T], number: u64) -> (&[T], &[T])
     ensures rise { IsNonDecreasingBy N.number_of result.1.now }
 {
     items.split_at(items.partition_point(|item| N::number(item) < number))
+}
+
+/// The items whose numbers are greater than the last one: all of them, if there is none yet.
+pub fn behind<N: Numbered<T>, T>(items: &[T], last: Option<u64>) -> &[T]
+    requires { IsNonDecreasingBy N.number_of items.now }
+    ensures { result.now ≡ filter (is_behind N.number_of last) items.now }
+{
+    match last {
+        Some(last) => items
+            .split_at(items.partition_point(|item| N::number(item) <= last))
+            .1,
+        None => items,
+    }
 }

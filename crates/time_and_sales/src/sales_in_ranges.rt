@@ -1,69 +1,39 @@
-//! The lines of many listings, of ranges of places by threads.
+//! The lines of the sales of many listings, of a range of places.
 ghost use Rattle.std.specs.Prelude.{◌≡◌, ℕ, ◌<◌, ◌≤◌, All, IfOk, List, filter, length, map, slice_index_or};
 ghost use Rattle.std.specs.Iterator.Adapters.{copied_source};
 ghost use Rattle.std.specs.List.Sorted.{IsNonDecreasingBy, IsPermutation};
 ghost use Rattle.std.specs.Slice.Iter.{iter_rest};
 ghost use Rattle.base.specs.declared.limits.TheConstants.{TIME_LIMIT};
-ghost use Rattle.time_and_sales.specs.Ranges.{all_items, is_in_first};
+ghost use Rattle.time_and_sales.specs.Ranges.{is_in_first};
 ghost use Rattle.row_types.specs.declared.trade.Sale.{Sale};
 ghost use Rattle.row_types.specs.SalesByPlace.{IsByPlace};
-ghost use Rattle.time_and_sales.specs.Lent.{AreApart, all_sales, lent};
+ghost use Rattle.time_and_sales.specs.Lent.{all_sales, lent};
 ghost use Rattle.time_and_sales.specs.Names.{names_by};
 ghost use Rattle.time_and_sales.specs.Texts.{lines_text};
 
 use crate::OutOfMemory;
 use crate::listings::{ByPlace, Listing};
-use crate::made_names::{made_names, write_named};
+use crate::made_names::write_named;
 use crate::names::Names;
-use crate::numbered::{numbers_of, within};
-use crate::range_texts::texts_in_ranges;
+use crate::numbered::within;
 use crate::symbol::Name;
 use itertools::Itertools;
 use row_types::Sale;
 use std::alloc::Global;
 use std::iter::Copied;
 use std::slice::Iter;
-use std::thread::Threads;
 
 /// How many bytes most lines have at most.
 const USUAL_LINE: usize = 48;
 
-/// The lines of the sales of all listings, by place, in pieces that are one text when they are put
-/// together. There are at most `threads` pieces: each is of the sales in a range of
-/// places, which a thread of its own merges and writes. It is refused if a thread was refused memory.
-pub fn lines_in_ranges<R: Threads + Sync>(
-    rt: &R,
-    alloc: Global,
-    listings: &[&Listing],
-    names: &Names,
-    threads: u32,
-) -> Result<Vec<Vec<u8>>, OutOfMemory>
-    requires apart { AreApart (all_sales (lent listings.now)) }
-    requires times { All (λ sale. sale.time < TIME_LIMIT) (all_sales (lent listings.now)) }
-    ensures { IfOk result (λ texts. (all : List Sale) → IsByPlace all →
-        IsPermutation (all_sales (lent listings.now)) all →
-        all_items texts.items ≡ lines_text (names_by names.now) all) }
-{
-    let longest = longest(listings);
-    let places = numbers_of::<ByPlace, _>(alloc, longest, threads)?;
-    let made = made_names(alloc, names, longest.len())?;
-    texts_in_ranges::<Sale, _, _>(
-        rt,
-        alloc,
-        places.as_slice(),
-        threads,
-        &|bounds: &[u64]| range_lines(alloc, listings, made.as_slice(), names, bounds),
-    )
-}
-
 /// The sales of the longest listing.
-fn longest<'a>(listings: &[&'a Listing]) -> &'a [Sale] {
+pub(crate) fn longest<'a>(listings: &[&'a Listing]) -> &'a [Sale] {
     let sales = listings.iter().map(|listing| listing.items());
     sales.max_by_key(|sales| sales.len()).unwrap_or(&[])
 }
 
 /// The lines of the sales of all listings that are in the first range.
-fn range_lines(
+pub(crate) fn range_lines(
     alloc: Global,
     listings: &[&Listing],
     made: &[Name],
@@ -103,7 +73,7 @@ fn parts_of<'a>(
 
 /// How many sales of all listings are in the first range, for room for them to be made.
 #[tactic(auto, using(crate::proofs::SortedByPlace::places_rise))]
-fn count_within(listings: &[&Listing], bounds: &[u64]) -> usize {
+pub(crate) fn count_within(listings: &[&Listing], bounds: &[u64]) -> usize {
     let mut count = 0usize;
     for listing in listings {
         count = count.saturating_add(within::<ByPlace, _>(listing.items(), bounds).len());

@@ -5,13 +5,15 @@ ghost use Rattle.std.specs.List.{concat};
 ghost use Rattle.base.specs.declared.limits.TheConstants.{MOST_PARTITIONS};
 ghost use Rattle.answers.specs.Answers.{IsAnswer, told_by};
 ghost use Rattle.block_scan.specs.Blocks.{GaveWhole, IsBlocksFault, of_blocks};
+ghost use Rattle.runs.specs.Made.{IsReady, told};
 ghost use Rattle.runs.specs.Runs.{IsAnsweredOrRefused, Ran, is_write_failed};
 ghost use Rattle.runs.specs.Steps.{IsOutcomeOf};
 
 use crate::OutOfMemory;
-use crate::calls::answer::answer_of_outcome;
+use crate::calls::answer::made_of;
 use crate::calls::block_link::{BlockLink, found_or_fault};
-use crate::calls::ends::{answer_of_fault, hand_over, query_of};
+use crate::calls::ends::{made_of_fault, query_of};
+use crate::calls::made::Made;
 use answers::Answer;
 use block_scan::{BlockSource, Division, SourceFault, block_inputs};
 use day_file::Cut;
@@ -24,13 +26,11 @@ use scanning::{WrongLength, scan_inputs};
 use sinks::Sink;
 use std::alloc::Global;
 use std::sync::Arc;
-use std::thread::Threads;
 
 /// Answers a query over a whole day file that is read at places, as `run_blocks` does, on the caller's thread alone:
 /// it reads the file from its start to its end, once, as one block. The crew and the morsel of the settings have no
 /// part in it. It has no handle to wait by, so it is proved to return if the calls of its source and its sink do.
-pub fn run_blocks_alone<R: Threads + Sync, S: BlockSource + Send + Sync, K: Sink>(
-    rt: &R,
+pub fn run_blocks_alone<S: BlockSource + Send + Sync, K: Sink>(
     alloc: Global,
     source: S,
     query_text: &str,
@@ -47,14 +47,13 @@ pub fn run_blocks_alone<R: Threads + Sync, S: BlockSource + Send + Sync, K: Sink
     let Ok(source) = Arc::new(alloc, source) else {
         return Err(RunFault::OutOfMemory);
     };
-    let answer = answer_blocks_alone(rt, alloc, &source, &query, settings, &FreeGate)?;
-    hand_over(answer, sink)
+    let made = made_of_block(alloc, &source, &query, settings, &FreeGate)?;
+    made.hand_over_alone(alloc, sink)
 }
 
 /// Answers a query over a cut day file, as `answer` does, on the caller's thread alone: each morsel and each partition
 /// is run once, in order. No thread is started, and nothing is waited for.
-pub fn answer_alone<G: Gate, R: Threads + Sync>(
-    rt: &R,
+pub fn answer_alone<G: Gate>(
     alloc: Global,
     cut: &Cut,
     query: &Query,
@@ -64,32 +63,61 @@ pub fn answer_alone<G: Gate, R: Threads + Sync>(
     requires parts { (0 < parts) × (parts ≤ MOST_PARTITIONS) }
     ensures { IfOk result (λ answer. IsAnswer (concat cut.now) query.now (told_by answer)) }
 {
+    let made = made_alone(alloc, cut, query, parts, gate)?;
+    made.into_answer_alone(alloc)
+}
+
+/// What comes of a query over a cut day file, on the caller's thread alone.
+pub(crate) fn made_alone<G: Gate>(
+    alloc: Global,
+    cut: &Cut,
+    query: &Query,
+    parts: u32,
+    gate: &G,
+) -> Result<Made, OutOfMemory>
+    requires parts { (0 < parts) × (parts ≤ MOST_PARTITIONS) }
+    ensures answers { IfOk result (λ made. IsAnswer (concat cut.now) query.now (told made)) }
+    ensures ready { IfOk result IsReady }
+{
     let inputs = scan_inputs(alloc, cut, query.as_of, parts)?;
     let link = PlanLink::new(query, parts);
     let outcome = run_alone(alloc, &inputs, &link, gate)?;
-    let made = answer_of_outcome(rt, alloc, query, outcome, 0)?;
-    Ok(made.into_answer())
+    Ok(made_of(query, outcome, 0))
 }
 
 /// Answers a query over all that a source gives at places, as `answer_blocks` does, on the caller's thread alone: as
 /// one block. No thread is started, and nothing is waited for.
-pub fn answer_blocks_alone<G: Gate, R: Threads + Sync, S: BlockSource + Send + Sync>(
-    rt: &R,
+pub fn answer_blocks_alone<G: Gate, S: BlockSource + Send + Sync>(
     alloc: Global,
     source: &Arc<S, Global>,
     query: &Query,
     settings: Settings,
     gate: &G,
 ) -> Result<Answer, RunFault>
-    ensures { IsAnsweredOrRefused (of_blocks S.BlockSource.own settings.limit (arc_value source.now))
+    ensures { IsAnsweredOrRefused told_by (of_blocks S.BlockSource.own settings.limit (arc_value source.now))
         query.now settings.limit result }
 {
-    let outcome = match outcome_of_block(alloc, source, query, settings, gate) {
-        Ok(outcome) => outcome,
-        Err(fault) => return answer_of_fault(fault, settings.limit),
-    };
-    let made = answer_of_outcome(rt, alloc, query, outcome, 0)?;
-    Ok(made.into_answer())
+    let made = made_of_block(alloc, source, query, settings, gate)?;
+    let answer = made.into_answer_alone(alloc)?;
+    Ok(answer)
+}
+
+/// What comes of a query over all that a source gives at places, on the caller's thread alone.
+fn made_of_block<G: Gate, S: BlockSource + Send + Sync>(
+    alloc: Global,
+    source: &Arc<S, Global>,
+    query: &Query,
+    settings: Settings,
+    gate: &G,
+) -> Result<Made, RunFault>
+    ensures answered { IsAnsweredOrRefused told
+        (of_blocks S.BlockSource.own settings.limit (arc_value source.now)) query.now settings.limit result }
+    ensures ready { IfOk result IsReady }
+{
+    match outcome_of_block(alloc, source, query, settings, gate) {
+        Ok(outcome) => Ok(made_of(query, outcome, 0)),
+        Err(fault) => made_of_fault(fault, settings.limit),
+    }
 }
 
 /// What both pipelines give over a source that is one block, or why it gives no rows.

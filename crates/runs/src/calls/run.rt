@@ -1,11 +1,12 @@
 //! `run`: a query over a source, to a sink.
-ghost use Rattle.std.specs.Prelude.{◌≡◌, false};
+ghost use Rattle.std.specs.Prelude.{◌≡◌, IfOk, false};
 ghost use Rattle.streaming.specs.Readings.{of_stream};
+ghost use Rattle.runs.specs.Made.{IsReady, told};
 ghost use Rattle.runs.specs.Runs.{IsAnsweredOrRefused, Ran, is_read_failed, is_write_failed};
 
-use crate::calls::alone::answer_alone;
-use crate::calls::answer::answer_of_outcome;
-use crate::calls::ends::{answer_of_fault, query_of};
+use crate::calls::alone::made_alone;
+use crate::calls::answer::made_of;
+use crate::calls::ends::{made_of_fault, query_of};
 use crate::calls::made::Made;
 use order_table::greatest_prime;
 use outcomes::{RunFault, Settings};
@@ -39,10 +40,10 @@ pub fn run<R: Threads + Wait + Sync, S: Source, K: Sink>(
     let query = query_of(alloc, query_text)?;
     settings.parts = greatest_prime(settings.parts);
     let made = answer_source(rt, alloc, source, &query, settings)?;
-    made.hand_over(rt, sink)
+    made.hand_over(rt, alloc, sink)
 }
 
-/// The answer to a query over all that a source gives: of a short one on this thread alone, else by a first pipeline
+/// What comes of a query over all that a source gives: of a short one on this thread alone, else by a first pipeline
 /// for each batch and the second one behind them.
 fn answer_source<R: Threads + Wait + Sync, S: Source>(
     rt: &R,
@@ -52,22 +53,22 @@ fn answer_source<R: Threads + Wait + Sync, S: Source>(
     settings: Settings,
 ) -> Result<Made, RunFault>
     requires { S.has_failed source.old ≡ false }
-    ensures answered { IsAnsweredOrRefused
+    ensures answered { IsAnsweredOrRefused told
         (of_stream S.Source settings.limit settings.morsel source.old source.new)
         query.now settings.limit result }
+    ensures ready { IfOk result IsReady }
     ensures read_failed { S.has_failed source.new ≡ is_read_failed result }
 {
     let parts = settings.parts;
     let total = match scan_source(rt, alloc, source, query.as_of, settings) {
         Ok(WholeSource::Short(cut)) => {
-            let answer = answer_alone(rt, alloc, &cut, query, parts, &FreeGate)?;
-            return Ok(Made::alone(answer));
+            let made = made_alone(alloc, &cut, query, parts, &FreeGate)?;
+            return Ok(made);
         }
         Ok(WholeSource::Long(total)) => total,
-        Err(fault) => return answer_of_fault(fault, settings.limit).map(Made::alone),
+        Err(fault) => return made_of_fault(fault, settings.limit),
     };
     let link = PlanLink::new(query, parts);
     let outcome = run_second(rt, alloc, total, &link, settings.crew, &FreeGate)?;
-    let made = answer_of_outcome(rt, alloc, query, outcome, settings.crew.workers)?;
-    Ok(made)
+    Ok(made_of(query, outcome, settings.crew.workers))
 }

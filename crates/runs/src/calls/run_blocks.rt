@@ -3,13 +3,15 @@ ghost use Rattle.std.specs.Prelude.{◌≡◌, ℕ, List, false, IfErr, IfOk, On
 ghost use Rattle.std.specs.Arc.{arc_value};
 ghost use Rattle.std.specs.List.{concat};
 ghost use Rattle.block_scan.specs.Blocks.{GaveWhole, IsBlocksFault, of_blocks};
+ghost use Rattle.answers.specs.Answers.{told_by};
+ghost use Rattle.runs.specs.Made.{IsReady, told};
 ghost use Rattle.runs.specs.Runs.{IsAnsweredOrRefused, Ran, is_write_failed};
 ghost use Rattle.runs.specs.Steps.{IsOutcomeOf};
 
 use crate::calls::alone::run_blocks_alone;
-use crate::calls::answer::answer_of_outcome;
+use crate::calls::answer::made_of;
 use crate::calls::block_link::{BlockLink, found_or_fault};
-use crate::calls::ends::{answer_of_fault, query_of};
+use crate::calls::ends::{made_of_fault, query_of};
 use crate::calls::made::Made;
 use answers::Answer;
 use block_scan::{
@@ -51,15 +53,15 @@ pub fn run_blocks<R: Threads + Wait + Sync, S: BlockSource + Send + Sync, K: Sin
 {
     let division = Division::of(length, settings.crew.workers);
     if division.blocks == 1 {
-        return run_blocks_alone(rt, alloc, source, query_text, settings, sink);
+        return run_blocks_alone(alloc, source, query_text, settings, sink);
     }
     let query = query_of(alloc, query_text)?;
     settings.parts = greatest_prime(settings.parts);
     let Ok(source) = Arc::new(alloc, source) else {
         return Err(RunFault::OutOfMemory);
     };
-    let made = answer_in_blocks(rt, alloc, &source, division, &query, settings, &FreeGate)?;
-    made.hand_over(rt, sink)
+    let made = made_in_blocks(rt, alloc, &source, division, &query, settings, &FreeGate)?;
+    made.hand_over(rt, alloc, sink)
 }
 
 /// Answers a query over all that a source gives at places, by two pipelines as `answer` does: the first has a task for
@@ -75,15 +77,16 @@ pub fn answer_blocks<G: Gate, R: Threads + Wait + Sync, S: BlockSource + Send + 
     settings: Settings,
     gate: &G,
 ) -> Result<Answer, RunFault>
-    ensures { IsAnsweredOrRefused (of_blocks S.BlockSource.own settings.limit (arc_value source.now))
+    ensures { IsAnsweredOrRefused told_by (of_blocks S.BlockSource.own settings.limit (arc_value source.now))
         query.now settings.limit result }
 {
-    let made = answer_in_blocks(rt, alloc, source, division, query, settings, gate)?;
-    Ok(made.into_answer())
+    let made = made_in_blocks(rt, alloc, source, division, query, settings, gate)?;
+    let answer = made.into_answer(rt, alloc)?;
+    Ok(answer)
 }
 
-/// The answer to a query over all that a source gives at places, and what it was made of.
-fn answer_in_blocks<G: Gate, R: Threads + Wait + Sync, S: BlockSource + Send + Sync>(
+/// What comes of a query over all that a source gives at places.
+fn made_in_blocks<G: Gate, R: Threads + Wait + Sync, S: BlockSource + Send + Sync>(
     rt: &R,
     alloc: Global,
     source: &Arc<S, Global>,
@@ -92,8 +95,9 @@ fn answer_in_blocks<G: Gate, R: Threads + Wait + Sync, S: BlockSource + Send + S
     settings: Settings,
     gate: &G,
 ) -> Result<Made, RunFault>
-    ensures { IsAnsweredOrRefused (of_blocks S.BlockSource.own settings.limit (arc_value source.now))
-        query.now settings.limit result }
+    ensures answered { IsAnsweredOrRefused told
+        (of_blocks S.BlockSource.own settings.limit (arc_value source.now)) query.now settings.limit result }
+    ensures ready { IfOk result IsReady }
 {
     let Ok(source) = Arc::try_clone(source) else {
         return Err(RunFault::OutOfMemory);
@@ -104,10 +108,9 @@ fn answer_in_blocks<G: Gate, R: Threads + Wait + Sync, S: BlockSource + Send + S
     );
     let outcome = match outcome {
         Ok(outcome) => outcome,
-        Err(fault) => return answer_of_fault(fault, settings.limit).map(Made::alone),
+        Err(fault) => return made_of_fault(fault, settings.limit),
     };
-    let made = answer_of_outcome(rt, alloc, query, outcome, settings.crew.workers)?;
-    Ok(made)
+    Ok(made_of(query, outcome, settings.crew.workers))
 }
 
 /// What both pipelines give over the blocks of a source that is watched, or why it gives no rows.

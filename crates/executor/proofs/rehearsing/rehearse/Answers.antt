@@ -92,11 +92,12 @@ module _ (runs : List (List ℕ)) (query : Meaning) (parts gatherers : ℕ) (eve
         → r ≡ s → Told s
     rehearsed same meant linked is gave = subst Told gave (told _ (rw (same, meant, linked, tasks) at is))
 
-pub answer_of-requires : goal.answer_of-requires
-answer_of-requires c = let scan = c.in_ok-scan_inputs.ensures in
+pub answer_of_total-requires : goal.answer_of_total-requires
+answer_of_total-requires c = let scan = c.in_ok-scan_inputs.ensures in
     let told = rehearsed c.args.cut.now c.args.query.now c.args.parts c.args.gatherers c.args.events1.now c.args.events2.now
     scan.runs c.requires.parts.0 (c.in_ok-inputs.ensures.ok ∙ scan.inputs) c.query.view_is
-    c.new-link.ensures c.in_ok-total.ensures c.in-Finished.is in (messages c.args.cut.now c.args.query.now c.args.parts, told.0)
+    c.new-link.ensures c.in_ok-total.ensures c.in-Finished.is in
+    record { gathered = (messages c.args.cut.now c.args.query.now c.args.parts, told.0) }
 
 pub returns-in_ok-answer-in-Finished : goal.returns-in_ok-answer-in-Finished
 returns-in_ok-answer-in-Finished c = let scan = c.in_ok-scan_inputs.ensures in

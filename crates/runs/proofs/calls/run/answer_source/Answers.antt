@@ -13,13 +13,16 @@ run_second-requires-clause-total g c lifetimes within =
     let (runs, whole, may, of) = rw c.in-Ok-Long.field-0-is at c.in-Ok-Long.ensures.scanned in
     of_cut c.args.settings.parts_in_range.0 of
 
-pub answer_of_outcome-requires-clause-outcome : goal.answer_of_outcome-requires-clause-outcome
-answer_of_outcome-requires-clause-outcome g c lifetimes within =
-    let (runs, whole, may, of) = rw c.in-Ok-Long.field-0-is at c.in-Ok-Long.ensures.scanned in (
-      runs,
-      given_of _ c.in_ok-outcome.ensures.outcome c.new-link.ensures c.args.settings.parts_in_range.0
-          (λ first is. rw is (subst (λ (m : Meaning). IsScanOf 0 0 m.as_of c.args.settings.parts runs c.in-Ok-Long.total) c.query.view_is of)),
-    )
+pub made_of-requires : goal.made_of-requires
+made_of-requires g c =
+    let (runs, whole, may, of) = rw c.in-Ok-Long.field-0-is at c.in-Ok-Long.ensures.scanned in
+    record {
+      outcome = (
+        runs,
+        given_of _ c.in_ok-outcome.ensures.outcome c.new-link.ensures c.args.settings.parts_in_range.0
+            (λ first is. rw is (subst (λ (m : Meaning). IsScanOf 0 0 m.as_of c.args.settings.parts runs c.in-Ok-Long.total) c.query.view_is of)),
+      );
+    }
 
 pub returns-clause-answered : goal.returns-clause-answered
 returns-clause-answered g c =
@@ -27,7 +30,7 @@ returns-clause-answered g c =
       concat runs,
       whole,
       may,
-      IfOk-at_ok (λ answer. IsAnswer (concat runs) c.args.query.now (told_by answer)) c.in_ok-made.was (c.answer_of_outcome.ensures runs
+      (c.made_of.ensures.answers runs
           (given_of _ c.in_ok-outcome.ensures.outcome c.new-link.ensures c.args.settings.parts_in_range.0
           (λ first is. rw is (subst (λ (m : Meaning). IsScanOf 0 0 m.as_of c.args.settings.parts runs c.in-Ok-Long.total) c.query.view_is of)))),
     )
@@ -35,4 +38,4 @@ returns-clause-answered g c =
 pub returns-in-Ok-Short-clause-answered : goal.returns-in-Ok-Short-clause-answered
 returns-in-Ok-Short-clause-answered g c =
     let (whole, may) = rw c.in-Ok-Short.field-0-is at c.in-Ok-Short.ensures.scanned in
-    (concat c.in-Ok-Short.cut, whole, may, rw c.alone.ensures c.in_ok-answer-in-Ok-Short.ensures)
+    (concat c.in-Ok-Short.cut, whole, may, c.in_ok-made-in-Ok-Short.ensures.answers)

@@ -1,6 +1,0 @@
-use Rattle.std.proofs.Common.{arith}
-use Rattle.std.proofs.lemmas.Grind.{common_steps}
-use Rattle.time_and_sales.proofs.range_texts.texts_in_turn.Goals as goal
-
-pub loop-number-preserved : goal.loop-number-preserved
-loop-number-preserved g c = grind (arith, common_steps)
