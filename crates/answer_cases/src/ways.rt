@@ -2,7 +2,7 @@
 use crate::case::{Case, append_words, falling};
 use crate::meanings::append_fault;
 use command_line::command;
-use day_file::{CutFault, cut, cut_at};
+use cutting::{CutFault, cut, cut_at};
 use executor::{
     Answer, Counted, CountedSink, Cut, DayFault, DayFile, Division, FreeGate, LONGEST_FILE, Query,
     Rehearsal, RunFault, Settings, answer, answer_blocks, parse, plain, rehearse, run, run_blocks,

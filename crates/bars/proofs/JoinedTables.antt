@@ -7,16 +7,14 @@ use Rattle.std.specs.List.Sorted.{IsSorted, IsStrictlySortedBy, IsStableByKey, I
 use Rattle.std.specs.Ordering.{is_eq, is_lt, nat_cmp, ordering_reverse, ordering_then}
 use Rattle.std.specs.Fn.{Mut, Called, ComputesKey}
 use Rattle.std.proofs.lemmas.Bool.Decides.{nat_tests}
-use Rattle.std.proofs.lemmas.List.{get_or-map, length-map, map_push, take_more}
+use Rattle.std.proofs.lemmas.List.{get_or-map, length-map, take_more}
 use Rattle.std.proofs.lemmas.List.Sums.{sum_by-cons}
-use Rattle.std.proofs.lemmas.List.Elements.{All-append, All-contains_itself, All-filter, All-head, All-tail, All-weaker, filter_agree}
+use Rattle.std.proofs.lemmas.List.Elements.{All-contains_itself, All-filter, All-head, All-tail, All-weaker, filter_agree}
 use Rattle.std.proofs.lemmas.List.Sorted.{answers_always, IsPermutation-map}
 use Rattle.std.proofs.lemmas.Map.Keys.{sorted_head, sorted_tail}
-use Rattle.base.proofs.Lists.{flat_map_push}
-use Rattle.time_and_sales.specs.Lent.{lent}
 use Rattle.bar.specs.declared.bar.Bar.{Bar}
 use Rattle.bar.specs.OneBar.{Key, key_cmp, joined_bar, joined, IsTraded}
-use Rattle.bars.specs.Bars.{found, joined_all, under, all_bars, IsByKey, IsUnionOf}
+use Rattle.bars.specs.Bars.{found, joined_all, under, IsByKey, IsUnionOf}
 use Rattle.bars.specs.Steps.{AreJoinedAlike, put, united}
 use Rattle.bar.proofs.OneBar.{has, higher_misses, joined_none, joined_three, key_of, key_total, same_has}
 use Rattle.bars.proofs.Bars.{found_itself, tables_agree}
@@ -184,19 +182,6 @@ module _ {X : Type 0} (now : X → Bar) (at : Key → X) (is_at : (key : Key) �
             ∙ sym (filter-map now (λ b. has b key) xs);
         permutation = IsPermutation-map now xs sorted perm;
       }
-
--- ---- bars behind others
-
-pub alike_behind : (so_far more other : List Bar) {new : List Bar} → new ≡ so_far ++ more → AreJoinedAlike more other → AreJoinedAlike new (so_far ++ other)
-alike_behind so_far more other made alike = rw made (alike_parts so_far so_far more other (λ key. refl) alike)
-
-pub traded_behind : (so_far more : List Bar) {new : List Bar} → new ≡ so_far ++ more → All IsTraded so_far → All IsTraded more → All IsTraded new
-traded_behind so_far more made so all = rw made (All-append IsTraded so_far more so all)
-
-pub traded_more : (parts new : List (Bor (List Bar))) (part : Bor (List Bar)) → All IsTraded (all_bars (lent parts))
-    → All IsTraded part.now → new ≡ parts ++ part ∷ [] → All IsTraded (all_bars (lent new))
-traded_more parts new part so_far one made =
-    rw (made, map_push, flat_map_push) (All-append IsTraded _ part.now so_far one)
 
 -- ---- a bar put into a table, and two tables made one
 

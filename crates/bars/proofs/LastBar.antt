@@ -12,7 +12,7 @@ use Rattle.std.proofs.lemmas.Map.Keys.{Less-from_sorted, sorted_from_all_adjacen
 use Rattle.bar.specs.declared.bar.Bar.{Bar}
 use Rattle.bar.specs.OneBar.{key_cmp, joined_bar, CanJoin}
 use Rattle.bars.specs.Bars.{AllSumsFit, IsByKey, IsUnionOf}
-pub use Rattle.bars.specs.Grids.{no_bar}
+pub use Rattle.bars.specs.Steps.{no_bar}
 use Rattle.bar.proofs.OneBar.{key_total}
 use Rattle.bars.proofs.JoinedTables.{alike_parts, pair_alike, table_has, union_from, union_itself, union_more, union_of_one}
 use Rattle.bars.proofs.SumsAreBounded.{next_fits}
@@ -86,18 +86,6 @@ next_can_add sorted table i d rise fit within union =
           grind (arith, nat_tests, get_or-take, get_or_default sorted i e d));
       sums = λ kept there same. next_fits sorted table i d kept within union fit there same;
     }
-
--- a bar that is joined to what those before it are joined to, wherever it comes: with one of its key its sums fit, and one bar more is joined
-pub next_anywhere : {X : Type 0} (f : X → Bar) (xs : List X) (i : ℕ) (d : X) (bar : Bar) (table : List Bar) → AllSumsFit (map f xs)
-    → i < length xs → bar ≡ f (get_or xs i d) → IsUnionOf (take i (map f xs)) table
-    → ((kept : Bar) → Contains table kept → key_cmp kept bar ≡ Equal → CanJoin kept bar)
-    × ((new : List Bar) → IsUnionOf (table ++ bar ∷ []) new → IsUnionOf (take (i + 1) (map f xs)) new)
-next_anywhere f xs i d bar table fit within is union =
-    let n = length-map xs f in
-    let here : get_or (map f xs) i no_bar ≡ bar = get_or-map f xs i d no_bar within ∙ sym is in (
-      λ kept there same. rw here at (next_fits (map f xs) table i no_bar kept (omega (arith, n)) union fit there (rw here same)),
-      λ new made. grind (arith, union_more (map f xs) i no_bar table new),
-    )
 
 -- so can that of the next of what has bars, and with it one bar more is joined
 pub next_bar : {X : Type 0} (f : X → Bar) (xs : List X) (i : ℕ) (d : X) (bar : Bar) (table : List Bar) → IsSorted key_cmp (map f xs) → AllSumsFit (map f xs)

@@ -1,12 +1,8 @@
 pub mod Bars
-pub mod Grids
-pub mod BarsInRanges
+pub mod BarsOfSales
 pub mod JoinedTables
 pub mod LastBar
-pub mod SumsAreBounded
-pub mod BarsOfSales
 pub mod Seconds
+pub mod StartsAlike
+pub mod SumsAreBounded
 pub mod Ticks
-pub mod NextBar
-pub mod LinesOneByOne
-pub mod RangeTexts

@@ -16,7 +16,7 @@ use Rattle.bars.specs.Texts.{IsWritable}
 use Rattle.bar.proofs.OneBar.{average_fits, has, has_itself, key_of, same_has}
 use Rattle.bars.proofs.Bars.{found_itself}
 use Rattle.bars.proofs.JoinedTables.{Adds, IsOrderOf, alike_from, of, sum_of_joined, sum_together}
-use Rattle.bars.proofs.BarsInRanges.{starts_alike}
+use Rattle.bars.proofs.StartsAlike.{starts_alike}
 use Rattle.bars.proofs.BarsOfSales.{each_alike, ones_union, together_ones}
 
 -- ---- the sums of few sales fit

@@ -13,8 +13,6 @@ use Rattle.bar.specs.OneBar.{IsTraded, Key, bar_from, interval_start, key_cmp, j
 use Rattle.bars.specs.Bars.{IsByKey, joined_all, under}
 use Rattle.bars.specs.declared.kept_form.Form.{Form}
 use Rattle.bars.specs.declared.kept_form.Form.TheVariants.{Ticks, Sales, Bars}
-use Rattle.bars.specs.declared.keyed.Keyed.{Keyed}
-use Rattle.bars.specs.declared.keyed.Keyed.TheVariants.{OfSale, OfTick, OfBar}
 use Rattle.bars.specs.declared.tick.Tick.{Tick}
 
 -- the bar of one sale
@@ -96,12 +94,22 @@ AreOfForm (Ticks ticks width) = AreUnmade width (map sale_of_tick ticks.items)
 AreOfForm (Sales sales width) = AreUnmade width sales.items
 AreOfForm (Bars table) = IsByKey table × All IsTraded table
 
--- the bar of one sale or tick that stands beside its key, or the bar that stands there
-abbrev pub bar_at : Keyed → Bar
-bar_at (OfSale locate start sale) = bar_from (record { locate = locate; start = start }) sale.now []
-bar_at (OfTick locate start tick) = bar_from (record { locate = locate; start = start }) (sale_of_tick tick.now) []
-bar_at (OfBar locate start bar) = record bar.now { locate = locate; start = start }
-
 -- of each key the bars of two lists, joined, are one bar
 abbrev pub AreJoinedAlike : List Bar → List Bar → Type 0
 AreJoinedAlike one other = (key : Key) → joined_all None (under key one) ≡ joined_all None (under key other)
+
+-- what stands where there is no bar
+abbrev pub no_bar : Bar
+no_bar = record {
+  locate = 0;
+  start = 0;
+  first_place = 0;
+  first = 0;
+  high = 0;
+  low = 0;
+  last_place = 0;
+  last = 0;
+  volume = 0;
+  notional = 0;
+  trades = 0;
+}

@@ -1,10 +1,9 @@
 -- The texts of a bar and of a table of bars.
 -- To be believed.
-use Rattle.std.specs.Prelude.{ℕ, ◌/◌, ◌^◌, ◌<◌, ◌%◌, List, [], ◌∷◌, ◌++◌, codes, filter}
+use Rattle.std.specs.Prelude.{ℕ, ◌/◌, ◌^◌, ◌<◌, ◌%◌, List, ◌++◌, codes}
 use Rattle.std.specs.List.{flat_map}
 use Rattle.std.specs.Fmt.{decimal}
 use Rattle.base.specs.declared.limits.TheConstants.{TIME_LIMIT}
-use Rattle.time_and_sales.specs.Ranges.{is_in_first}
 use Rattle.time_and_sales.specs.Texts.{price_text, seconds_text}
 use Rattle.bar.specs.declared.bar.Bar.{Bar}
 
@@ -43,9 +42,3 @@ lines_text name bars = flat_map (λ bar. bar_line bar (name bar.locate)) bars
 -- the header and the line of each bar, under the name of its locate
 abbrev pub bars_text : (ℕ → List ℕ) → List Bar → List ℕ
 bars_text name bars = bars_header ++ lines_text name bars
-
--- the lines of the bars in each range of locates, which begin at these bounds
-abbrev pub range_texts : (ℕ → List ℕ) → List Bar → List ℕ → List (List ℕ)
-range_texts name bars [] = []
-range_texts name bars (low ∷ bounds) =
-    lines_text name (filter (is_in_first (λ bar. bar.locate) (low ∷ bounds)) bars) ∷ range_texts name bars bounds

@@ -24,7 +24,7 @@ pub enum Form {
 
 impl Form {
     /// How many ticks or sales are kept, or bars.
-    pub(crate) fn len(&self) -> usize {
+    pub fn len(&self) -> usize {
         match self {
             Form::Ticks { ticks, .. } => ticks.len(),
             Form::Sales { sales, .. } => sales.len(),

@@ -30,7 +30,8 @@ pub struct Tick {
     pub(crate) place_low: u32,
     /// The bits of the place above them.
     pub(crate) place_high: u16,
-    pub(crate) locate: u16,
+    /// Of the sale.
+    pub locate: u16,
 }
 
 /// Whether a sale has a tick: one of 2^32 shares or more has none.
@@ -62,7 +63,7 @@ impl Tick {
     /// Where the interval of its bar starts, in nanoseconds since midnight.
     #[inline]
     #[tactic(auto, using(crate::proofs::Seconds::start_of_second))]
-    pub(crate) fn start(&self, width: u32) -> u64
+    pub fn start(&self, width: u32) -> u64
         requires { 0 < width }
         ensures { result ≡ (bar_of_tick width self.now).start }
     {
@@ -71,7 +72,7 @@ impl Tick {
 
     /// A sale with the same bar, whatever the width.
     #[inline]
-    pub(crate) fn sale(&self) -> Sale
+    pub fn sale(&self) -> Sale
         ensures { result ≡ sale_of_tick self.now }
     {
         Sale {

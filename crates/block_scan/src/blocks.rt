@@ -10,11 +10,11 @@ use crate::OutOfMemory;
 use crate::block::Block;
 use crate::block_source::BlockSource;
 use crate::block_work::BlockWork;
-use crate::division::Division;
 use crate::request::Request;
 use base::limits::{LONGEST_FILE, MOST_PARTITIONS};
 use day_file::SourceFault;
 use gathering::Inputs;
+use scanning::Division;
 use std::alloc::Global;
 use std::sync::Arc;
 

@@ -1,12 +1,12 @@
--- Whole frames that stand elsewhere, that follow whole frames, and that whole frames leave.
-use Rattle.std.proofs.Common.{◌≡◌, ℕ, ◌+◌, ◌-◌, ◌≤◌, List, [], ◌∷◌, ◌++◌, length, take, drop, refl, sym, ap, ap₂, ◌∙◌, subst, append_assoc}
-use Rattle.std.proofs.Common.{append-nil, arith, Option, Some, None, MatchOption}
+-- Whole frames that stand elsewhere, and that follow whole frames.
+use Rattle.std.proofs.Common.{◌≡◌, ℕ, ◌+◌, List, [], ◌∷◌, ◌++◌, length, take, drop, refl, sym, ap, ap₂, ◌∙◌, subst}
+use Rattle.std.proofs.Common.{arith, Option, Some, None, MatchOption}
 use Rattle.std.proofs.Math.Seq.{take-add}
 use Rattle.std.proofs.lemmas.Grind.{flat_map-append}
-use Rattle.std.proofs.lemmas.List.{length-append, length-drop, drop-drop, drop-take, take-append-drop, take-take}
+use Rattle.std.proofs.lemmas.List.{length-append, length-drop, drop-drop}
 use Rattle.std.proofs.lemmas.List.Elements.{All-append, All-cons, All-nil}
 use Rattle.day_file.specs.Frames.{PlacedBody, frame_of, spelling, IsShort, IsTruncatedAt, IsWhole, StandAt, StandsFrom}
-use Rattle.day_file.proofs.Readings.{AreShort, IsReading, IsReading-truncated, IsReading-whole, head_apart, head_short, tail_short}
+use Rattle.day_file.proofs.Readings.{AreShort, IsReading, IsReading-truncated, IsReading-whole, head_short, tail_short}
 
 -- ---- frames at another place
 
@@ -60,10 +60,6 @@ StandsFrom-append start xs ys bytes more p q = record {
 pub IsWhole-nil : IsWhole []
 IsWhole-nil = ([], record { places = tt; short = All-nil _; whole = refl })
 
-pub one_frame : (body : List ℕ) → IsShort body → IsWhole (frame_of body)
-one_frame body h =
-    rw append-nil at (IsWhole-spelling (record { place = 0; body = body } ∷ []) (All-cons (λ frame. IsShort frame.body) _ [] h (All-nil _)))
-
 -- whole frames and then whole frames are whole frames
 pub IsWhole-append : (xs ys : List ℕ) → IsWhole xs → IsWhole ys → IsWhole (xs ++ ys)
 IsWhole-append xs ys p q =
@@ -78,23 +74,3 @@ IsWhole-further start n bytes p q = subst IsWhole (sym (take-add start n bytes))
 pub truncated_later : (bytes : List ℕ) (start place : ℕ) → IsWhole (take start bytes) → IsTruncatedAt (drop start bytes) place
     → IsTruncatedAt bytes (start + place)
 truncated_later bytes start place w t = grind (arith, IsWhole-further, length-drop, drop-drop)
-
--- ---- what whole frames leave of whole frames
-
-rest_spelled : (front all : List PlacedBody) (rest : List ℕ) → AreShort front → AreShort all → spelling all ≡ spelling front ++ rest → IsWhole rest
-rest_spelled [] all rest hf ha e = subst IsWhole e (IsWhole-spelling all ha)
-rest_spelled (g ∷ front) [] rest hf ha e = grind (arith, length-append)
-rest_spelled (g ∷ front) (f ∷ all) rest hf ha e =
-    let apart = head_apart f.body g.body (spelling all) (spelling front ++ rest) (head_short f all ha) (head_short g front hf)
-    (e ∙ append_assoc (frame_of g.body) (spelling front) rest) in
-    rest_spelled front all rest (tail_short g front hf) (tail_short f all ha) apart.1
-
-pub IsWhole-rest : (n : ℕ) (bytes : List ℕ) → IsWhole bytes → IsWhole (take n bytes) → IsWhole (drop n bytes)
-IsWhole-rest n bytes w f =
-    rest_spelled f.0 w.0 (drop n bytes) f.1.short w.1.short (sym w.1.whole ∙ sym (take-append-drop n bytes) ∙ ap (λ l. l ++ drop n bytes) f.1.whole)
-
-pub IsWhole-between : (start end : ℕ) (bytes : List ℕ) → start ≤ end → IsWhole (take start bytes) → IsWhole (take end bytes)
-    → IsWhole (take (end - start) (drop start bytes))
-IsWhole-between start end bytes h f w =
-    let n : start + (end - start) ≡ end = omega arith in
-    rw (← drop-take start (end - start) bytes, n) (IsWhole-rest start (take end bytes) w (rw take-take f))

@@ -1,7 +1,3 @@
-pub mod CutsAt
-pub mod CutsBy
-pub mod Fed
-pub mod FirstRuns
 pub mod Joined
 pub mod Kept
 pub mod Laws

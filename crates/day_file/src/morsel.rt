@@ -71,8 +71,8 @@ impl Morsel {
         &self.bytes
     }
 
-    // Its bytes, without a copy.
-    pub(crate) fn into_bytes(self) -> Vec<u8>
+    /// Its bytes, without a copy.
+    pub fn into_bytes(self) -> Vec<u8>
         ensures { result.items ≡ self.bytes }
     {
         self.bytes

@@ -34,8 +34,8 @@ impl Model for Cut {
 }
 
 impl Cut {
-    // The cut of no bytes.
-    pub(crate) fn empty(alloc: Global) -> Self
+    /// The cut of no bytes.
+    pub fn empty(alloc: Global) -> Self
         ensures { result ≡ [] }
     {
         Cut {
@@ -44,9 +44,9 @@ impl Cut {
         }
     }
 
-    // Adds these frames as the last morsel, without a copy. A refusal gives them back.
+    /// Adds these frames as the last morsel, without a copy. A refusal gives them back.
     #[tactic(auto, using(crate::proofs::Kept::growing))]
-    pub(crate) fn append(&mut self, alloc: Global, run: Vec<u8>) -> Result<(), AllocFailed<Vec<u8>>>
+    pub fn append(&mut self, alloc: Global, run: Vec<u8>) -> Result<(), AllocFailed<Vec<u8>>>
         requires run { IsRun run.items }
         requires room { length self.old < MOST_MORSELS }
         requires within { length (concat self.old) + vec_len run ≤ LONGEST_FILE }
@@ -72,12 +72,13 @@ impl Cut {
         }
     }
 
-    // Adds the rest of the bytes as the last morsel, if there is any, without a copy.
-    pub(crate) fn append_rest(&mut self, alloc: Global, rest: Vec<u8>) -> Result<(), OutOfMemory>
+    /// Adds the rest of the bytes as the last morsel, if there is any, without a copy.
+    pub fn append_rest(&mut self, alloc: Global, rest: Vec<u8>) -> Result<(), OutOfMemory>
         requires whole { IsWhole rest.items }
         requires room { length self.old + length (rest_run rest.items) ≤ MOST_MORSELS }
         requires within { length (concat self.old) + vec_len rest ≤ LONGEST_FILE }
         ensures ok { OnOk result (self.new ≡ self.old ++ rest_run rest.items) }
+        ensures err { OnErr result (self.new ≡ self.old) }
     {
         if rest.is_empty() {
             return Ok(());
@@ -108,8 +109,10 @@ impl Cut {
         self.morsels.as_slice()
     }
 
-    // All of them, in order, without the cut.
-    pub(crate) fn into_morsels(self) -> Vec<Arc<Morsel, Global>> {
+    /// All of them, in order, without the cut.
+    pub fn into_morsels(self) -> Vec<Arc<Morsel, Global>>
+        ensures { AreMorsels self (map arc_value result.items) }
+    {
         self.morsels
     }
 

@@ -1,2 +1,4 @@
+mod CollectedTexts
 mod RehearsalLaws
+mod RunLaws
 pub mod Steps

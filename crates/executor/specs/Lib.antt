@@ -1,3 +1,4 @@
+pub mod Collected
 pub mod Outcomes
 pub mod Rehearsals
 pub mod Steps

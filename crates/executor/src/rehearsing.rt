@@ -4,11 +4,11 @@ ghost use Rattle.base.specs.declared.limits.TheConstants.{MOST_PARTITIONS};
 ghost use Rattle.executor.specs.Rehearsals.{IsRehearsed};
 
 use crate::OutOfMemory;
+use crate::answering_cuts::{answer_of_total, told_of};
 use answers::Answer;
 use day_file::Cut;
 use planning::PlanLink;
 use query::Query;
-use runs::{answer_of_total, told_of};
 use scanning::scan_inputs;
 use schedules::{Event, Rehearsed, rehearse_pair};
 use std::alloc::Global;

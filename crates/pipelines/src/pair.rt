@@ -38,7 +38,7 @@ pub fn run_pair<A: Work, B: Work, L: Link<A, B>, G: Gate, R: Threads + Wait + Sy
         rt,
         move |scope| -> Result<Outcome<B::Total, L::Kept, L::Stop>, OutOfMemory>
             ensures { IfOk result
-                (IsOutcome (A.IsTotalOf inputs.entry.now) (L.Links link.entry.now) B.IsTotalOf) }
+                (λ outcome. IsOutcome (A.IsTotalOf inputs.entry.now) (L.Links link.entry.now) B.IsTotalOf outcome) }
         { pair_in(scope, first, inputs, link) },
     )
 }

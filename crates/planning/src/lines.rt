@@ -2,10 +2,10 @@
 ghost use Rattle.std.specs.Prelude.{◌≡◌};
 
 use crate::OutOfMemory;
-use bars::{AllBars, BarLines};
+use bar_lines::{AllBars, BarLines};
+use sale_lines::{AllSales, SaleLines};
 use sinks::{Parts, Sink, WriteFailed};
 use std::alloc::Global;
-use time_and_sales::{AllSales, SaleLines};
 
 /// The lines of all listings or of all tables, in parts. J names the sales and the bars.
 #[derive(Drop)]

@@ -18,15 +18,17 @@ ghost use Rattle.planning.specs.Lines.{IsNamed, texts_of};
 use crate::OutOfMemory;
 use crate::fault_and_tables::tables;
 use crate::lines::Lines;
-use bars::{AllBars, BarLines, BucketBars};
+use bar_lines::{AllBars, BarLines};
+use bars::BucketBars;
 use buckets::Product;
 use meaning::What;
+use sale_lines::{AllSales, SaleLines};
 use sinks::{Sink, WriteFailed, put_alone, put_parts};
 use std::alloc::Global;
 use std::marker::Brand;
 use std::sync::{Arc, Wait};
 use std::thread::Threads;
-use time_and_sales::{AllSales, Listing, Names, SaleLines};
+use time_and_sales::{Listing, Names};
 
 /// Writes the text that is asked for of what all buckets list. At most `threads` threads make it while it is written;
 /// it waits for them. It is refused, with nothing written, if there is no memory for what all parts need; what a part

@@ -10,7 +10,7 @@ use Rattle.gathering.specs.declared.linked.Linked.TheVariants.{Next, Halt}
 use Rattle.pipelines.specs.Outcomes.{IsOutcome}
 use Rattle.pipelines.specs.declared.outcome.Outcome.{Outcome}
 use Rattle.pipelines.specs.declared.outcome.Outcome.TheVariants.{Finished, Stopped}
-use Rattle.scanning.specs.Scans.{ScanTotalView}
+use Rattle.scanning.specs.Scans.{AreRuns, ScanTotalView, inputs_of, total_of}
 use Rattle.scanning.specs.declared.wrong.WrongLength.{WrongLength}
 use Rattle.buckets.specs.BucketRows.{BucketView}
 use Rattle.buckets.specs.Buckets.{total_found}
@@ -18,8 +18,7 @@ use Rattle.buckets.specs.FoundRows.{TotalView}
 use Rattle.planning.specs.AllBuckets.{AreGatheredOf}
 use Rattle.planning.specs.Planned.{LinkView, linked_to}
 use Rattle.planning.proofs.LinkedBuckets.{halt_of, next_of}
-use Rattle.streaming.specs.ScannedBatches.{IsScanOf}
-use Rattle.runs.specs.Steps.{IsOutcomeOf}
+use Rattle.runs.specs.Made.{IsOutcomeOf}
 use Rattle.runs.proofs.CutAnswers.{answered_by, gathered_by, halted_by, messages as messages_of, wrong_fault}
 
 abbrev pub Pair : Type 0
@@ -35,14 +34,16 @@ IsGiven IsFirst to = IsOutcome IsFirst (λ total linked. linked ≡ linked_to to
 
 -- what a pair gives for the scans of a cut
 pub given_of : {query : Meaning} {parts : ℕ} {runs : List (List ℕ)} {to : LinkView} {IsFirst : ScanTotalView → Type 0} (r : Pair)
-    → IsGiven IsFirst to r → to ≡ link_of query parts → 0 < parts
-    → ((first : ScanTotalView) → IsFirst first → IsScanOf 0 0 query.as_of parts runs first) → IsOutcomeOf query r runs
-given_of {parts = parts} (Finished total kept) (first, inputs, is, links, found) linked some scan = record {
+    → IsGiven IsFirst to r → to ≡ link_of query parts → 0 < parts → AreRuns 0 runs
+    → ((first : ScanTotalView) → IsFirst first → first ≡ total_of (inputs_of query.as_of parts runs)) → IsOutcomeOf query r runs
+given_of {parts = parts} (Finished total kept) (first, inputs, is, links, found) linked some are scan = record {
+  are = are;
   parts = parts;
   some = some;
   is = (first, inputs, scan first is, subst (λ (l : LinkView). Next inputs kept ≡ linked_to l first) linked links, found);
 }
-given_of {parts = parts} (Stopped stop) (first, is, links) linked some scan = record {
+given_of {parts = parts} (Stopped stop) (first, is, links) linked some are scan = record {
+  are = are;
   parts = parts;
   some = some;
   is = (first, scan first is, subst (λ (l : LinkView). Halt stop ≡ linked_to l first) linked links);
@@ -55,10 +56,10 @@ module _ {query : Meaning} {runs : List (List ℕ)} where
       × ((told : Result (List ℕ) DayFault) → IsAnswerToMessages messages query told → IsAnswer (concat runs) query told)
   finished {total} {kept} of =
       let (first, inputs, scan, linked, found) = of.is in
-      let (right, buckets, names) = next_of (link_of query of.parts) _ (subst (λ (s : ScanTotalView). Next inputs kept ≡ linked_to (link_of query of.parts) s) scan.is linked) in (
+      let (right, buckets, names) = next_of (link_of query of.parts) _ (subst (λ (s : ScanTotalView). Next inputs kept ≡ linked_to (link_of query of.parts) s) scan linked) in (
         messages_of runs query of.parts,
-        gathered_by runs query of.parts scan.are total kept of.some (found ∙ ap total_found buckets) names,
-        λ told. answered_by runs query of.parts scan.are told right,
+        gathered_by runs query of.parts of.are total kept of.some (found ∙ ap total_found buckets) names,
+        λ told. answered_by runs query of.parts of.are told right,
       )
 
   -- this length is wrong
@@ -66,5 +67,5 @@ module _ {query : Meaning} {runs : List (List ℕ)} where
       → IsAnswer (concat runs) query told
   stopped {stop} of told said =
       let (first, scan, linked) = of.is in
-      halted_by runs query of.parts scan.are stop told
-      (halt_of (link_of query of.parts) _ (subst (λ (s : ScanTotalView). Halt stop ≡ linked_to (link_of query of.parts) s) scan.is linked)) said
+      halted_by runs query of.parts of.are stop told
+      (halt_of (link_of query of.parts) _ (subst (λ (s : ScanTotalView). Halt stop ≡ linked_to (link_of query of.parts) s) scan linked)) said

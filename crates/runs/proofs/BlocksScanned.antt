@@ -7,7 +7,7 @@ use Rattle.pipelines.specs.Outcomes.{IsOutcome}
 use Rattle.pipelines.specs.declared.outcome.Outcome.{Outcome}
 use Rattle.pipelines.specs.declared.outcome.Outcome.TheVariants.{Finished, Stopped}
 use Rattle.gathering.specs.Totals.{IsTotal}
-use Rattle.scanning.specs.Scans.{AreConsecutive, ScanTotalView, inputs_of, total_of}
+use Rattle.scanning.specs.Scans.{AreConsecutive, AreRuns, ScanTotalView, inputs_of, total_of}
 use Rattle.scanning.specs.declared.wrong.WrongLength.{WrongLength}
 use Rattle.buckets.specs.Buckets.{total_found}
 use Rattle.buckets.specs.FoundRows.{TotalView}
@@ -18,32 +18,27 @@ use Rattle.block_scan.specs.Pieces.{Asked, IsAskable, IsChained, IsScannedWhole}
 use Rattle.block_scan.specs.declared.block_source.BlockSource.{Ghosts as BlockSourceOf}
 use Rattle.day_file.specs.declared.source_fault.SourceFault.{SourceFault}
 use Rattle.block_scan.proofs.BlocksAndAttempts.{attempts_of, blocks_are}
-use Rattle.streaming.specs.ScannedBatches.{IsScanOf}
-use Rattle.runs.specs.Steps.{IsOutcomeOf, LinksAttempts, found_or_fault}
+use Rattle.runs.specs.Made.{IsOutcomeOf}
+use Rattle.runs.specs.Steps.{LinksAttempts, found_or_fault}
 use Rattle.runs.proofs.Answered.{IsGiven, Pair, given_of, link_of}
 
 -- the total of the scans of a file is that of one cut
-pub of_cut : {as_of : Option ℕ} {parts : ℕ} {runs : List (List ℕ)} {total : ScanTotalView} → 0 < parts → IsScanOf 0 0 as_of parts runs total
-    → IsTotal (λ inputs t. t ≡ total_of inputs) AreConsecutive total
-of_cut {as_of} {parts} {runs} some of = (
+pub of_cut : (as_of : Option ℕ) {parts : ℕ} {runs : List (List ℕ)} {total : ScanTotalView} → 0 < parts → AreRuns 0 runs
+    → total ≡ total_of (inputs_of as_of parts runs) → IsTotal (λ inputs t. t ≡ total_of inputs) AreConsecutive total
+of_cut as_of {parts} {runs} some runs_are is = (
   inputs_of as_of parts runs,
-  record { first = 0; start = 0; runs = runs; each = of.are.each; within = of.are.within; as_of = as_of; parts = parts; some = some; are = refl },
-  of.is,
+  record { first = 0; start = 0; runs = runs; each = runs_are.each; within = runs_are.within; as_of = as_of; parts = parts; some = some; are = refl },
+  is,
 )
 
 module _ {S : Type 0} (device : BlockSourceOf S) (asked : Asked S) (asks : IsAskable asked.request) where
-  scanned : {at : ℕ} {total : ScanTotalView} (chained : IsChained device asked.source asked.request at total)
-      → IsScanOf 0 0 asked.request.as_of asked.request.parts chained.runs total
-  scanned chained =
-      record {
-        are = record { each = chained.each; bytes = chained.bytes; within = omega (arith, chained.at_is, chained.within, asks.limit) };
-        is = chained.are;
-      }
+  runs_of : {at : ℕ} {total : ScanTotalView} (chained : IsChained device asked.source asked.request at total) → AreRuns 0 chained.runs
+  runs_of chained = record { each = chained.each; bytes = chained.bytes; within = omega (arith, chained.at_is, chained.within, asks.limit) }
 
   -- a total of all that a source gave is that of the scans of some cut
   pub of_one_cut : {total : ScanTotalView} → IsScannedWhole device asked.source asked.request total
       → IsTotal (λ inputs t. t ≡ total_of inputs) AreConsecutive total
-  of_one_cut (at, chained, ended) = of_cut asks.some (scanned chained)
+  of_one_cut (at, chained, ended) = of_cut asked.request.as_of asks.some (runs_of chained) chained.are
 
   module _ (query : Meaning) (same : asked.request.as_of ≡ query.as_of) where
     -- this comes of all that the source gave
@@ -60,7 +55,7 @@ module _ {S : Type 0} (device : BlockSourceOf S) (asked : Asked S) (asks : IsAsk
         ended = subst (device.EndsAt asked.source) chained.at_is ended;
         within = omega (arith, chained.at_is, chained.within);
       },
-      given_of r given refl asks.some (λ first is. rw (is, ← same) (scanned chained)),
+      given_of r given refl asks.some (runs_of chained) (λ first is. rw (is, ← same) chained.are),
     )
 
     are : (count : ℕ) → 0 < count → {attempts : List (AttemptView S)} → AreOf (blocks_of asked.source asked.request count) attempts

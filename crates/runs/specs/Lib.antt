@@ -1,3 +1,4 @@
+pub mod Ends
 pub mod Made
 pub mod Runs
 pub mod Steps

@@ -4,15 +4,15 @@ use Rattle.std.specs.List.{concat}
 use Rattle.std.proofs.lemmas.List.{length-append}
 use Rattle.std.proofs.lemmas.List.Folds.{concat-append}
 use Rattle.std.proofs.lemmas.List.Elements.{All-append}
-use Rattle.day_file.specs.Cuts.{IsCutBy}
-use Rattle.day_file.specs.Feeding.{CutterView, HasFed, IsFullRun, fed_length}
+use Rattle.cutting.specs.Cutting.{IsCutBy}
+use Rattle.cutting.specs.Feeding.{CutterView, HasFed, IsFullRun, fed_length}
 use Rattle.day_file.specs.Frames.{IsTruncatedAt}
 use Rattle.sources.specs.Given.{GaveAll, IsDayRead}
 use Rattle.sources.specs.declared.day_reading.ReadFault.{ReadFault}
 use Rattle.sources.specs.declared.day_reading.ReadFault.TheVariants as read
 use Rattle.sources.specs.declared.source.Source.{Ghosts as SourceOf}
-use Rattle.day_file.proofs.Fed.{fed_length_is, truncated_after_full}
-use Rattle.day_file.proofs.CutsBy.{cut_after}
+use Rattle.cutting.proofs.Fed.{fed_length_is, truncated_after_full}
+use Rattle.cutting.proofs.CutsBy.{cut_after}
 use Rattle.streaming.specs.Batches.{HasRead, IsLastFault, IsReadTo, IsReading, ReaderView, read_length}
 use Rattle.day_file.specs.Sources.{IsSourceFault, source_fault_of}
 use Rattle.streaming.specs.Readings.{of_stream}

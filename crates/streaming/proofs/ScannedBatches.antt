@@ -6,7 +6,8 @@ use Rattle.std.proofs.lemmas.List.Elements.{All-append}
 use Rattle.std.proofs.lemmas.List.Folds.{concat-append}
 use Rattle.base.specs.declared.limits.TheConstants.{LONGEST_FILE, MOST_MORSELS}
 use Rattle.base.specs.Among.{AreBytes}
-use Rattle.day_file.specs.Cuts.{IsCutBy, IsRun}
+use Rattle.cutting.specs.Cutting.{IsCutBy}
+use Rattle.day_file.specs.Cuts.{IsRun}
 use Rattle.sources.specs.Given.{GaveAll, GaveSome}
 use Rattle.sources.specs.declared.source.Source.{Ghosts as SourceOf}
 use Rattle.scanning.specs.Scans.{AreRuns, AreTogether, ScanInputView, ScanTotalView, inputs_from, inputs_of, total_of, with_scans}

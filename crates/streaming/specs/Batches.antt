@@ -3,8 +3,8 @@
 use Rattle.std.specs.Prelude.{◌≡◌, ℕ, ◌+◌, ◌<◌, ◌≤◌, true, false, List, ◌++◌, length, All}
 use Rattle.std.specs.List.{concat}
 use Rattle.base.specs.declared.limits.TheConstants.{LONGEST_FILE, MOST_MORSELS}
-use Rattle.day_file.specs.Cuts.{IsCutBy}
-use Rattle.day_file.specs.Feeding.{CutterView, HasFed, IsFullRun, fed_length}
+use Rattle.cutting.specs.Cutting.{IsCutBy}
+use Rattle.cutting.specs.Feeding.{CutterView, HasFed, IsFullRun, fed_length}
 use Rattle.day_file.specs.Frames.{IsTruncatedAt}
 use Rattle.sources.specs.Given.{GaveAll}
 use Rattle.sources.specs.declared.source.Source.{Ghosts as SourceOf}

@@ -2,7 +2,7 @@
 -- To be believed.
 use Rattle.std.specs.Prelude.{◌≡◌, ℕ, ◌<◌, ◌≤◌, ◌⊎◌, List, length}
 use Rattle.base.specs.declared.limits.TheConstants.{MOST_MORSELS}
-use Rattle.day_file.specs.Cuts.{IsCutBy}
+use Rattle.cutting.specs.Cutting.{IsCutBy}
 use Rattle.day_file.specs.Frames.{IsTruncatedAt}
 use Rattle.day_file.specs.Sources.{Reading}
 use Rattle.sources.specs.Given.{GaveAll, GaveMore, GaveSome}

@@ -5,7 +5,8 @@ use Rattle.std.specs.List.{concat}
 use Rattle.base.specs.Among.{AreBytes}
 use Rattle.sources.specs.Given.{GaveAll}
 use Rattle.sources.specs.declared.source.Source.{Ghosts as SourceOf}
-use Rattle.day_file.specs.Cuts.{IsCutBy, IsRun}
+use Rattle.cutting.specs.Cutting.{IsCutBy}
+use Rattle.day_file.specs.Cuts.{IsRun}
 use Rattle.scanning.specs.Scans.{inputs_of, total_of}
 use Rattle.streaming.specs.Batches.{IsReadTo, ReaderView, read_length}
 use Rattle.streaming.specs.declared.batch.Batch.{Batch}

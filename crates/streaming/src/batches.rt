@@ -3,15 +3,16 @@ ghost use Rattle.std.specs.Prelude.{◌≡◌, ◌≤◌, ◌<◌, ◌+◌, ◌+
 ghost use Rattle.std.specs.Prelude.{IfErr, IfOk, IfSome, IsErrOf, IsNone, OnErr, OnOk};
 ghost use Rattle.std.specs.List.{concat};
 ghost use Rattle.base.specs.declared.limits.TheConstants.{LONGEST_FILE, MOST_MORSELS};
-ghost use Rattle.day_file.specs.Cuts.{IsCutBy};
-ghost use Rattle.day_file.specs.Feeding.{HasFed, fed_length};
+ghost use Rattle.cutting.specs.Cutting.{IsCutBy};
+ghost use Rattle.cutting.specs.Feeding.{HasFed, fed_length};
 ghost use Rattle.streaming.specs.Batches.{HasRead, IsLastFault, IsNextBatch, IsReadTo, IsReading};
 ghost use Rattle.streaming.specs.Batches.{ReaderView, read_length};
 ghost use Rattle.day_file.specs.Sources.{IsSourceFault};
 ghost use Rattle.streaming.specs.Readings.{of_stream};
 
 use crate::batch::Batch;
-use day_file::{CutFault, Cutter, LONGEST_FILE, MOST_MORSELS, Source, SourceFault};
+use cutting::{CutFault, Cutter};
+use day_file::{LONGEST_FILE, MOST_MORSELS, Source, SourceFault};
 use std::alloc::Global;
 use std::marker::Model;
 use std::mem;

@@ -2,7 +2,7 @@
 ghost use Rattle.std.specs.Prelude.{◌≡◌, ◌<◌, ◌≤◌};
 ghost use Rattle.base.specs.declared.limits.TheConstants.{MOST_PARTITIONS};
 
-use day_file::cut;
+use cutting::cut;
 use executor::{
     Answer, Crew, DayFault, Division, FreeGate, Gate, LONGEST_FILE, OutOfMemory, Query, Settings,
     answer, answer_alone, answer_blocks, answer_blocks_alone, parse,

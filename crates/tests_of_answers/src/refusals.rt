@@ -2,7 +2,7 @@
 //! of the process refused in turn, and with threads that can't be started: what comes is the right answer, or want of
 //! memory.
 use crate::answering::{BARS, HEADER, SALES, TWO, is_answered_freely, is_told, settings_of};
-use day_file::cut_at;
+use cutting::cut_at;
 use executor::{
     Counted, CountedSink, Cut, DayFault, DayFile, Event, LONGEST_FILE, OutOfMemory, Query,
     Rehearsal, RunFault, parse, plain, rehearse, run,

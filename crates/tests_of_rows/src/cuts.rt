@@ -2,10 +2,8 @@
 //! the right fault, or want of memory.
 use crate::days::named;
 use crate::rows::pass_if;
-use day_file::{
-    Counted, Cut, CutFault, Cutter, DayFile, LONGEST_FILE, check, cut, cut_at, frames, one_cut,
-    one_reading,
-};
+use cutting::{CutFault, Cutter, cut, cut_at, one_cut};
+use day_file::{Counted, Cut, DayFile, LONGEST_FILE, check, frames, one_reading};
 use std::alloc::{AllocError, Global};
 use std::test::Fail;
 use tests_support::file_of;

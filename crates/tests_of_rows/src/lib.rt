@@ -7,8 +7,6 @@
 #![tactic(auto)]
 
 #[cfg(test)]
-mod bar_lines;
-#[cfg(test)]
 mod batches;
 #[cfg(test)]
 mod blocks;
@@ -22,6 +20,8 @@ mod days;
 mod letters;
 #[cfg(test)]
 mod lines;
+#[cfg(test)]
+mod lines_of_bars;
 #[cfg(test)]
 mod listings;
 #[cfg(test)]

@@ -1,5 +1,5 @@
 //! Names of locates, by the last directory row; prices, times and lines of sales: their texts, whole or not at all.
-use crate::bar_lines::names;
+use crate::lines_of_bars::names;
 use crate::room::{Came, needs_more};
 use crate::rows::{named_row, pass_told};
 use linked_list_allocator::LocalHeap;

@@ -5,19 +5,20 @@ ghost use Rattle.base.specs.declared.limits.TheConstants.{TIME_LIMIT, TRADE_LIMI
 ghost use Rattle.row_types.specs.SalesByPlace.{IsByPlace};
 ghost use Rattle.time_and_sales.specs.Lent.{AreApart, all_sales, lent};
 
-use crate::bar_lines::names;
+use crate::lines_of_bars::names;
 use crate::parts::{Trial, pass};
 use crate::room::{Came, needs_more};
 use crate::rows::{pass_if, pass_told};
 use linked_list_allocator::LocalHeap;
 use probe::{Kind, Sale};
+use sale_lines::{AllSales, SaleLines};
 use sinks::Parts;
 use std::alloc::{Allocator, Global};
 use std::marker::Brand;
 use std::sync::Wait;
 use std::test::Fail;
 use std::thread::Threads;
-use time_and_sales::{AllSales, Listing, OutOfMemory, SaleLines};
+use time_and_sales::{Listing, OutOfMemory};
 
 fn sale(place: u64, locate: u16) -> Sale
     ensures place { result.place ≡ place }

@@ -1,7 +1,7 @@
 //! Scans of the morsels of a day, whose pieces are gathered in any order.
 use crate::days::{broken_earlier, named};
 use crate::rows::pass_if;
-use day_file::cut_at;
+use cutting::cut_at;
 use day_rows::Row;
 use gathering::{Filed, Gathering, Inputs, Piece, Work};
 use morsel_rows::{MorselRows, Partition};

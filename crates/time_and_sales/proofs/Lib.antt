@@ -1,7 +1,5 @@
 pub mod Decimals
+pub mod InRanges
 pub mod LastRows
 pub mod MergedListings
-pub mod RangesJoined
-pub mod SalesInTurn
 pub mod SortedByPlace
-pub mod TakenInTurn

@@ -1,6 +1,6 @@
--- Ranges of numbers, and texts in pieces.
+-- Ranges of numbers.
 -- To be believed of a crate used by itself: clauses on a text that is made in ranges are in these words.
-use Rattle.std.specs.Prelude.{ℕ, Bool, true, false, not, ◌&&◌, nat_lt, max, List, [], ◌∷◌, Vec, Option, Some, None, filter}
+use Rattle.std.specs.Prelude.{ℕ, Bool, true, false, not, ◌&&◌, nat_lt, max, List, [], ◌∷◌, Vec, Option, Some, None}
 use Rattle.std.specs.List.{flat_map}
 
 -- the items of all vectors, vector by vector
@@ -17,12 +17,6 @@ is_in_first number (low ∷ high ∷ bounds) x = not (nat_lt (number x) low) && 
 abbrev pub is_behind : {X : Type 0} → (X → ℕ) → Option ℕ → X → Bool
 is_behind number None x = true
 is_behind number (Some last) x = nat_lt last (number x)
-
--- the texts of the ranges that begin at the bounds: each has the lines of the items in it
-abbrev pub texts_of_ranges : {X : Type 0} → (X → ℕ) → (X → List ℕ) → List X → List ℕ → List (List ℕ)
-texts_of_ranges number line items [] = []
-texts_of_ranges number line items (low ∷ bounds) =
-    flat_map line (filter (is_in_first number (low ∷ bounds)) items) ∷ texts_of_ranges number line items bounds
 
 -- the greatest number so far, for each of the numbers in turn
 abbrev pub greatest_so_far : ℕ → List ℕ → List ℕ

@@ -116,7 +116,7 @@ fn put_by_place<A: Allocator>(sales: &mut Vec<Sale, A>)
 
 /// The order of sales by place.
 #[derive(Clone, Copy)]
-pub(crate) struct ByPlace;
+pub struct ByPlace;
 
 impl Numbered<Sale> for ByPlace {
     ghost number_of = { λ sale. sale.place };

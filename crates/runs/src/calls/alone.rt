@@ -3,18 +3,15 @@ ghost use Rattle.std.specs.Prelude.{◌≡◌, ℕ, ◌<◌, ◌≤◌, List, fa
 ghost use Rattle.std.specs.Arc.{arc_value};
 ghost use Rattle.std.specs.List.{concat};
 ghost use Rattle.base.specs.declared.limits.TheConstants.{MOST_PARTITIONS};
-ghost use Rattle.answers.specs.Answers.{IsAnswer, told_by};
+ghost use Rattle.answers.specs.Answers.{IsAnswer};
 ghost use Rattle.block_scan.specs.Blocks.{GaveWhole, IsBlocksFault, of_blocks};
-ghost use Rattle.runs.specs.Made.{IsReady, told};
+ghost use Rattle.runs.specs.Made.{IsOutcomeOf, IsReady, told};
 ghost use Rattle.runs.specs.Runs.{IsAnsweredOrRefused, Ran, is_write_failed};
-ghost use Rattle.runs.specs.Steps.{IsOutcomeOf};
 
 use crate::OutOfMemory;
-use crate::calls::answer::made_of;
 use crate::calls::block_link::{BlockLink, found_or_fault};
 use crate::calls::ends::{made_of_fault, query_of};
-use crate::calls::made::Made;
-use answers::Answer;
+use crate::calls::made::{Made, made_of};
 use block_scan::{BlockSource, Division, SourceFault, block_inputs};
 use day_file::Cut;
 use order_table::greatest_prime;
@@ -51,24 +48,9 @@ pub fn run_blocks_alone<S: BlockSource + Send + Sync, K: Sink>(
     made.hand_over_alone(alloc, sink)
 }
 
-/// Answers a query over a cut day file, as `answer` does, on the caller's thread alone: each morsel and each partition
-/// is run once, in order. No thread is started, and nothing is waited for.
-pub fn answer_alone<G: Gate>(
-    alloc: Global,
-    cut: &Cut,
-    query: &Query,
-    parts: u32,
-    gate: &G,
-) -> Result<Answer, OutOfMemory>
-    requires parts { (0 < parts) × (parts ≤ MOST_PARTITIONS) }
-    ensures { IfOk result (λ answer. IsAnswer (concat cut.now) query.now (told_by answer)) }
-{
-    let made = made_alone(alloc, cut, query, parts, gate)?;
-    made.into_answer_alone(alloc)
-}
-
-/// What comes of a query over a cut day file, on the caller's thread alone.
-pub(crate) fn made_alone<G: Gate>(
+/// What comes of a query over a cut day file, on the caller's thread alone: each morsel and each of `parts` partitions,
+/// from 1 to 256, is run once, in order. It is refused if memory was refused to it.
+pub fn made_alone<G: Gate>(
     alloc: Global,
     cut: &Cut,
     query: &Query,
@@ -85,25 +67,9 @@ pub(crate) fn made_alone<G: Gate>(
     Ok(made_of(query, outcome, 0))
 }
 
-/// Answers a query over all that a source gives at places, as `answer_blocks` does, on the caller's thread alone: as
-/// one block. No thread is started, and nothing is waited for.
-pub fn answer_blocks_alone<G: Gate, S: BlockSource + Send + Sync>(
-    alloc: Global,
-    source: &Arc<S, Global>,
-    query: &Query,
-    settings: Settings,
-    gate: &G,
-) -> Result<Answer, RunFault>
-    ensures { IsAnsweredOrRefused told_by (of_blocks S.BlockSource.own settings.limit (arc_value source.now))
-        query.now settings.limit result }
-{
-    let made = made_of_block(alloc, source, query, settings, gate)?;
-    let answer = made.into_answer_alone(alloc)?;
-    Ok(answer)
-}
-
-/// What comes of a query over all that a source gives at places, on the caller's thread alone.
-fn made_of_block<G: Gate, S: BlockSource + Send + Sync>(
+/// What comes of a query over all that a source gives at places, on the caller's thread alone: as one block. No thread
+/// is started, and nothing is waited for.
+pub fn made_of_block<G: Gate, S: BlockSource + Send + Sync>(
     alloc: Global,
     source: &Arc<S, Global>,
     query: &Query,

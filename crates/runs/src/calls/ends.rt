@@ -4,7 +4,7 @@ ghost use Rattle.query.specs.Grammar.{Means};
 ghost use Rattle.query.specs.Words.{words_of};
 ghost use Rattle.runs.specs.Made.{IsReady, told};
 ghost use Rattle.runs.specs.Runs.{is_read_failed};
-ghost use Rattle.runs.specs.Steps.{IsQueryRefusal, reported};
+ghost use Rattle.runs.specs.Ends.{IsQueryRefusal, reported};
 
 use crate::calls::made::Made;
 use answers::DayFault;
@@ -13,8 +13,9 @@ use outcomes::RunFault;
 use query::{Query, QueryFault, parse};
 use std::alloc::Global;
 
-/// The query that a text means.
-pub(crate) fn query_of(alloc: Global, text: &str) -> Result<Query, RunFault>
+/// The query that a text means. It is refused with the first fault of its words, or if it lists symbols and memory was
+/// refused to it.
+pub fn query_of(alloc: Global, text: &str) -> Result<Query, RunFault>
     ensures query { IfOk result (Means (words_of text.now)) }
     ensures refused { IfErr result (IsQueryRefusal text.now) }
 {
@@ -26,7 +27,7 @@ pub(crate) fn query_of(alloc: Global, text: &str) -> Result<Query, RunFault>
 }
 
 /// What is reported if a source gives no rows: the place where it is truncated, or a refusal.
-pub(crate) fn made_of_fault(fault: SourceFault, limit: u64) -> Result<Made, RunFault>
+pub fn made_of_fault(fault: SourceFault, limit: u64) -> Result<Made, RunFault>
     ensures answers { IfOk result (λ made. reported limit fault ≡ Ok (told made)) }
     ensures ready { IfOk result IsReady }
     ensures refused { IfErr result (λ refusal. reported limit fault ≡ Err refusal) }

@@ -1,44 +1,51 @@
 //! What both pipelines found of a day: a fault, or what is listed, whose text is made while it is written.
-ghost use Rattle.std.specs.Prelude.{◌≡◌, IfOk, false};
-ghost use Rattle.answers.specs.Answers.{told_by};
-ghost use Rattle.runs.specs.Made.{IsReady, told};
+ghost use Rattle.std.specs.Prelude.{◌≡◌, ℕ, List, false, Err};
+ghost use Rattle.std.specs.List.{concat};
+ghost use Rattle.answers.specs.Answers.{IsAnswer, IsAnswerToMessages};
+ghost use Rattle.day_rows.specs.Messages.{Placed};
+ghost use Rattle.planning.specs.AllBuckets.{AreGatheredOf};
+ghost use Rattle.runs.specs.Made.{IsHandedOrRefused, IsOutcomeOf, IsReady, told};
 ghost use Rattle.runs.specs.Runs.{is_write_failed};
-ghost use Rattle.runs.specs.Steps.{IsCollected, IsHandedOrRefused, outcome_of};
-ghost use Rattle.sinks.specs.Counted.{bytes_of};
+ghost use Rattle.runs.specs.Steps.{outcome_of};
 
 use crate::OutOfMemory;
-use answers::{Answer, DayFault, Text};
+use answers::DayFault;
 use buckets::{DayNames, Plan};
 use meaning::What;
 use outcomes::RunFault;
-use planning::{BucketTotal, put_text, put_text_alone};
-use sinks::{Collected, Sink, WriteFailed};
+use pipelines::Outcome;
+use planning::{BucketTotal, DayPlan, fault_of, put_text, put_text_alone};
+use query::Query;
+use scanning::WrongLength;
+use sinks::{Sink, WriteFailed};
 use std::alloc::{AllocError, Global};
 use std::sync::{Arc, Wait};
 use std::thread::{self, Threads};
 
 /// What comes of a day.
 #[derive(Drop)]
-pub(crate) enum Made {
+pub enum Made {
+    /// The fault that is reported of it.
     Faulty(DayFault),
+    /// What is listed of it.
     Listed(ListedDay),
 }
 
 /// What all buckets of a day list, and the names of its locates. `plan` has what both were made of, which is freed once
 /// the text is begun. `threads` threads make the text, or the caller's if that is none.
 #[derive(Drop)]
-pub(crate) struct ListedDay {
-    pub(crate) what: What,
-    pub(crate) total: BucketTotal,
-    pub(crate) names: DayNames,
-    pub(crate) plan: Arc<Plan, Global>,
-    pub(crate) threads: u32,
+pub struct ListedDay {
+    what: What,
+    total: BucketTotal,
+    names: DayNames,
+    plan: Arc<Plan, Global>,
+    threads: u32,
 }
 
 impl Made {
     /// Writes the text to a sink, or reports the fault. It is refused, with nothing written, if there is no memory to
     /// begin with. It waits for the threads that make the text, and for one that frees what it was made of.
-    pub(crate) fn hand_over<R: Threads + Wait + Sync, K: Sink>(
+    pub fn hand_over<R: Threads + Wait + Sync, K: Sink>(
         self,
         rt: &R,
         alloc: Global,
@@ -81,11 +88,7 @@ impl Made {
     }
 
     /// The same on the caller's thread. It waits for nothing.
-    pub(crate) fn hand_over_alone<K: Sink>(
-        self,
-        alloc: Global,
-        sink: &mut K,
-    ) -> Result<(), RunFault>
+    pub fn hand_over_alone<K: Sink>(self, alloc: Global, sink: &mut K) -> Result<(), RunFault>
         requires ready { IsReady self }
         requires whole { K.has_failed sink.old ≡ false }
         ensures handed { IsHandedOrRefused K.Sink (λ answer. told self ≡ answer) sink.old sink.new result }
@@ -95,30 +98,6 @@ impl Made {
             Made::Faulty(fault) => Err(RunFault::Day(fault)),
             Made::Listed(day) => day.put_alone(alloc, sink),
         }
-    }
-
-    /// The answer, whose text is kept in memory.
-    pub(crate) fn into_answer<R: Threads + Wait + Sync>(
-        self,
-        rt: &R,
-        alloc: Global,
-    ) -> Result<Answer, OutOfMemory>
-        requires { IsReady self }
-        ensures { IfOk result (λ answer. told_by answer ≡ told self) }
-    {
-        let mut text = Collected::new(alloc);
-        let handed = self.hand_over(rt, alloc, &mut text);
-        answer_of(handed, text)
-    }
-
-    /// The same on the caller's thread.
-    pub(crate) fn into_answer_alone(self, alloc: Global) -> Result<Answer, OutOfMemory>
-        requires { IsReady self }
-        ensures { IfOk result (λ answer. told_by answer ≡ told self) }
-    {
-        let mut text = Collected::new(alloc);
-        let handed = self.hand_over_alone(alloc, &mut text);
-        answer_of(handed, text)
     }
 }
 
@@ -144,6 +123,58 @@ impl ListedDay {
     }
 }
 
+/// What comes of the outcome of both pipelines. `threads` threads make its text, or the caller's if that is none.
+pub fn made_of(
+    query: &Query,
+    outcome: Outcome<BucketTotal, DayPlan, WrongLength>,
+    threads: u32,
+) -> Made
+    requires outcome { (runs : List (List ℕ)) × IsOutcomeOf query.now outcome runs }
+    ensures answers { (runs : List (List ℕ)) → IsOutcomeOf query.now outcome runs →
+        IsAnswer (concat runs) query.now (told result) }
+    ensures ready { IsReady result }
+{
+    match outcome {
+        Outcome::Finished { total, kept } => made_of_total(query, total, kept, threads),
+        Outcome::Stopped { stop } => Made::Faulty(fault_of_length(stop)),
+    }
+}
+
+/// What comes of the total of all buckets: the first fault in the references, or what they list. `threads` threads make
+/// its text, or the caller's if that is none.
+pub fn made_of_total(query: &Query, total: BucketTotal, kept: DayPlan, threads: u32) -> Made
+    requires gathered { (messages : List Placed) × AreGatheredOf query.now total kept messages }
+    ensures answers { (messages : List Placed) → AreGatheredOf query.now total kept messages →
+        IsAnswerToMessages messages query.now (told result) }
+    ensures ready { IsReady result }
+{
+    match fault_of(&total) {
+        Some(fault) => Made::Faulty(fault),
+        None => {
+            let DayPlan { names, plan } = kept;
+            Made::Listed(ListedDay {
+                what: query.what,
+                total,
+                names,
+                plan,
+                threads,
+            })
+        }
+    }
+}
+
+/// The fault of a wrong length that the first pipeline found.
+pub fn fault_of_length(wrong: WrongLength) -> DayFault
+    ensures { result ≡ DayFault.WrongLength wrong.place wrong.fault.kind wrong.fault.length wrong.fault.wanted }
+{
+    DayFault::WrongLength {
+        place: wrong.place,
+        kind: wrong.fault.kind,
+        length: wrong.fault.length,
+        wanted: wrong.fault.wanted,
+    }
+}
+
 /// What is reported of a text that was written or not.
 fn fault_or_done(put: Result<Result<(), WriteFailed>, OutOfMemory>) -> Result<(), RunFault>
     ensures { result ≡ outcome_of put }
@@ -152,16 +183,5 @@ fn fault_or_done(put: Result<Result<(), WriteFailed>, OutOfMemory>) -> Result<()
         Ok(Ok(())) => Ok(()),
         Ok(Err(WriteFailed { written })) => Err(RunFault::WriteFailed { written }),
         Err(AllocError) => Err(RunFault::OutOfMemory),
-    }
-}
-
-/// The answer whose text was written to a vector. It is refused if that failed.
-fn answer_of(handed: Result<(), RunFault>, text: Collected<Global>) -> Result<Answer, OutOfMemory>
-    ensures { IfOk result (λ answer. IsCollected handed (bytes_of text) (told_by answer)) }
-{
-    match handed {
-        Ok(()) => Ok(Answer::Printed(Text::of(text.into_bytes()))),
-        Err(RunFault::Day(fault)) => Ok(Answer::Faulty(fault)),
-        Err(_) => Err(AllocError),
     }
 }

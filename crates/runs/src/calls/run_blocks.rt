@@ -1,19 +1,15 @@
-//! `run_blocks` and `answer_blocks`: a query over a source that is read at places.
+//! `run_blocks`: a query over a source that is read at places, to a sink.
 ghost use Rattle.std.specs.Prelude.{◌≡◌, ℕ, List, false, IfErr, IfOk, OnOk};
 ghost use Rattle.std.specs.Arc.{arc_value};
 ghost use Rattle.std.specs.List.{concat};
 ghost use Rattle.block_scan.specs.Blocks.{GaveWhole, IsBlocksFault, of_blocks};
-ghost use Rattle.answers.specs.Answers.{told_by};
-ghost use Rattle.runs.specs.Made.{IsReady, told};
+ghost use Rattle.runs.specs.Made.{IsOutcomeOf, IsReady, told};
 ghost use Rattle.runs.specs.Runs.{IsAnsweredOrRefused, Ran, is_write_failed};
-ghost use Rattle.runs.specs.Steps.{IsOutcomeOf};
 
 use crate::calls::alone::run_blocks_alone;
-use crate::calls::answer::made_of;
 use crate::calls::block_link::{BlockLink, found_or_fault};
 use crate::calls::ends::{made_of_fault, query_of};
-use crate::calls::made::Made;
-use answers::Answer;
+use crate::calls::made::{Made, made_of};
 use block_scan::{
     BlockSource, Division, Knowledge, NewWatch, SourceFault, Watch, WatchName, Watched,
     block_inputs,
@@ -64,29 +60,9 @@ pub fn run_blocks<R: Threads + Wait + Sync, S: BlockSource + Send + Sync, K: Sin
     made.hand_over(rt, alloc, sink)
 }
 
-/// Answers a query over all that a source gives at places, by two pipelines as `answer` does: the first has a task for
-/// each block of the division. Neither the division nor the crew or the gate change the answer.
-///
-/// It waits for its threads. A reading that fails is reported, even if another one of its block's didn't.
-pub fn answer_blocks<G: Gate, R: Threads + Wait + Sync, S: BlockSource + Send + Sync>(
-    rt: &R,
-    alloc: Global,
-    source: &Arc<S, Global>,
-    division: Division,
-    query: &Query,
-    settings: Settings,
-    gate: &G,
-) -> Result<Answer, RunFault>
-    ensures { IsAnsweredOrRefused told_by (of_blocks S.BlockSource.own settings.limit (arc_value source.now))
-        query.now settings.limit result }
-{
-    let made = made_in_blocks(rt, alloc, source, division, query, settings, gate)?;
-    let answer = made.into_answer(rt, alloc)?;
-    Ok(answer)
-}
-
-/// What comes of a query over all that a source gives at places.
-fn made_in_blocks<G: Gate, R: Threads + Wait + Sync, S: BlockSource + Send + Sync>(
+/// What comes of a query over all that a source gives at places: the first pipeline has a task for each block of the
+/// division. It waits for its threads. A reading that fails is reported, even if another one of its block's didn't.
+pub fn made_in_blocks<G: Gate, R: Threads + Wait + Sync, S: BlockSource + Send + Sync>(
     rt: &R,
     alloc: Global,
     source: &Arc<S, Global>,

@@ -1,5 +1,5 @@
 use Rattle.std.proofs.Common.{length, ap, refl, subst, arith}
-use Rattle.day_file.specs.Cuts.{IsCutFault}
+use Rattle.cutting.specs.Cutting.{IsCutFault}
 use Rattle.streaming.proofs.batches.last_batch.Goals as goal
 
 pub returns-then-first-count-gt-MOST_MORSELS-clause-fault : goal.returns-then-first-count-gt-MOST_MORSELS-clause-fault

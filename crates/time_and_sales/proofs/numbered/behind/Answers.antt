@@ -1,8 +1,7 @@
 use Rattle.std.proofs.Common.{rules, leb, ◌∙◌, ap, filter, sym}
 use Rattle.std.proofs.lemmas.List.Sorted.{IsPartitionPoint-from_clause, IsPartitionedBy-leb}
 use Rattle.time_and_sales.specs.Ranges.{is_behind}
-use Rattle.time_and_sales.proofs.RangesJoined.{failing_back}
-use Rattle.time_and_sales.proofs.TakenInTurn.{above_is_behind, all_behind_none}
+use Rattle.time_and_sales.proofs.InRanges.{above_is_behind, all_behind_none, failing_back}
 use Rattle.time_and_sales.proofs.numbered.behind.Goals as goal
 
 pub returns-in-Some : goal.returns-in-Some

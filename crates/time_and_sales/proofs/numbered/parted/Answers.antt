@@ -1,6 +1,6 @@
 use Rattle.std.proofs.Common.{rules, ltb, ◌∙◌}
 use Rattle.std.proofs.lemmas.List.Sorted.{IsNonDecreasingBy-drop, IsPartitionPoint-from_clause, IsPartitionedBy-ltb}
-use Rattle.time_and_sales.proofs.RangesJoined.{failing_back, passing_front}
+use Rattle.time_and_sales.proofs.InRanges.{failing_back, passing_front}
 use Rattle.time_and_sales.proofs.numbered.parted.Goals as goal
 
 pub returns : goal.returns

@@ -1,5 +1,5 @@
 use Rattle.std.proofs.Common.{filter, get_or, ltb, sym, ap, ◌∙◌, arith}
-use Rattle.time_and_sales.proofs.RangesJoined.{no_bound, two_bounds}
+use Rattle.time_and_sales.proofs.InRanges.{no_bound, two_bounds}
 use Rattle.time_and_sales.proofs.numbered.within.Goals as goal
 
 pub returns-in-empty : goal.returns-in-empty

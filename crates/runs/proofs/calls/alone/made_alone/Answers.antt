@@ -11,8 +11,8 @@ made_of-requires g c =
     record {
       outcome = (
         c.args.cut.now,
-        given_of _ c.in_ok-outcome.ensures c.new-link.ensures c.requires.parts.0
-            (λ first is. record { are = scans.runs; is = is ∙ ap total_of are }),
+        given_of _ c.in_ok-outcome.ensures c.new-link.ensures c.requires.parts.0 scans.runs
+            (λ first is. is ∙ ap total_of are),
       );
     }
 
@@ -21,5 +21,5 @@ returns-clause-answers g c =
     let scans = c.in_ok-inputs.ensures in
     let are = scans.inputs ∙ ap (λ (m : Meaning). inputs_of m.as_of c.args.parts c.args.cut.now) c.query.view_is in
     c.made_of.ensures.answers c.args.cut.now
-    (given_of _ c.in_ok-outcome.ensures c.new-link.ensures c.requires.parts.0
-    (λ first is. record { are = scans.runs; is = is ∙ ap total_of are }))
+    (given_of _ c.in_ok-outcome.ensures c.new-link.ensures c.requires.parts.0 scans.runs
+    (λ first is. is ∙ ap total_of are))

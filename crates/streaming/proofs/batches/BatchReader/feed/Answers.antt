@@ -1,7 +1,7 @@
 use Rattle.std.proofs.Common.{ap, ◌∙◌, arith}
 use Rattle.std.proofs.lemmas.Result.{err_from_is_err_and}
 use Rattle.std.proofs.lemmas.Bool.{ltb-true}
-use Rattle.day_file.proofs.Fed.{fed_length_is}
+use Rattle.cutting.proofs.Fed.{fed_length_is}
 use Rattle.streaming.specs.Batches.{ReaderView, read_length}
 use Rattle.streaming.proofs.JoinedBatches.{fault_is, grown, read_length_is, read_on, reading_on}
 use Rattle.streaming.proofs.batches.BatchReader.feed.Goals as goal

@@ -1,5 +1,5 @@
 use Rattle.std.proofs.Common.{[], arith}
-use Rattle.day_file.proofs.Fed.{fed_length_is}
+use Rattle.cutting.proofs.Fed.{fed_length_is}
 use Rattle.streaming.proofs.batches.BatchReader.new.Goals as goal
 
 pub invariant_of-result : goal.invariant_of-result

@@ -1,9 +1,9 @@
 use Rattle.std.proofs.Common.{◌≡◌, ℕ, List, [], sym, ap, ◌∙◌, subst, arith}
 use Rattle.std.proofs.lemmas.Result.{IfErr-weaker, IfOk-weaker, err_from_is_err_and}
 use Rattle.std.proofs.lemmas.Bool.{false≢true}
-use Rattle.day_file.specs.Cuts.{IsCutBy}
-use Rattle.day_file.specs.Feeding.{CutterView, HasFed}
-use Rattle.day_file.proofs.Fed.{fed_length_is}
+use Rattle.cutting.specs.Cutting.{IsCutBy}
+use Rattle.cutting.specs.Feeding.{CutterView, HasFed}
+use Rattle.cutting.proofs.Fed.{fed_length_is}
 use Rattle.streaming.specs.Batches.{IsLastFault, ReaderView}
 use Rattle.streaming.proofs.JoinedBatches.{last_cut, last_fault, reading_on}
 use Rattle.streaming.proofs.batches.BatchReader.read_batch.Goals as goal

@@ -1,0 +1,17 @@
+use Rattle.std.proofs.Common.{◌∙◌}
+use Rattle.std.proofs.lemmas.Result.{IfOk-weaker}
+use Rattle.time_and_sales.specs.Names.{names_by}
+use Rattle.bar_lines.proofs.RangeTexts.{part_within, text_of_part}
+use Rattle.bar_lines.proofs.bar_lines.BarLinesParts.make.Goals as goal
+
+pub bounds_from-bounds-requires : goal.bounds_from-bounds-requires
+bounds_from-bounds-requires g c =
+    rw c.as_slice.ensures.value
+    (part_within (names_by c.self.inside.names.now) g.J.AllBars.bars c.self.inside.bounds.items c.args.self.now c.args.part c.self.view_is c.requires)
+
+pub returns : goal.returns
+returns g c =
+    let bounds = c.self.inside.bounds.items in
+    let is = text_of_part (names_by c.self.inside.names.now) g.J.AllBars.bars bounds c.args.self.now c.args.part c.self.view_is c.requires in
+    IfOk-weaker c.range_lines.result _ _
+    (λ text made. rw (c.bounds_from-bounds.ensures, c.as_slice.ensures.value) at (made g.J.AllBars.bars c.self.invariant.0) ∙ is) c.range_lines.ensures

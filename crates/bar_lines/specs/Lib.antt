@@ -1,0 +1,4 @@
+pub mod AtKeys
+pub mod BarParts
+pub mod Grids
+pub mod NextBar

@@ -1,0 +1,4 @@
+use Rattle.executor.proofs.answering_blocks.answer_blocks_alone.Goals as goal
+
+pub returns : goal.returns
+returns g c = rw c.in_ok-answer.ensures c.in_ok-made.ensures.answered

@@ -1,4 +1,0 @@
-use Rattle.runs.proofs.calls.alone.answer_blocks_alone.Goals as goal
-
-pub returns : goal.returns
-returns g c = rw c.in_ok-answer.ensures c.in_ok-made.ensures.answered
