@@ -14,7 +14,7 @@ from rattle import is_derived, is_product, is_silent_on_refusals, kit, named_in,
 
 PRODUCT = [crate for crate in crates() if is_product(crate)]
 # The calls that the program makes, and its devices: what they promise is what the program does.
-PROGRAM = {"command_line": ["start", "perform", "perform_blocks"], "stream_runs": ["run"], "runs": ["run_blocks"],
+PROGRAM = {"command_line": ["start", "perform", "perform_blocks"], "runs": ["run", "run_blocks"],
            "arguments": ["command", "reading_fault", "explain"]}
 DEVICES = ["sources/src/counted.rt", "block_scan/src/file_blocks.rt", "sinks/src/counted_sink.rt", "command_line/src/day_files.rt"]
 # How the second line of a file of specs/ begins, or is, by the first of these kinds that one of its definitions is of.

@@ -1,17 +1,18 @@
 -- The bars of many tables whose locates are in a range are those of the range of their union.
-use Rattle.std.proofs.Common.{◌≡◌, ℕ, ◌+◌, ◌≤◌, Bool, true, false, List, [], map, filter, refl}
-use Rattle.std.proofs.Common.{ap, ◌∙◌, arith, sum_by}
+use Rattle.std.proofs.Common.{◌≡◌, ℕ, ◌+◌, ◌*◌, ◌<◌, ◌≤◌, All, Bool, true, false, List, [], map, filter, get_or, refl}
+use Rattle.std.proofs.Common.{ap, ◌∙◌, arith, subst, sum_by}
 use Rattle.std.specs.List.Sorted.{IsNonDecreasingBy}
+use Rattle.std.proofs.Math.Nat.{div-mul-le_self}
+use Rattle.std.proofs.lemmas.Simd.{map-map}
+use Rattle.std.proofs.lemmas.List.{get_or-map, length-map}
 use Rattle.std.proofs.lemmas.Bool.{and_parts, eqb-true}
 use Rattle.std.proofs.lemmas.Bool.Decides.{nat_tests}
-use Rattle.std.proofs.lemmas.Grind.{common_steps}
 use Rattle.std.proofs.lemmas.Map.Keys.{Less-from_sorted}
-use Rattle.std.proofs.lemmas.List.{take_all}
-use Rattle.std.proofs.lemmas.List.Folds.{flat_map-map}
 use Rattle.std.proofs.lemmas.List.Kept.{IsStrictlySortedBy-filter}
-use Rattle.std.proofs.lemmas.List.Elements.{filter-append, filter_agree, filter_passes, All-nil, All-weaker}
+use Rattle.std.proofs.lemmas.List.Elements.{filter_agree, filter_passes, All-filter, All-map, All-weaker}
 use Rattle.std.proofs.lemmas.List.Sorted.{IsNonDecreasingBy-from_all_adjacent}
-use Rattle.base.proofs.Lists.{filter_of_filter, flat_map_next}
+use Rattle.base.specs.declared.limits.TheConstants.{NANOSECONDS, TIME_LIMIT}
+use Rattle.base.proofs.Lists.{filter_of_filter}
 use Rattle.time_and_sales.specs.Ranges.{is_in_first}
 use Rattle.time_and_sales.proofs.InRanges.{in_first_alike, none_pass}
 use Rattle.row_types.specs.declared.trade.Sale.{Sale}
@@ -19,9 +20,11 @@ use Rattle.time_and_sales.proofs.SortedByPlace.{no_sale}
 use Rattle.bar.specs.declared.bar.Bar.{Bar}
 use Rattle.bar.specs.OneBar.{Key, key_cmp}
 use Rattle.bars.specs.Bars.{under, IsByKey, IsUnionOf, AllSumsFit}
-use Rattle.bars.specs.Steps.{AreJoinedAlike, bar_of_one, bars_of}
+use Rattle.bars.specs.Steps.{AreJoinedAlike, AreTraded, bar_of_one, bar_of_tick, bars_of, sale_of_tick}
+use Rattle.bars.specs.declared.tick.Tick.{Tick}
+use Rattle.bar_lines.specs.Told.{IsTold}
 use Rattle.bar.proofs.OneBar.{has}
-use Rattle.bars.proofs.JoinedTables.{Adds, alike_from, alike_parts, filter-map, of, sum_together, union_from}
+use Rattle.bars.proofs.JoinedTables.{Adds, alike_from, filter-map, of, sum_together, union_from}
 use Rattle.bars.proofs.BarsOfSales.{ones_alike}
 
 -- ---- by key is by locate
@@ -80,10 +83,10 @@ module _ (test : Bar → Bool) (same : IsOfLocates test) where
       less : (f : Bar → ℕ) → Adds f → (key : Key) → sum_by f (under key one) ≤ sum_by f (under key bars)
       less f h key = omega (arith, sum_together f h key one, ap (of f) (alike key), sum_together f h key (filter test bars), at_most f key bars)
 
--- ---- the loop over the tables
+-- ---- ticks of a range
 
 -- the bars of one sale each of a range are joined alike with the range of their table
-pub sales_in_range : (bounds : List ℕ) (width : ℕ) (sales : List Sale)
+sales_in_range : (bounds : List ℕ) (width : ℕ) (sales : List Sale)
     → AreJoinedAlike (map (bar_of_one width) (filter (is_in_first (λ (s : Sale). s.locate) bounds) sales))
     (filter (is_in_first locate_of bounds) (bars_of width sales))
 sales_in_range bounds width sales =
@@ -92,5 +95,27 @@ sales_in_range bounds width sales =
     rw (← filter_agree (λ s. test (bar_of_one width s)) (is_in_first (λ (s : Sale). s.locate) bounds) same sales, ← filter-map (bar_of_one width) test sales)
     (alike_within test (first_as_locate bounds) (map (bar_of_one width) sales) (bars_of width sales) (ones_alike width sales))
 
--- what the loop takes
-pub ruleset gathering = (common_steps, flat_map_next, filter-append, alike_parts, flat_map-map, take_all, All-nil)
+-- so are those of one tick each
+pub ticks_in_range : (bounds : List ℕ) (width : ℕ) (ticks : List Tick)
+    → AreJoinedAlike (map (bar_of_tick width) (filter (is_in_first (λ (t : Tick). t.locate) bounds) ticks))
+    (filter (is_in_first locate_of bounds) (bars_of width (map sale_of_tick ticks)))
+ticks_in_range bounds width ticks =
+    let one = bar_of_one width in
+    let test = is_in_first (λ (s : Sale). s.locate) bounds in
+    let ours = is_in_first (λ (t : Tick). t.locate) bounds in
+    let same = λ (t : Tick). in_first_alike (λ (s : Sale). s.locate) (λ (t : Tick). t.locate) bounds (sale_of_tick t) t refl in
+    let those : filter test (map sale_of_tick ticks) ≡ map sale_of_tick (filter ours ticks) =
+    filter-map sale_of_tick test ticks ∙ ap (map sale_of_tick) (filter_agree (λ t. test (sale_of_tick t)) ours same ticks) in
+    subst (λ l. AreJoinedAlike l (filter (is_in_first locate_of bounds) (bars_of width (map sale_of_tick ticks))))
+    (ap (map one) those ∙ map-map one sale_of_tick (filter ours ticks)) (sales_in_range bounds width (map sale_of_tick ticks))
+
+-- and each of them has a line
+pub ticks_told : (test : Tick → Bool) (width : ℕ) (ticks : List Tick) → AreTraded ticks → All IsTold (map (bar_of_tick width) (filter test ticks))
+ticks_told test width ticks traded =
+    let one = bar_of_tick width in
+    let n = length-map ticks sale_of_tick in
+    let early : (t : Tick) → (sale_of_tick t).time < TIME_LIMIT → (one t).start < TIME_LIMIT =
+    λ t h. omega (arith, h, div-mul-le_self (sale_of_tick t).time (width * NANOSECONDS)) in
+    let all : All (λ t. IsTold (one t)) ticks = λ k d h.
+    (traded.traded width k d h, early (get_or ticks k d) (rw (get_or-map sale_of_tick ticks k d (sale_of_tick d) h) at (traded.times k (sale_of_tick d) (omega (arith, n, h))))) in
+    All-map IsTold one (filter test ticks) (All-filter test (λ t. IsTold (one t)) ticks all)

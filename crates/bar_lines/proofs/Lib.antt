@@ -1,8 +1,6 @@
-pub mod BarsBehind
 pub mod BarsInRanges
 pub mod Grids
 pub mod LinesOneByOne
 pub mod NextAnywhere
 pub mod NextBar
 pub mod RangeTexts
-pub mod TicksInRanges

@@ -19,6 +19,7 @@ use Rattle.base.specs.declared.limits.TheConstants.{TIME_LIMIT}
 use Rattle.bar.specs.declared.bar.Bar.{Bar}
 use Rattle.bar.specs.OneBar.{CanJoin, IsTraded, Key, joined, joined_bar, key_cmp}
 use Rattle.bars.specs.Bars.{AllSumsFit, all_bars, IsByKey, IsUnionOf, under}
+use Rattle.bar_lines.specs.Told.{IsTold}
 use Rattle.bar_lines.specs.NextBar.{IsNext, is_later, joined_of, lesser, next_of_both}
 use Rattle.bars.specs.Steps.{AreJoinedAlike}
 use Rattle.bars.specs.Texts.{IsWritable}
@@ -276,9 +277,6 @@ next_in_table last table bar up next =
     ]) table (All-contains_itself table))
 
 -- ---- the next bar of the range of all bars
-
-abbrev IsTold : Bar → Type 0
-IsTold bar = IsTraded bar × (bar.start < TIME_LIMIT)
 
 module _ (bounds : List ℕ) (bars all : List Bar) (union : IsUnionOf bars all) (last : Option Bar) where
   abbrev in_range : List Bar → List Bar

@@ -1,4 +1,4 @@
-pub mod AtKeys
 pub mod BarParts
 pub mod Grids
 pub mod NextBar
+pub mod Told

@@ -1,18 +1,18 @@
 //! Bars in the slots of a grid, to which more are joined in whatever order they come.
-ghost use Rattle.std.specs.Prelude.{◌≡◌, ◌++◌, ◌∷◌, [], All, Contains, IfOk, IfSome, OnOk, List, map, true};
+ghost use Rattle.std.specs.Prelude.{◌≡◌, ◌++◌, ◌∷◌, [], All, Contains, IfOk, IfSome, List, map, true};
 ghost use Rattle.std.specs.declared.cmp.Ordering.TheVariants.{Equal};
 ghost use Rattle.time_and_sales.specs.Names.{names_by};
 ghost use Rattle.bar.specs.OneBar.{CanJoin, key_cmp};
 ghost use Rattle.bars.specs.Bars.{AllSumsFit, IsUnionOf};
-ghost use Rattle.bar_lines.specs.AtKeys.{bar_at};
+ghost use Rattle.bars.specs.Steps.{bar_at};
 ghost use Rattle.bars.specs.Texts.{IsWritable, lines_text};
 ghost use Rattle.bar.specs.declared.bar.Bar.{Bar as TheBar};
 
+use crate::gathered::bar_at;
 use crate::grid::Grid;
 use crate::joined_lines::{USUAL_LINE, next_name};
-use crate::keyed::Keyed;
 use bar::Bar;
-use bars::write_bar;
+use bars::{Tick, write_bar};
 use base::OutOfMemory;
 use std::alloc::Global;
 use std::marker::Model;
@@ -41,27 +41,27 @@ impl Model for BarGrid {
 }
 
 impl BarGrid {
-    /// What there is beside its keys, joined, if each key has a slot of its own.
+    /// The bars of gathered ticks, joined, if each key has a slot of its own.
     pub(crate) fn of(
         alloc: Global,
-        keyed: &[Keyed],
+        ticks: &[Tick],
         grid: Grid,
         slots: usize,
     ) -> Result<Option<BarGrid>, OutOfMemory>
-        requires { AllSumsFit (map bar_at keyed.now) }
-        ensures { IfOk result (λ made. IfSome made (λ bars. IsUnionOf (map bar_at keyed.now) bars)) }
+        requires { AllSumsFit (map bar_at ticks.now) }
+        ensures { IfOk result (λ made. IfSome made (λ bars. IsUnionOf (map bar_at ticks.now) bars)) }
     {
-        let mut bars = BarGrid::empty(alloc, grid, slots, keyed.len())?;
-        for i in 0..keyed.len() {
-            if !bars.add(&keyed[i].bar())? {
+        let mut bars = BarGrid::empty(alloc, grid, slots, ticks.len())?;
+        for i in 0..ticks.len() {
+            if !bars.add(&bar_at(&ticks[i]))? {
                 return Ok(None);
             }
         }
         Ok(Some(bars))
     }
 
-    /// No bars, in a grid of `slots` slots, and room for as many bars as there are slots or keys.
-    fn empty(alloc: Global, grid: Grid, slots: usize, keys: usize) -> Result<BarGrid, OutOfMemory>
+    /// No bars, in a grid of `slots` slots, and room for as many bars as there are slots or ticks.
+    fn empty(alloc: Global, grid: Grid, slots: usize, ticks: usize) -> Result<BarGrid, OutOfMemory>
         ensures { IfOk result (λ bars. bars ≡ []) }
     {
         let mut numbers = Vec::with_capacity(alloc, slots)?;
@@ -69,7 +69,7 @@ impl BarGrid {
         Ok(BarGrid {
             grid,
             slots: numbers,
-            bars: Vec::with_capacity(alloc, keys.min(slots))?,
+            bars: Vec::with_capacity(alloc, ticks.min(slots))?,
         })
     }
 

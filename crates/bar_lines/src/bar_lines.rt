@@ -1,6 +1,6 @@
 //! The lines of the bars of many tables, in parts that are made with memory or written without.
-ghost use Rattle.std.specs.Prelude.{◌≡◌, ◌<◌, ◌≤◌, ◌^◌, All, IfOk, drop, flat_map, length};
-ghost use Rattle.base.specs.declared.limits.TheConstants.{TIME_LIMIT, TRADE_LIMIT};
+ghost use Rattle.std.specs.Prelude.{◌≡◌, ◌<◌, ◌^◌, IfOk, drop, flat_map, length};
+ghost use Rattle.base.specs.declared.limits.TheConstants.{TRADE_LIMIT};
 ghost use Rattle.time_and_sales.specs.Lent.{lent};
 ghost use Rattle.time_and_sales.specs.Names.{names_by};
 ghost use Rattle.bars.specs.Bars.{FitIfTraded, IsUnionOf, all_bars};
@@ -77,7 +77,6 @@ impl<'a, J: AllBars> BarLines<'a, J> {
     ) -> Result<Self, OutOfMemory>
         requires union { IsUnionOf (all_bars (lent tables.now)) J.bars }
         requires sums { FitIfTraded (all_bars (lent tables.now)) }
-        requires starts { All (λ bar. bar.start < TIME_LIMIT) (all_bars (lent tables.now)) }
         requires few { length J.bars < TRADE_LIMIT }
         ensures { IfOk result (λ lines.
             flat_map (λ text. text) lines ≡ lines_text (names_by names.now) J.bars) }

@@ -2,15 +2,16 @@
 ghost use Rattle.std.specs.Prelude.{IfSome};
 ghost use Rattle.bar_lines.specs.Grids.{IsIn};
 
-use crate::keyed::Keyed;
+use crate::gathered::key_at;
 use bar::Bar;
+use bars::Tick;
 use base::limits::NANOSECONDS;
 
 /// How many slots a grid has at most. A list of them then takes a mebibyte at most.
 const MOST_SLOTS: u64 = 262_144;
 
-/// How many slots it has at most for each sale or bar. With more, to look at all slots soon takes as long as to sort.
-const SLOTS_A_KEY: u64 = 32;
+/// How many slots it has at most for each tick. With more, to look at all slots soon takes as long as to sort.
+const SLOTS_A_TICK: u64 = 32;
 
 /// A row of slots for each locate, and in it one for each interval. The slot of a bar depends on its locate and its
 /// start alone, and of two bars the one with the greater slot has the greater key. That bars of different keys have
@@ -37,17 +38,17 @@ struct Extent {
 }
 
 impl Extent {
-    /// Of what there is, beside its keys.
-    fn of(keyed: &[Keyed]) -> Option<Extent> {
-        let (locate, start) = keyed.first()?.key();
+    /// Of the bars of gathered ticks.
+    fn of(ticks: &[Tick]) -> Option<Extent> {
+        let (locate, start) = key_at(ticks.first()?);
         let mut extent = Extent {
             low: locate,
             high: locate,
             first: start,
             last: start,
         };
-        for one in keyed {
-            let (locate, start) = one.key();
+        for tick in ticks {
+            let (locate, start) = key_at(tick);
             extent = Extent {
                 low: extent.low.min(locate),
                 high: extent.high.max(locate),
@@ -60,15 +61,15 @@ impl Extent {
 }
 
 impl Grid {
-    /// A grid for what there is, beside its keys, and how many slots it has, unless they would be too many. The width
-    /// is that of the bars, in seconds.
-    pub(crate) fn of(keyed: &[Keyed], width: Option<u32>) -> Option<(Grid, usize)> {
-        let extent = Extent::of(keyed)?;
-        let interval = u64::from(width?.max(1)) * NANOSECONDS;
+    /// A grid for the bars of gathered ticks, and how many slots it has, unless they would be too many. The width is
+    /// that of the bars, in seconds: where some have another one, their slots may not do.
+    pub(crate) fn of(ticks: &[Tick], width: u32) -> Option<(Grid, usize)> {
+        let extent = Extent::of(ticks)?;
+        let interval = u64::from(width.max(1)) * NANOSECONDS;
         let rows = u64::from(extent.high.saturating_sub(extent.low)) + 1;
         let columns = extent.last.saturating_sub(extent.first) / interval + 1;
         let slots = rows.saturating_mul(columns);
-        if MOST_SLOTS.min(SLOTS_A_KEY.saturating_mul(keyed.len() as u64)) < slots {
+        if MOST_SLOTS.min(SLOTS_A_TICK.saturating_mul(ticks.len() as u64)) < slots {
             return None;
         }
         let grid = Grid {

@@ -1,16 +1,16 @@
-//! The lines of the bars of sorted sales, which are made while the lines are written.
-ghost use Rattle.std.specs.Prelude.{◌≡◌, ◌<◌, All, IfOk, List, map};
+//! The lines of the bars of sorted ticks, which are made while the lines are written.
+ghost use Rattle.std.specs.Prelude.{◌≡◌, All, IfOk, List, map};
 ghost use Rattle.std.specs.List.Sorted.{IsSorted};
-ghost use Rattle.base.specs.declared.limits.TheConstants.{TIME_LIMIT};
 ghost use Rattle.time_and_sales.specs.Names.{names_by};
-ghost use Rattle.bar.specs.OneBar.{IsTraded, key_cmp};
+ghost use Rattle.bar.specs.OneBar.{key_cmp};
 ghost use Rattle.bars.specs.Bars.{AllSumsFit, IsUnionOf};
-ghost use Rattle.bar_lines.specs.AtKeys.{bar_at};
+ghost use Rattle.bars.specs.Steps.{bar_at};
+ghost use Rattle.bar_lines.specs.Told.{IsTold};
 ghost use Rattle.bars.specs.Texts.{lines_text};
 ghost use Rattle.bar.specs.declared.bar.Bar.{Bar as TheBar};
 
-use crate::keyed::{Keyed, count_keys};
-use bars::write_bar;
+use crate::gathered::{bar_at, count_keys};
+use bars::{Tick, write_bar};
 use base::OutOfMemory;
 use std::alloc::Global;
 use time_and_sales::{Name, Names};
@@ -18,15 +18,15 @@ use time_and_sales::{Name, Names};
 /// How many bytes most lines have at most.
 pub(crate) const USUAL_LINE: usize = 80;
 
-/// The lines of the bars of sales in order of their keys, each under the name of its locate. No bar
-/// is made but the one that the next line is of.
+/// The lines of the bars of gathered ticks in order of their keys, each under the name of its locate. No bar is made
+/// but the one that the next line is of.
 pub(crate) fn joined_lines(
     alloc: Global,
-    sorted: &[Keyed],
+    sorted: &[Tick],
     names: &Names,
 ) -> Result<Vec<u8>, OutOfMemory>
     requires rise { IsSorted key_cmp (map bar_at sorted.now) }
-    requires told { All (λ bar. IsTraded bar × (bar.start < TIME_LIMIT)) (map bar_at sorted.now) }
+    requires told { All IsTold (map bar_at sorted.now) }
     requires sums { AllSumsFit (map bar_at sorted.now) }
     ensures { IfOk result (λ text. (all : List TheBar) → IsUnionOf (map bar_at sorted.now) all →
         text.items ≡ lines_text (names_by names.now) all) }
@@ -35,10 +35,10 @@ pub(crate) fn joined_lines(
         return Ok(Vec::new(alloc));
     }
     let mut text = Vec::with_capacity(alloc, count_keys(sorted).saturating_mul(USUAL_LINE))?;
-    let mut current = sorted[0].bar();
+    let mut current = bar_at(&sorted[0]);
     let mut name = names.name(current.locate);
     for i in 1..sorted.len() {
-        let bar = sorted[i].bar();
+        let bar = bar_at(&sorted[i]);
         if current.has_key_of(&bar) {
             current = current.join(&bar);
         } else {

@@ -8,52 +8,12 @@ ghost use Rattle.time_and_sales.specs.Ranges.{is_in_first};
 ghost use Rattle.bar.specs.OneBar.{CanJoin, key_cmp};
 ghost use Rattle.bars.specs.Bars.{AllSumsFit, all_bars};
 ghost use Rattle.bar_lines.specs.NextBar.{IsNext, is_later, next_of_both};
-ghost use Rattle.bars.specs.Steps.{AreOfForm, bar_of_one, bar_of_tick, bars_of_form};
+ghost use Rattle.bars.specs.Steps.{bar_of_tick};
 ghost use Rattle.bar.specs.declared.bar.Bar.{Bar as TheBar};
 
-use crate::by_locate::ByLocate;
+use crate::gathered::{bar_at, ticks_within};
 use bar::Bar;
-use bars::{BucketBars, Form, Tick, interval_start};
-use row_types::Sale;
-use time_and_sales::within;
-
-/// What a bar is made of, or a bar itself.
-trait HasBar {
-    ghost use Rattle.std.specs.Prelude.{ℕ};
-    ghost use Rattle.bar.specs.declared.bar.Bar.{Bar as TheBar};
-
-    // its bar, at a width in seconds
-    ghost bar_of: { ℕ → Self → TheBar };
-
-    /// Its bar, at a width in seconds. A bar is its own at any.
-    fn bar(&self, width: u32) -> Bar
-        requires { 0 < width }
-        ensures { result ≡ bar_of width self.now };
-}
-
-impl HasBar for Sale {
-    ghost bar_of = { bar_of_one };
-
-    fn bar(&self, width: u32) -> Bar {
-        Bar::of_one(self, self.locate, interval_start(self.time, width))
-    }
-}
-
-impl HasBar for Tick {
-    ghost bar_of = { bar_of_tick };
-
-    fn bar(&self, width: u32) -> Bar {
-        Bar::of_one(&self.sale(), self.locate, self.start(width))
-    }
-}
-
-impl HasBar for Bar {
-    ghost bar_of = { λ width bar. bar };
-
-    fn bar(&self, _width: u32) -> Bar {
-        *self
-    }
-}
+use bars::{BucketBars, Tick};
 
 /// The bar that comes after the last one in the table of all bars whose locates are in the first range: of what the
 /// tables keep of greater keys, what has the least key, joined. If there is no last one, it is the first bar.
@@ -64,52 +24,23 @@ pub(crate) fn next_bar(tables: &[&BucketBars], bounds: &[u64], last: &Option<Bar
 {
     let mut best = None;
     for table in tables {
-        best = next_of_form(best, table.form(), bounds, last);
+        let (ticks, width) = ticks_within(table, bounds);
+        best = next_of(best, ticks, width, last);
     }
     best
 }
 
-/// The next bar once what is kept in a form is there too, as far as its locates are in the first range.
-#[tactic(auto, using(crate::proofs::BarsInRanges::locates_rise, crate::proofs::TicksInRanges::tick_locates_rise))]
-fn next_of_form(best: Option<Bar>, form: &Form, bounds: &[u64], last: &Option<Bar>) -> Option<Bar>
-    requires form { AreOfForm form.now }
-    requires sums { (before : List TheBar) × IsNext last.now before best
-        × AllSumsFit (before ++ filter (is_in_first (λ bar. bar.locate) bounds.now) (bars_of_form form.now)) }
-    ensures { (before : List TheBar) → IsNext last.now before best → IsNext last.now
-        (before ++ filter (is_in_first (λ bar. bar.locate) bounds.now) (bars_of_form form.now)) result }
-{
-    match form {
-        Form::Ticks { ticks, width } => {
-            next_of(
-                best,
-                within::<ByLocate, _>(ticks.as_slice(), bounds),
-                *width,
-                last,
-            )
-        }
-        Form::Sales { sales, width } => {
-            next_of(
-                best,
-                within::<ByLocate, _>(sales.as_slice(), bounds),
-                *width,
-                last,
-            )
-        }
-        Form::Bars(bars) => next_of(best, within::<ByLocate, _>(bars.items(), bounds), 1, last),
-    }
-}
-
-/// The next bar once the bars of these items are there too.
-fn next_of<T: HasBar>(best: Option<Bar>, items: &[T], width: u32, last: &Option<Bar>) -> Option<Bar>
+/// The next bar once the bars of these ticks are there too.
+fn next_of(best: Option<Bar>, ticks: &[Tick], width: u32, last: &Option<Bar>) -> Option<Bar>
     requires width { 0 < width }
     requires sums { (before : List TheBar) × IsNext last.now before best
-        × AllSumsFit (before ++ map (T.bar_of width) items.now) }
+        × AllSumsFit (before ++ map (bar_of_tick width) ticks.now) }
     ensures { (before : List TheBar) → IsNext last.now before best →
-        IsNext last.now (before ++ map (T.bar_of width) items.now) result }
+        IsNext last.now (before ++ map (bar_of_tick width) ticks.now) result }
 {
     let mut next = best;
-    for item in items {
-        next = next_of_both(next, item.bar(width), last);
+    for tick in ticks {
+        next = next_of_both(next, bar_at(&tick.at_start(width)), last);
     }
     next
 }

@@ -2,11 +2,11 @@
 use Rattle.std.proofs.Common.{◌≡◌, ℕ, ◌*◌, ◌+◌, ◌<◌, ◌≤◌, true, cond, ltb, All, List, [], ◌∷◌, ◌++◌, length, map}
 use Rattle.std.proofs.Common.{filter, get_or, None, Some, IsPermutation, fold, Bor, refl, sym, ap, ◌∙◌, arith}
 use Rattle.std.specs.Fn.{Mut, Called, ComputesKey}
-use Rattle.std.specs.List.Sorted.{IsNonDecreasingBy, IsSorted, IsSortedByKey, IsStrictlySortedBy}
+use Rattle.std.specs.List.Sorted.{IsSorted, IsSortedByKey, IsStrictlySortedBy}
 use Rattle.std.proofs.lemmas.Bool.Decides.{nat_tests}
 use Rattle.std.proofs.lemmas.List.{get_or-map, length-append, length-map, map-append}
 use Rattle.std.proofs.lemmas.List.Elements.{All-head, All-map, filter_passes}
-use Rattle.std.proofs.lemmas.List.Sorted.{answers_always, IsNonDecreasingBy-from_all_adjacent, IsPermutation-sym}
+use Rattle.std.proofs.lemmas.List.Sorted.{answers_always, IsPermutation-sym}
 use Rattle.std.proofs.lemmas.Nat.{le-div}
 use Rattle.std.proofs.Math.Nat.{div-mul-le_self, mul-le-mul_right}
 use Rattle.base.specs.Least.{greatest_of, least_of}
@@ -18,9 +18,7 @@ use Rattle.time_and_sales.proofs.SortedByPlace.{no_sale, place_of}
 use Rattle.bar.specs.declared.bar.Bar.{Bar}
 use Rattle.bar.specs.OneBar.{Key, has_key, bar_of, interval_start, joined_bar, key_cmp, IsTraded}
 use Rattle.bars.specs.Bars.{AreBarsOf, AreBarsOfEach, IsUnionOf, all_bars, joined_all}
-use Rattle.bars.specs.declared.kept_form.Form.{Form}
-use Rattle.bars.specs.declared.kept_form.Form.TheVariants.{Ticks, Sales, Bars}
-use Rattle.bars.specs.Steps.{AreJoinedAlike, AreOfForm, bars_of_form, bar_of_one, bars_of, sale_of_tick}
+use Rattle.bars.specs.Steps.{AreJoinedAlike, bar_of_one, bars_of}
 use Rattle.bar.proofs.OneBar.{has, made}
 use Rattle.bars.proofs.Bars.{AreBarsOf-permutation, AreBarsOf-unique}
 use Rattle.bars.proofs.JoinedTables.{alike_from, alike_parts, by_parts, count_of_put, filter-map, joined_traded, put_union, table_has, together, union_alike, union_of_one}
@@ -143,16 +141,9 @@ pub bars_traded : (width : ℕ) (sales : List Sale) (table : List Bar) → All (
 bars_traded width sales table traded are =
     table_has IsTraded joined_traded (map (bar_of_one width) sales) table (ones_union width sales table are) (All-map IsTraded (bar_of_one width) sales traded)
 
--- so is each of the bars that are kept in a form
-pub form_traded : (form : Form) → AreOfForm form → All IsTraded (bars_of_form form)
-form_traded (Ticks ticks width) of =
-    let sales = map sale_of_tick ticks.items in bars_traded width sales (bars_of width sales) of.traded (bars_of_are width sales)
-form_traded (Sales sales width) of = bars_traded width sales.items (bars_of width sales.items) of.traded (bars_of_are width sales.items)
-form_traded (Bars table) of = of.1
-
 -- ---- sales by locate and time
 
-pub start_rises : (width a b : ℕ) → 0 < width → a ≤ b → interval_start width a ≤ interval_start width b
+start_rises : (width a b : ℕ) → 0 < width → a ≤ b → interval_start width a ≤ interval_start width b
 start_rises width a b some h = grind (arith, div-mul-le_self, mul-le-mul_right, le-div)
 
 pub ones_rise : {F : Type 0} {g : Mut F (Bor Sale × Unit {0}) (ℕ × ℕ)} {f : F} (width : ℕ) (sales : List Sale) → 0 < width
@@ -165,14 +156,6 @@ ones_rise {g = g} {f = f} width sales some up h k d low within =
     let times = start_rises width (get_or sales k no_sale).time (get_or sales (k + 1) no_sale).time some in
     rw (get_or-map (bar_of_one width) sales k no_sale d (omega (arith, n)), get_or-map (bar_of_one width) sales (k + 1) no_sale d (omega (arith, n)))
     (grind (arith, nat_tests))
-
-pub locates_rise : (width : ℕ) (sales : List Sale) → IsSorted key_cmp (map (bar_of_one width) sales) → IsNonDecreasingBy (λ (s : Sale). s.locate) sales
-locates_rise width sales up =
-    let one = bar_of_one width in
-    let e = one no_sale in
-    IsNonDecreasingBy-from_all_adjacent (λ (s : Sale). s.locate) sales (λ k d h.
-    let low = up k e (omega arith) (omega (arith, h, length-map sales one)) in
-    grind (arith, nat_tests, get_or-map one sales k d e, get_or-map one sales (k + 1) d e))
 
 -- the table of sales in another order is theirs
 pub AreBarsOf-sorted : (width : ℕ) (sales sorted : List Sale) (table : List Bar) → IsPermutation sales sorted → AreApart sales

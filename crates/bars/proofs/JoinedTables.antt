@@ -6,12 +6,14 @@ use Rattle.std.specs.List.{AllByRecursion, sum_by}
 use Rattle.std.specs.List.Sorted.{IsSorted, IsStrictlySortedBy, IsStableByKey, IsSortedByKey}
 use Rattle.std.specs.Ordering.{is_eq, is_lt, nat_cmp, ordering_reverse, ordering_then}
 use Rattle.std.specs.Fn.{Mut, Called, ComputesKey}
+use Rattle.std.proofs.lemmas.Bool.{and_parts, eqb-true}
 use Rattle.std.proofs.lemmas.Bool.Decides.{nat_tests}
-use Rattle.std.proofs.lemmas.List.{get_or-map, length-map, take_more}
+use Rattle.std.proofs.lemmas.List.{get_or-map, length-map, nil_from_length, take_more}
 use Rattle.std.proofs.lemmas.List.Sums.{sum_by-cons}
-use Rattle.std.proofs.lemmas.List.Elements.{All-contains_itself, All-filter, All-head, All-tail, All-weaker, filter_agree}
-use Rattle.std.proofs.lemmas.List.Sorted.{answers_always, IsPermutation-map}
+use Rattle.std.proofs.lemmas.List.Elements.{All-contains_itself, All-filter, All-head, All-tail, All-weaker, filter_agree, filter_passes}
+use Rattle.std.proofs.lemmas.List.Sorted.{answers_always, IsPermutation-map, length_permutation}
 use Rattle.std.proofs.lemmas.Map.Keys.{sorted_head, sorted_tail}
+use Rattle.base.proofs.Lists.{IsPermutation-filter}
 use Rattle.bar.specs.declared.bar.Bar.{Bar}
 use Rattle.bar.specs.OneBar.{Key, key_cmp, joined_bar, joined, IsTraded}
 use Rattle.bars.specs.Bars.{found, joined_all, under, IsByKey, IsUnionOf}
@@ -156,8 +158,22 @@ pub record IsOrderOf (bars sorted : List Bar) : Type 0 where
   pub each : (key : Key) → under key sorted ≡ under key bars
   pub permutation : IsPermutation bars sorted
 
--- `at` gives something of each key
-module _ {X : Type 0} (now : X → Bar) (at : Key → X) (is_at : (key : Key) → key_of (now (at key)) ≡ key) where
+-- what passes a test, once in order, stands as before, if it does wherever something passes
+passed_alike : {X : Type 0} (p : X → Bool) (xs sorted : List X) → IsPermutation xs sorted
+    → ((x : X) → p x ≡ true → filter p sorted ≡ filter p xs) → filter p sorted ≡ filter p xs
+passed_alike {X} p xs sorted perm same = elim (filter p xs) as (λ l. filter p xs ≡ l → filter p sorted ≡ filter p xs) [
+  | [] ↦ λ e. nil_from_length (filter p sorted)
+      (omega (arith, length_permutation (filter p xs) (filter p sorted) (IsPermutation-filter p xs sorted perm), ap length e)) ∙ sym e
+  | x ∷ rest ↦ λ e. same x (All-head (λ x. p x ≡ true) x rest (subst (All (λ x. p x ≡ true)) e (filter_passes p xs)))
+] refl
+
+key_from : (bar : Bar) (key : Key) → has bar key ≡ true → key_of bar ≡ key
+key_from bar key h =
+    let parts = and_parts _ _ h in
+    ap₂ (λ l s. record { locate = l; start = s }) (eqb-true bar.locate key.locate parts.0) (eqb-true bar.start key.start parts.1)
+
+-- `some` is any of them
+module _ {X : Type 0} (now : X → Bar) (some : X) where
   -- what a stable sort by locate and start leaves
   pub ordered : {F : Type 0} {g : Mut F (Bor X × Unit {0}) (ℕ × ℕ)} {f : F} (xs sorted : List X) → IsPermutation xs sorted
       → ((key : X → ℕ × ℕ) → ComputesKey g key f → IsSortedByKey key by_parts sorted)
@@ -168,17 +184,18 @@ module _ {X : Type 0} (now : X → Bar) (at : Key → X) (is_at : (key : Key) �
       let by : X → ℕ × ℕ = λ x. ((now x).locate, (now x).start) in
       let computes = answers_always g (λ a r. r ≡ by a.0.now) f h in
       let n = length-map sorted now in
-      let e = at (record { locate = 0; start = 0 }) in
       record {
         rise = λ k d low within.
-            rw (get_or-map now sorted k e d (omega (arith, n)), get_or-map now sorted (k + 1) e d (omega (arith, n)))
-            (up by computes k e low (omega (arith, n)));
+            rw (get_or-map now sorted k some d (omega (arith, n)), get_or-map now sorted (k + 1) some d (omega (arith, n)))
+            (up by computes k some low (omega (arith, n)));
         each = λ key.
-            let same = λ (x : X). ties_have (now (at key)).locate (now (at key)).start (now x).locate (now x).start
-            ∙ ap (has (now x)) (is_at key) in
+            let of_one = λ (one : X) (is : has (now one) key ≡ true).
+            let same = λ (x : X). ties_have (now one).locate (now one).start (now x).locate (now x).start
+            ∙ ap (has (now x)) (key_from (now one) key is) in
+            sym (filter_agree _ (λ x. has (now x) key) same sorted) ∙ stable by computes one
+            ∙ filter_agree _ (λ x. has (now x) key) same xs in
             filter-map now (λ b. has b key) sorted
-            ∙ ap (map now) (sym (filter_agree _ (λ x. has (now x) key) same sorted) ∙ stable by computes (at key)
-            ∙ filter_agree _ (λ x. has (now x) key) same xs)
+            ∙ ap (map now) (passed_alike (λ x. has (now x) key) xs sorted perm of_one)
             ∙ sym (filter-map now (λ b. has b key) xs);
         permutation = IsPermutation-map now xs sorted perm;
       }

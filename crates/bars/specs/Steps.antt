@@ -1,18 +1,15 @@
 -- What the steps of making tables compute: the bar of one sale, a bar put into a table, bars in order.
 -- To be believed of a crate used by itself: the table of a bucket is defined by them.
-use Rattle.std.specs.Prelude.{◌≡◌, ℕ, ◌+◌, ◌*◌, ◌/◌, ◌^◌, ◌<◌, ◌≤◌, All, List, [], ◌∷◌, Option, None, length, map, if◌then◌else◌}
-use Rattle.std.specs.Option.{IfSome}
+use Rattle.std.specs.Prelude.{◌≡◌, ℕ, ◌+◌, ◌*◌, ◌/◌, ◌^◌, ◌<◌, ◌≤◌, All, List, [], ◌∷◌, None, length, map, if◌then◌else◌}
 use Rattle.std.specs.List.Sorted.{IsNonDecreasingBy}
 use Rattle.std.specs.Ordering.{is_eq, is_lt}
-use Rattle.base.specs.declared.limits.TheConstants.{NANOSECONDS, SECONDS_OF_DAY, TRADE_LIMIT}
+use Rattle.base.specs.declared.limits.TheConstants.{NANOSECONDS, SECONDS_OF_DAY, TIME_LIMIT, TRADE_LIMIT}
 use Rattle.row_types.specs.declared.trade.Kind.TheVariants.{E}
 use Rattle.row_types.specs.declared.trade.Sale.{Sale}
 use Rattle.time_and_sales.specs.Lent.{AreApart}
 use Rattle.bar.specs.declared.bar.Bar.{Bar}
 use Rattle.bar.specs.OneBar.{IsTraded, Key, bar_from, interval_start, key_cmp, joined_bar}
-use Rattle.bars.specs.Bars.{IsByKey, joined_all, under}
-use Rattle.bars.specs.declared.kept_form.Form.{Form}
-use Rattle.bars.specs.declared.kept_form.Form.TheVariants.{Ticks, Sales, Bars}
+use Rattle.bars.specs.Bars.{joined_all, under}
 use Rattle.bars.specs.declared.tick.Tick.{Tick}
 
 -- the bar of one sale
@@ -37,15 +34,15 @@ abbrev pub bars_of : ℕ → List Sale → List Bar
 bars_of width [] = []
 bars_of width (sale ∷ sales) = put (bar_of_one width sale) (bars_of width sales)
 
--- ---- bars that are made, or only when their lines are written
+-- ---- bars that are made only when their lines are written
 
 -- a sale as bars need it: its time in whole seconds, neither its kind nor its match number
 abbrev pub in_seconds : Sale → Sale
 in_seconds sale = record sale { time = sale.time / NANOSECONDS * NANOSECONDS; kind = E; trade_no = 0 }
 
--- its second and its shares have 32 bits, and its place 48
+-- its time is one of a message, and its place one of 48 bits
 abbrev pub HasTick : Sale → Type 0
-HasTick sale = (sale.time / NANOSECONDS < 2 ^ 32) × (sale.place < 2 ^ 48) × (sale.shares < 2 ^ 32)
+HasTick sale = (sale.time < TIME_LIMIT) × (sale.place < 2 ^ 48)
 
 -- what a tick keeps of its sale
 abbrev pub sale_of_tick : Tick → Sale
@@ -63,36 +60,28 @@ sale_of_tick tick = record {
 abbrev pub bar_of_tick : ℕ → Tick → Bar
 bar_of_tick width tick = bar_of_one width (sale_of_tick tick)
 
--- ticks of some shares each, the bar of each of which is traded, whatever the width
+-- the bar of one tick whose second is the one in which its interval starts
+abbrev pub bar_at : Tick → Bar
+bar_at tick = bar_from (record { locate = tick.locate; start = (sale_of_tick tick).time }) (sale_of_tick tick) []
+
+-- ticks of some shares each, at times of messages, the bar of each of which is traded, whatever the width
 pub record AreTraded (ticks : List Tick) : Type 0 where
   pub shares : All (λ sale. 0 < sale.shares) (map sale_of_tick ticks)
+  pub times : All (λ sale. sale.time < TIME_LIMIT) (map sale_of_tick ticks)
   pub traded : (width : ℕ) → All (λ tick. IsTraded (bar_of_tick width tick)) ticks
 
--- what ticks keep of these sales, if each of these has a tick
-abbrev pub AreTicksOf : List Sale → Option (List Sale) → Type 0
-AreTicksOf sales ticks = IfSome ticks (λ kept. kept ≡ map in_seconds sales)
+-- what ticks keep of these sales
+abbrev pub AreTicksOf : List Sale → List Sale → Type 0
+AreTicksOf sales ticks = ticks ≡ map in_seconds sales
 
--- sales that their bars can be made of: their places differ, they are fewer than a file has room for and each of some
--- shares, their locates rise, the width is one of a day's, and the bar of each is traded
-pub record AreUnmade (width : ℕ) (sales : List Sale) : Type 0 where
-  pub places : AreApart sales
-  pub count : length sales < TRADE_LIMIT
-  pub shares : All (λ sale. 0 < sale.shares) sales
+-- ticks that the bars of a bucket are kept as: their places differ, they are fewer than a file has room for, their
+-- locates rise, the width is one of a day's, and the bar of each is traded
+pub record AreKept (width : ℕ) (ticks : List Tick) : Type 0 where
+  pub places : AreApart (map sale_of_tick ticks)
+  pub count : length ticks < TRADE_LIMIT
   pub within_day : (1 ≤ width) × (width ≤ SECONDS_OF_DAY)
-  pub locates : IsNonDecreasingBy (λ sale. sale.locate) sales
-  pub traded : All (λ sale. IsTraded (bar_of_one width sale)) sales
-
--- the bars that are kept in a form
-abbrev pub bars_of_form : Form → List Bar
-bars_of_form (Ticks ticks width) = bars_of width (map sale_of_tick ticks.items)
-bars_of_form (Sales sales width) = bars_of width sales.items
-bars_of_form (Bars table) = table
-
--- ticks or sales that their bars can be made of, or bars by key, each of which is traded
-abbrev pub AreOfForm : Form → Type 0
-AreOfForm (Ticks ticks width) = AreUnmade width (map sale_of_tick ticks.items)
-AreOfForm (Sales sales width) = AreUnmade width sales.items
-AreOfForm (Bars table) = IsByKey table × All IsTraded table
+  pub locates : IsNonDecreasingBy (λ tick. tick.locate) ticks
+  pub traded : AreTraded ticks
 
 -- of each key the bars of two lists, joined, are one bar
 abbrev pub AreJoinedAlike : List Bar → List Bar → Type 0

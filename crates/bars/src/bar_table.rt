@@ -107,7 +107,7 @@ impl<A: Allocator + Clone> BarTable<A> {
 
     /// The table of sales that are in order of the keys of their bars, with the capacity `room`.
     #[tactic(auto, using(crate::proofs::JoinedTables::union_of_none))]
-    pub(crate) fn of_sorted(
+    fn of_sorted(
         alloc: A,
         sales: &[Sale],
         width: u32,
@@ -125,15 +125,6 @@ impl<A: Allocator + Clone> BarTable<A> {
             add(&mut bars, bar_of_sale(sale, width))?;
         }
         Ok(BarTable { bars })
-    }
-
-    /// The same table, in memory of `alloc`.
-    pub(crate) fn copied(&self, alloc: A) -> Result<BarTable<A>, OutOfMemory>
-        ensures { IfOk result (λ table. table ≡ self.now) }
-    {
-        Ok(BarTable {
-            bars: Vec::from_slice(alloc, self.items())?,
-        })
     }
 
     /// One table of the bars of all tables, in memory of `alloc`: those of one locate and start are
@@ -179,7 +170,7 @@ impl<A: Allocator + Clone> BarTable<A> {
 /// Puts sales in order of the keys of their bars, and says how many bars there are, for room for them. That the bar of
 /// each is traded is known where a sale is read, whose price is of 32 bits by its type.
 #[tactic(auto, using(std::proofs::lemmas::List::take_all))]
-pub(crate) fn put_in_order<A: Allocator>(sales: &mut Vec<Sale, A>, width: u32) -> usize
+fn put_in_order<A: Allocator>(sales: &mut Vec<Sale, A>, width: u32) -> usize
     requires width { 0 < width }
     requires shares { All (λ sale. 0 < sale.shares) sales.old.items }
     ensures permutation { IsPermutation sales.old.items sales.new.items }

@@ -1,111 +1,67 @@
-//! Bars that are only to be joined and written: made, or kept as what they need of their sales.
+//! Bars that are only to be joined and written: kept as what they need of their sales.
 ghost use Rattle.std.specs.Prelude.{◌≡◌, ◌<◌, ◌≤◌, All, IfOk, List, length, map};
-ghost use Rattle.std.specs.List.Sorted.{IsSorted};
-ghost use Rattle.std.specs.Option.{IfSome};
 ghost use Rattle.row_types.specs.declared.trade.Sale.{Sale as TheSale};
 ghost use Rattle.time_and_sales.specs.Lent.{AreApart};
-ghost use Rattle.bar.specs.OneBar.{IsTraded, key_cmp};
+ghost use Rattle.bar.specs.OneBar.{IsTraded};
 ghost use Rattle.bars.specs.Bars.{AreBarsOf};
-ghost use Rattle.bars.specs.Steps.{AreOfForm, AreTicksOf, AreTraded, bar_of_tick, bars_of_form, sale_of_tick};
+ghost use Rattle.bars.specs.Steps.{AreKept, AreTicksOf, bars_of, sale_of_tick};
 
 use crate::OutOfMemory;
-use crate::bar_table::{BarTable, put_in_order};
-use crate::kept_form::Form;
+use crate::bar_table::BarTable;
 use crate::tick::{Tick, put_ticks_in_order, sales_of};
 use crate::tick_list::TickList;
-use base::limits::{SECONDS_OF_DAY, TRADE_LIMIT};
-use row_types::Sale;
+use base::limits::{SECONDS_OF_DAY, TIME_LIMIT, TRADE_LIMIT};
 use std::alloc::Global;
 use std::marker::Model;
 
-/// The least number of sales a bar, on average, for which bars are made. They are made while the sales' ticks, and the
-/// rows that these are of, are still there, perhaps by two workers at once.
-const SALES_A_BAR: usize = 16;
-
-/// The bars of some sales, in the form that takes less: where the sales of one key are in many
-/// tables, each has nearly a bar a sale, and a tick has about a fifth of the bytes of a bar.
+/// The bars of some sales, kept as the ticks of these: where the sales of one key are in many tables, each has nearly a
+/// bar a sale, and a tick has a quarter of the bytes of a bar.
 #[derive(Drop)]
 pub struct BucketBars {
-    form: Form,
+    /// In order of their locates.
+    ticks: Vec<Tick>,
+    /// Of the bars, in seconds.
+    width: u32,
 }
 
 impl Model for BucketBars {
-    ghost use Rattle.std.specs.Prelude.{List};
+    ghost use Rattle.std.specs.Prelude.{List, map};
     ghost use Rattle.bar.specs.declared.bar.Bar.{Bar as TheBar};
-    ghost use Rattle.bars.specs.Steps.{AreOfForm, bars_of_form};
+    ghost use Rattle.bars.specs.Steps.{AreKept, bars_of, sale_of_tick};
 
     ghost Value = { List TheBar };
 
-    ghost view = { λ bars. bars_of_form bars.form };
+    ghost view = { λ bars. bars_of bars.width (map sale_of_tick bars.ticks.items) };
 
-    ghost invariant = { λ bars. AreOfForm bars.form };
+    ghost invariant = { λ bars. AreKept bars.width bars.ticks.items };
 }
 
 impl BucketBars {
-    /// The bars of sales of which these are the ticks, at a width in seconds; none if a sale has no tick. They are made
-    /// where there are sixteen sales a bar or more, and memory for them; otherwise the ticks are kept, in no more
-    /// memory than they need.
-    pub fn of_ticks(ticks: TickList, width: u32) -> Option<BucketBars>
+    /// The bars of sales of which these are the ticks, at a width in seconds. The ticks take no more memory than they
+    /// need.
+    pub fn of_ticks(ticks: TickList, width: u32) -> BucketBars
         requires sales { (sales : List TheSale) × AreTicksOf sales ticks
             × AreApart sales × (length sales < TRADE_LIMIT) }
         requires width { (1 ≤ width) × (width ≤ SECONDS_OF_DAY) }
-        ensures bars { (sales : List TheSale) → AreTicksOf sales ticks → IfSome result (AreBarsOf width sales) }
-        ensures traded { IfSome result (All IsTraded) }
-    {
-        let mut items = ticks.into_items()?;
-        items.shrink_to_fit();
-        Some(BucketBars::of_items(items, width))
-    }
-
-    /// The bars of ticks, made or not.
-    fn of_items(mut ticks: Vec<Tick>, width: u32) -> BucketBars
-        requires places { AreApart (map sale_of_tick ticks.items) }
-        requires count { length ticks.items < TRADE_LIMIT }
-        requires width { (1 ≤ width) × (width ≤ SECONDS_OF_DAY) }
-        requires traded { AreTraded ticks.items }
-        ensures bars { AreBarsOf width (map sale_of_tick ticks.items) result }
+        ensures bars { (sales : List TheSale) → AreTicksOf sales ticks → AreBarsOf width sales result }
         ensures traded { All IsTraded result }
     {
-        let count = put_ticks_in_order(&mut ticks, width);
-        if count <= ticks.len() / SALES_A_BAR {
-            let alloc = *ticks.allocator();
-            if let Ok(bars) = table_of(alloc, ticks.as_slice(), width, count) {
-                return BucketBars {
-                    form: Form::Bars(bars),
-                };
-            }
-        }
-        BucketBars {
-            form: Form::Ticks { ticks, width },
-        }
+        let mut ticks = ticks.into_items();
+        ticks.shrink_to_fit();
+        put_ticks_in_order(&mut ticks);
+        BucketBars { ticks, width }
     }
 
-    /// The bars of the sales, in whatever order they are, at a width in seconds. They aren't made: the sales are kept,
-    /// which are put in order in place and have no more room than they need.
-    pub fn of_vec(mut sales: Vec<Sale>, width: u32) -> BucketBars
-        requires places { AreApart sales.items }
-        requires count { length sales.items < TRADE_LIMIT }
-        requires shares { All (λ sale. 0 < sale.shares) sales.items }
-        requires width { (1 ≤ width) × (width ≤ SECONDS_OF_DAY) }
-        ensures bars { AreBarsOf width sales.items result }
-        ensures traded { All IsTraded result }
-    {
-        put_in_order(&mut sales, width);
-        sales.shrink_to_fit();
-        BucketBars {
-            form: Form::Sales { sales, width },
-        }
-    }
-
-    /// What is kept of the bars.
+    /// The ticks, in order of their locates, and the width of the bars in seconds.
     #[inline]
-    #[tactic(auto, using(crate::proofs::BarsOfSales::form_traded))]
-    pub fn form(&self) -> &Form
-        ensures value { self.now ≡ bars_of_form result.now }
-        ensures form { AreOfForm result.now }
+    #[tactic(auto, using(crate::proofs::Ticks::kept_traded, crate::proofs::Ticks::kept_start))]
+    pub fn ticks(&self) -> (&[Tick], u32)
+        ensures value { self.now ≡ bars_of result.1 (map sale_of_tick result.0.now) }
+        ensures kept { AreKept result.1 result.0.now }
         ensures traded { All IsTraded self.now }
+        ensures starts { All (λ bar. bar.start < TIME_LIMIT) self.now }
     {
-        &self.form
+        (self.ticks.as_slice(), self.width)
     }
 
     /// The bars, made. It is refused if there is no memory for them, or for the sales that are sorted.
@@ -113,25 +69,7 @@ impl BucketBars {
     pub fn table(&self, alloc: Global) -> Result<BarTable, OutOfMemory>
         ensures { IfOk result (λ table. table ≡ self.now) }
     {
-        match self.form() {
-            Form::Ticks { ticks, width } => {
-                BarTable::of_vec(alloc, sales_of(alloc, ticks.as_slice())?, *width)
-            }
-            Form::Sales { sales, width } => BarTable::of_sales(alloc, sales.as_slice(), *width),
-            Form::Bars(bars) => bars.copied(alloc),
-        }
+        let sales = sales_of(alloc, self.ticks.as_slice())?;
+        BarTable::of_vec(alloc, sales, self.width)
     }
-}
-
-/// The table of sorted ticks, of about `room` bars.
-fn table_of(alloc: Global, ticks: &[Tick], width: u32, room: usize) -> Result<BarTable, OutOfMemory>
-    requires rise { IsSorted key_cmp (map (bar_of_tick width) ticks.now) }
-    requires count { length ticks.now < TRADE_LIMIT }
-    requires traded { All (λ tick. IsTraded (bar_of_tick width tick)) ticks.now }
-    requires width { (1 ≤ width) × (width ≤ SECONDS_OF_DAY) }
-    ensures bars { IfOk result (λ table. AreBarsOf width (map sale_of_tick ticks.now) table) }
-    ensures traded { IfOk result (λ table. All IsTraded table) }
-{
-    let sales = sales_of(alloc, ticks)?;
-    BarTable::of_sorted(alloc, sales.as_slice(), width, room)
 }

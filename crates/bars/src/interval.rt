@@ -9,7 +9,7 @@ use row_types::Sale;
 
 /// The start of the interval that a time lies in, both in nanoseconds, at a width in seconds.
 #[inline]
-pub fn interval_start(time: u64, width: u32) -> u64
+fn interval_start(time: u64, width: u32) -> u64
     requires { 0 < width }
     ensures { result ≡ interval_start width time }
 {

@@ -3,15 +3,20 @@ use Rattle.std.proofs.Common.{◌≡◌, ℕ, ◌+◌, ◌-◌, ◌<◌, ◌≤�
 use Rattle.std.proofs.lemmas.List.{drop-take, length-append, length-drop, take-append-drop, take-append-le, length-take-le}
 use Rattle.std.proofs.lemmas.List.Elements.{All-append, All-drop, All-take}
 use Rattle.std.proofs.Math.Seq.{take-append-add}
-use borrow.Rule.Slice.PartMut.{put_mid}
+use borrow.Rule.Slice.PartMut.{put_mid, same_len_mid}
 use lib.Seq.{paste}
 use Rattle.base.specs.Among.{AreBytes}
 use Rattle.day_file.specs.Frames.{PlacedBody, IsStuck, StandsFrom}
 use Rattle.day_file.proofs.Joined.{StandsFrom-append}
 use Rattle.scanning.specs.Scans.{ScanView, scan_of}
 use Rattle.day_file.specs.declared.frame.TheConstants.{LONGEST_FRAME}
-use Rattle.block_scan.specs.Pieces.{IsAskable}
-use Rattle.block_scan.proofs.Walked.{IsWalked, stuck_short}
+use Rattle.day_file.proofs.Readings.{IsReading}
+use Rattle.scanning.specs.Scans.{AreTakenIn}
+use Rattle.block_scan.specs.Pieces.{IsAskable, IsPiece}
+use Rattle.block_scan.specs.declared.block_source.BlockSource.{Ghosts as BlockSourceOf}
+use Rattle.block_scan.specs.declared.scanned_block.Tail.{Tail}
+use Rattle.block_scan.specs.declared.scanned_block.Tail.TheVariants.{Whole, Cut}
+use Rattle.block_scan.proofs.Walked.{IsWalked, stuck_short, walked_of}
 use Rattle.block_scan.specs.declared.request.Request.{Request}
 
 -- the bytes of whole frames from the start on were read and walked, and behind them those that the buffer begins with were read
@@ -84,6 +89,56 @@ module _ {S : Type 0} (GaveAt : S → ℕ → List ℕ → Type 0)
         stuck = λ h. subst IsStuck (sym kept) (w.ends h);
         short = λ h. omega (arith, n, length-drop walked all, stuck_short (drop walked all) (All-drop (λ byte. byte < 256) walked all are_all) (w.ends h));
       }
+
+  -- a turn of the loop: some bytes more are read behind those that the buffer begins with, and the frames of all are
+  -- walked; what is behind the walked ones is moved to the buffer's front
+  pub turned : (into : List ℕ) {source : S} {request : Request} {start target place filled room count walked : ℕ} {buffer last rest : List ℕ}
+      {all : List PlacedBody} {scan new : ScanView} → IsAskable request → IsFilling GaveAt source request start target place filled buffer scan
+      → filled ≤ LONGEST_FRAME → room ≡ length buffer - filled → length into ≡ length (take room (drop filled buffer)) → count ≤ length into
+      → GaveAt source (place + filled) (take count into) → AreBytes (take count into) → place + filled + count ≤ request.limit
+      → IsReading place (take (filled + count) (put_mid filled room buffer into)) all rest
+      → AreTakenIn request.as_of all (target - place) walked scan new
+      → last ≡ paste (put_mid filled room buffer into) 0 (drop walked (put_mid filled room buffer into)) (filled + count - walked)
+      → length last ≡ length (put_mid filled room buffer into)
+      → IsFilling GaveAt source request start target (place + walked) (filled + count - walked) last new
+  turned into {target = target} {place} {filled} {room} {count} {walked} {buffer} {last} ask old below room_is long few gave are within read taken kept same =
+      let mid = put_mid filled room buffer into in
+      let all_is : take (filled + count) mid ≡ take filled buffer ++ take count into = filled_more buffer into filled room count few old.filled_is in
+      let n : length (take (filled + count) mid) ≡ filled + count =
+      omega (arith, ap length all_is, length-append (take filled buffer) (take count into), old.filled_is, length-take-le count into few) in
+      let mid_is : length mid ≡ length buffer = same_len_mid filled room buffer into long in
+      let behind_is : length (take room (drop filled buffer)) ≡ room =
+      length-take-le room (drop filled buffer) (omega (arith, length-drop filled buffer, room_is)) in
+      let w = walked_of read taken in
+      fills_more count ask old gave all_is n within
+      (rw all_is (All-append (λ byte. byte < 256) (take filled buffer) (take count into) old.held are)) w
+      (ap (take (filled + count - walked)) kept ∙ moved mid walked (filled + count) (omega (arith, w.within, n)) (omega (arith, mid_is, few, long, behind_is, room_is, below, old.room)))
+      (same ∙ mid_is)
+
+-- ---- where a piece ends
+
+-- what was read so far, as a piece that ends here
+pub piece_of : {S : Type 0} (device : BlockSourceOf S) {source : S} {request : Request} {start target place filled : ℕ} {buffer : List ℕ} {scan : ScanView}
+    (tail : Tail) → IsFilling device.GaveAt source request start target place filled buffer scan → (tail ≡ Whole → device.EndsAt source place)
+    → (tail ≡ Cut → (0 < filled) × (place < target) × device.EndsAt source (place + filled))
+    → IsPiece device source request (record { start = start; end = place; scanned = scan; tail = tail })
+piece_of device {source} {place = place} {filled} {buffer} tail i ended cut = record {
+  frames = i.frames;
+  bytes = i.bytes;
+  rest = take filled buffer;
+  gave = i.gave;
+  stands = i.stands;
+  are = i.are;
+  end_is = i.place_is;
+  within = omega (arith, i.within, i.filled_is);
+  scan = i.scan_is;
+  ended = ended;
+  cut = λ e. (
+    omega (arith, i.filled_is, (cut e).0),
+    i.stuck (cut e).1,
+    subst (λ n. device.EndsAt source (place + n)) (sym i.filled_is) (cut e).2,
+  );
+}
 
 -- ---- a byte behind the limit
 

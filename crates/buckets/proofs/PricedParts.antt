@@ -1,12 +1,13 @@
 -- What executions behind others add to the sales that are kept, and to the first execution that has no price.
-use Rattle.std.proofs.Common.{◌≡◌, ℕ, ◌+◌, ◌<◌, Bool, Bor, List, ◌++◌, ap, ap₂, refl, get_or, length, map, option_map, option_to_list, sym, take, ◌∙◌, filter}
+use Rattle.std.proofs.Common.{◌≡◌, ℕ, ◌+◌, ◌<◌, All, Bool, Bor, List, ◌++◌, ap, ap₂, refl, get_or, length, map, option_map, option_to_list, sym, take, ◌∙◌, filter, arith, Some}
 use Rattle.std.proofs.lemmas.List.{map-append, map_push, take_more}
-use Rattle.std.proofs.lemmas.List.Elements.{filter-append, filter_map-append}
+use Rattle.std.proofs.lemmas.List.Elements.{All-filter, filter-append, filter_map-append}
 use Rattle.base.specs.Least.{least_by}
 use Rattle.base.proofs.Least.{least_by-map, least_of_both}
 use Rattle.base.proofs.Lists.{flat_map_push}
 use Rattle.order_table.specs.declared.OrderRow.{OrderRow}
-use Rattle.morsel_rows.specs.Partitions.{PartitionView, joined_partitions}
+use Rattle.morsel_rows.specs.Partitions.{FitSixBytes, PartitionView, joined_partitions}
+use Rattle.day_rows.proofs.Stamped.{All-filter_map}
 use Rattle.probe.specs.Pricing.{Execution, Sale, Unknown, first_unknown, is_unknown, priced, sale_of, unknown_of}
 use Rattle.probe.specs.Selection.{is_kept, kept}
 use Rattle.buckets.specs.BucketRows.{rows_of_partitions}
@@ -44,3 +45,16 @@ executions_behind partitions i d within =
     ap (λ l. (joined_partitions (map now l)).executions) (take_more partitions i d within)
     ∙ ap (λ l. (joined_partitions l).executions) (map_push now (take i partitions) (get_or partitions i d))
     ∙ flat_map_push (λ (rows : PartitionView). rows.executions) (map now (take i partitions)) (get_or partitions i d).now
+
+-- ---- the times and places of what is kept fit, since those of the trades do
+
+sale_fits : (rows : List OrderRow) (e : Execution) (s : Sale) → FitSixBytes e.time e.place → sale_of rows e ≡ Some s → FitSixBytes s.time s.place
+sale_fits rows e s fits is = grind arith
+
+pub priced_fit : (rows : List OrderRow) (executions : List Execution) → All (λ e. FitSixBytes e.time e.place) executions
+    → All (λ s. FitSixBytes s.time s.place) (priced rows executions)
+priced_fit rows = All-filter_map (sale_of rows) (λ (e : Execution). FitSixBytes e.time e.place) (λ (s : Sale). FitSixBytes s.time s.place) (sale_fits rows)
+
+pub kept_fit : (breaks : List ℕ) (selection : Sale → Bool) (sales : List Sale) → All (λ s. FitSixBytes s.time s.place) sales
+    → All (λ s. FitSixBytes s.time s.place) (kept breaks selection sales)
+kept_fit breaks selection = All-filter (is_kept breaks selection) (λ (s : Sale). FitSixBytes s.time s.place)

@@ -1,13 +1,13 @@
 -- The rows of the partitions of morsels, with those of one morsel more. By place, no place stands twice in a list of them or in what is kept of their trades,
 -- and those are few.
-use Rattle.std.proofs.Common.{◌≡◌, ℕ, ◌+◌, ◌<◌, ◌≤◌, List, [], ◌∷◌, ◌++◌, Some, Bor, get_or, length, map, take, sym, ap, ap₂, ◌∙◌, Bool, nat_eq, arith}
+use Rattle.std.proofs.Common.{◌≡◌, ℕ, ◌+◌, ◌<◌, ◌≤◌, zero, suc, All, flat_map, List, [], ◌∷◌, ◌++◌, Some, Bor, get_or, length, map, take, sym, ap, ap₂, ◌∙◌, Bool, nat_eq, arith}
 use Rattle.std.specs.Arc.{arc_value}
 use Rattle.std.specs.List.{slice_get, IsDistinct}
 use Rattle.std.specs.declared.alloc.Global.{Global}
 use Rattle.std.specs.declared.sync.Arc.{Arc}
 use Rattle.std.proofs.lemmas.List.{append-nil, get_or_past, take_more, map_push, length-append}
 use Rattle.std.proofs.lemmas.Option.{get_or_from_slice_get}
-use Rattle.base.proofs.Lists.{flat_map_push}
+use Rattle.base.proofs.Lists.{All-parts, flat_map_push}
 use Rattle.morsel_rows.specs.SameRows.{is_same_partition, partition_equiv}
 use Rattle.morsel_rows.specs.Partitions.{MorselRowsView, PartitionView, joined_partitions, no_rows_in, partition_at, AreRowsByPlace}
 use Rattle.buckets.specs.BucketRows.{rows_at, rows_of_partitions}
@@ -92,6 +92,14 @@ module _ (number i : ℕ) (morsels : List (Arc MorselRowsView Global)) (d : Arc 
       ∙ ap (with_rows (joined_partitions (rows_at number (take i morsels))))
       (get_or_from_slice_get (arc_value (get_or morsels i d)).partitions number partition no_rows_in there ∙ empty)
       ∙ joined_none (joined_partitions (rows_at number (take i morsels))))
+
+-- what all rows of partitions are, those of each are
+pub each_part : {Y : Type 0} (rows_in : PartitionView → List Y) (P : Y → Type 0) (partitions : List (Bor PartitionView)) (i : ℕ) (d : Bor PartitionView)
+    → i < length partitions → All P (flat_map rows_in (map (λ (p : Bor PartitionView). p.now) partitions)) → All P (rows_in (get_or partitions i d).now)
+each_part rows_in P [] i d within all = absurd (omega (arith, within))
+each_part rows_in P (p ∷ ps) zero d within all = (All-parts P (rows_in p.now) (flat_map rows_in (map (λ (p : Bor PartitionView). p.now) ps)) all).0
+each_part rows_in P (p ∷ ps) (suc i) d within all =
+    each_part rows_in P ps i d (omega (arith, within)) (All-parts P (rows_in p.now) (flat_map rows_in (map (λ (p : Bor PartitionView). p.now) ps)) all).1
 
 module _ (rows : PartitionView) (are : AreRowsByPlace rows) where
   pub orders_apart : IsDistinct nat_eq (map (λ (row : OrderRow). row.place) rows.orders)

@@ -72,9 +72,5 @@ fn make_bars(
 {
     let mut ticks = TickList::new(alloc);
     let faults = trade(alloc, bucket, partitions, &mut ticks)?;
-    if let Some(bars) = BucketBars::of_ticks(ticks, width) {
-        return Ok((faults, bars));
-    }
-    let (faults, sales) = list_sales(alloc, bucket, partitions)?;
-    Ok((faults, BucketBars::of_vec(sales, width)))
+    Ok((faults, BucketBars::of_ticks(ticks, width)))
 }

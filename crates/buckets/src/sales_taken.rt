@@ -2,6 +2,7 @@
 ghost use Rattle.std.specs.Prelude.{◌≡◌, ◌<◌, ◌++◌, All, List, OnOk};
 ghost use Rattle.row_types.specs.declared.trade.Sale.{Sale as TheSale};
 ghost use Rattle.bars.specs.Steps.{AreTicksOf};
+ghost use Rattle.morsel_rows.specs.Partitions.{FitSixBytes};
 
 use crate::OutOfMemory;
 use bars::TickList;
@@ -16,9 +17,11 @@ pub(crate) trait TakesSales {
     fn reserve(&mut self, sales: usize) -> Result<(), OutOfMemory>
         ensures { (before : List TheSale) → Has before self.old → Has before self.new };
 
-    /// Takes in sales, each of some shares, behind those that it has. It is refused if there is no memory for them.
+    /// Takes in sales, each of some shares, whose times and places fit six bytes, behind those that it has. It is
+    /// refused if there is no memory for them.
     fn take(&mut self, sales: &[Sale]) -> Result<(), OutOfMemory>
-        requires { All (λ sale. 0 < sale.shares) sales.now }
+        requires shares { All (λ sale. 0 < sale.shares) sales.now }
+        requires fit { All (λ sale. FitSixBytes sale.time sale.place) sales.now }
         ensures { OnOk result ((before : List TheSale) → Has before self.old → Has (before ++ sales.now) self.new) };
 }
 

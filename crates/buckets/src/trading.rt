@@ -1,10 +1,10 @@
 //! The sales of partitions.
-ghost use Rattle.std.specs.Prelude.{◌≡◌, ◌<◌, ◌++◌, [], All, IfOk, OnOk, List, map, nat_eq, option_map};
+ghost use Rattle.std.specs.Prelude.{◌≡◌, ◌++◌, [], All, IfOk, OnOk, List, map, nat_eq, option_map};
 ghost use Rattle.std.specs.List.{IsDistinct};
 ghost use Rattle.row_types.specs.declared.order.OrderRow.{OrderRow as TheRow};
 ghost use Rattle.row_types.specs.declared.trade.Sale.{Sale as TheSale};
 ghost use Rattle.probe.specs.Pricing.{first_unknown, priced, unknown_of};
-ghost use Rattle.morsel_rows.specs.Partitions.{AreRowsByPlace};
+ghost use Rattle.morsel_rows.specs.Partitions.{AreRowsByPlace, FitSixBytes};
 ghost use Rattle.buckets.specs.BucketRows.{rows_of_partitions};
 ghost use Rattle.buckets.specs.FoundRows.{kept_of, repeated_in, trades_in, unknown_in};
 
@@ -59,6 +59,8 @@ fn trade_executions<T: TakesSales>(
     into: &mut T,
 ) -> Result<Faults, OutOfMemory>
     requires places { IsDistinct nat_eq (map (λ row. row.place) (rows_of_partitions partitions.now).orders) }
+    requires fit { All (λ execution. FitSixBytes execution.time execution.place)
+        (rows_of_partitions partitions.now).executions }
     requires none { T.Has [] into.old }
     ensures repeated { IfOk result (λ faults. faults.repeated ≡ repeated_in (rows_of_partitions partitions.now)) }
     ensures unknown { IfOk result (λ faults. faults.unknown ≡ unknown_in (rows_of_partitions partitions.now)) }
@@ -85,7 +87,10 @@ fn take_priced<P: PricesExecutions, T: TakesSales>(
     partitions: &[&Partition],
     into: &mut T,
 ) -> Result<Option<Unknown>, OutOfMemory>
-    requires { T.Has [] into.old }
+    requires priced { (rows : List TheRow) × P.PricesBy rows prices.now }
+    requires fit { All (λ execution. FitSixBytes execution.time execution.place)
+        (rows_of_partitions partitions.now).executions }
+    requires none { T.Has [] into.old }
     ensures unknown { IfOk result (λ unknown. (rows : List TheRow) → P.PricesBy rows prices.now →
         unknown ≡ option_map unknown_of (first_unknown rows (rows_of_partitions partitions.now).executions)) }
     ensures sales { OnOk result ((rows : List TheRow) → P.PricesBy rows prices.now →
@@ -111,6 +116,8 @@ fn take_executions<P: PricesExecutions, T: TakesSales>(
     room: &mut Priced,
     into: &mut T,
 ) -> Result<Option<Unknown>, OutOfMemory>
+    requires priced { (rows : List TheRow) × P.PricesBy rows prices.now }
+    requires fit { All (λ execution. FitSixBytes execution.time execution.place) executions.now }
     ensures unknown { IfOk result (λ unknown. (rows : List TheRow) → P.PricesBy rows prices.now →
         unknown ≡ option_map unknown_of (first_unknown rows executions.now)) }
     ensures sales { OnOk result ((rows : List TheRow) (before : List TheSale) → P.PricesBy rows prices.now →
@@ -131,6 +138,7 @@ fn take_own_priced<T: TakesSales>(
     partitions: &[&Partition],
     into: &mut T,
 ) -> Result<(), OutOfMemory>
+    requires { All (λ sale. FitSixBytes sale.time sale.place) (rows_of_partitions partitions.now).own_priced }
     ensures { OnOk result ((before : List TheSale) → T.Has before into.old →
         T.Has (before ++ kept_of bucket.now (rows_of_partitions partitions.now).own_priced) into.new) }
 {

@@ -7,11 +7,10 @@ ghost use Rattle.arguments.specs.FaultLines.{status_of};
 ghost use Rattle.arguments.specs.Reports.{device};
 
 use arguments::{Job, report};
-use runs::{BlockSource, RunFault, Sink, Source, run_blocks};
+use runs::{BlockSource, RunFault, Sink, Source, run, run_blocks};
 use std::alloc::Global;
 use std::sync::Wait;
 use std::thread::Threads;
-use stream_runs::run;
 
 /// Does a job: reads the day file from the source, and writes the answer to `out`, or one line that
 /// says why there is none to `errors`. Gives the program's status. A line that can't be written

@@ -17,14 +17,14 @@ pub const LENGTH_BYTES: usize = 2;
 pub const LONGEST_FRAME: usize = 65_537;
 
 /// A frame of a day file. Its place is the number of bytes before it, from the file's start.
-#[derive(Clone, Copy, Debug, PartialEq, Eq)]
+#[derive(Clone, Copy)]
 pub struct Frame<'a> {
     pub place: u64,
     pub body: &'a [u8],
 }
 
 /// The frames of a day file that are left, in order, and the place where the file is truncated after them, if it is.
-#[derive(Debug, Drop)]
+#[derive(Drop)]
 pub struct Frames<'a> {
     place: u64,
     rest: &'a [u8],

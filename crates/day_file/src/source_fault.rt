@@ -6,7 +6,7 @@ use crate::OutOfMemory;
 use sources::{DeviceFailed, ReadFault};
 
 /// Why a source gives no day, whether it is read in order or at places.
-#[derive(Clone, Copy, Debug, PartialEq, Eq)]
+#[derive(Clone, Copy, PartialEq, Eq)]
 pub enum SourceFault {
     /// A reading failed.
     ReadFailed,

@@ -1,6 +1,6 @@
-//! All ways to answer a query over a whole day file: `run` (`stream_runs`), `run_blocks` and `run_blocks_alone`
-//! (`runs`), which write the text to a sink, and here those that keep it, on threads, on one thread and by rehearsal.
-//! The program doesn't stand on this crate.
+//! All ways to answer a query over a whole day file: `run`, `run_blocks` and `run_blocks_alone` (`runs`), which write
+//! the text to a sink, and here those that keep it, on threads, on one thread and by rehearsal. The program doesn't
+//! stand on this crate.
 //!
 //! `plain`: the answer by one thread, with all rows of the day in one partition. `src/answering.rt` is the shortest way
 //! from bytes to an answer and the best file to read first. Its clause is `IsAnswer` and names no table, row, morsel or
@@ -43,7 +43,6 @@ pub use rehearsing::{Rehearsal, rehearse};
 pub use runs::{
     BlockSource, Counted, CountedSink, Crew, Cut, DayFault, DayFile, DeviceFailed, Division,
     FileBlocks, FreeGate, Gate, LONGEST_FILE, OutOfMemory, Query, QueryFault, ReadsAt, RunFault,
-    Settings, Sink, Source, What, WriteFailed, deliver, parse, run_blocks, run_blocks_alone,
+    Settings, Sink, Source, What, WriteFailed, deliver, parse, run, run_blocks, run_blocks_alone,
 };
 pub use schedules::Event;
-pub use stream_runs::run;

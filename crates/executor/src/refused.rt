@@ -8,7 +8,7 @@ use day_file::Truncated;
 use std::alloc::AllocError;
 
 /// Why a step of an answer gave none.
-#[derive(Clone, Copy, Debug, PartialEq, Eq)]
+#[derive(Clone, Copy)]
 pub(crate) enum Refused {
     /// The day file has a fault.
     Day(DayFault),

@@ -45,7 +45,7 @@ impl<W: Work, A: Allocator> Model for Gathering<W, A> {
 }
 
 /// How a piece was filed.
-#[derive(Clone, Copy, Debug, PartialEq, Eq)]
+#[derive(Clone, Copy, PartialEq, Eq)]
 pub enum Filed {
     /// Its task was not covered before.
     New,

@@ -6,7 +6,7 @@ use std::marker::Model;
 /// A message's header. `locate` is the number of a stock on this day (stock locate), `tracking` is
 /// Nasdaq's own (tracking number), and `time` is in nanoseconds since midnight, below
 /// 281,474,976,710,656, which is six bytes. TotalView-ITCH 5.0, section 1.
-#[derive(Clone, Copy, Debug, PartialEq, Eq)]
+#[derive(Clone, Copy, PartialEq, Eq)]
 pub struct Header {
     pub locate: u16,
     pub tracking: u16,

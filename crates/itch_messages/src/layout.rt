@@ -4,7 +4,7 @@ ghost use Rattle.itch_messages.specs.Layout.{length_of};
 
 /// Why a body is not read: its first byte, `kind`, is a type that is read, and its `length` is not
 /// the one that is `wanted` of that type. Both lengths are in bytes.
-#[derive(Clone, Copy, Debug, PartialEq, Eq)]
+#[derive(Clone, Copy, PartialEq, Eq)]
 pub struct LengthFault {
     pub kind: u8,
     pub length: usize,

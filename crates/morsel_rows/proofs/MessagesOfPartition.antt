@@ -1,14 +1,15 @@
 -- The rows of a partition are the rows of the messages that go there.
-use Rattle.std.proofs.Common.{◌≡◌, ℕ, ◌<◌, ◌+◌, ◌%◌, ◌==◌, Bool, true, false, cond, List, [], ◌∷◌, Option, Some, None, length, filter, filter_map, refl}
+use Rattle.std.proofs.Common.{◌≡◌, ℕ, ◌<◌, ◌+◌, ◌^◌, ◌%◌, ◌==◌, All, Bool, true, false, cond, List, [], ◌∷◌, Option, Some, None, length, filter, filter_map, refl}
 use Rattle.std.proofs.Common.{ap, ◌∙◌, arith}
 use Rattle.std.specs.List.{cons_option}
 use Rattle.std.specs.List.Sorted.{IsStrictlySortedBy}
 use Rattle.std.specs.Ordering.{nat_cmp}
+use Rattle.std.proofs.lemmas.List.Elements.{All-filter, All-nil}
 use Rattle.std.proofs.lemmas.List.Kept.{IsStrictlySortedBy-filter}
 use Rattle.itch_messages.specs.declared.message.Message.{Message}
 use Rattle.itch_messages.specs.declared.message.Message.TheVariants.{Add, Executed, Replace}
 use Rattle.base.specs.Least.{part}
-use Rattle.base.specs.declared.limits.TheConstants.{TRADE_LIMIT}
+use Rattle.base.specs.declared.limits.TheConstants.{TIME_LIMIT, TRADE_LIMIT}
 use Rattle.row_types.specs.declared.order.OrderRow.{OrderRow}
 use Rattle.row_types.specs.declared.trade.Execution.{Execution}
 use Rattle.row_types.specs.declared.trade.Sale.{Sale}
@@ -64,8 +65,11 @@ own_number place message sale e = grind arith
 
 -- a partition of messages has the rows of some of them
 pub partition_by_place : (n b : ℕ) (messages : List Placed) → AreByPlace messages
-    → length (executions messages) + length (own_priced_sales messages) < TRADE_LIMIT → AreRowsByPlace (partition_of n (rows_of messages) b)
-partition_by_place n b messages up few =
+    → length (executions messages) + length (own_priced_sales messages) < TRADE_LIMIT
+    → All (λ execution. (execution.time < TIME_LIMIT) × (execution.place < 2 ^ 48)) (executions messages)
+    → All (λ sale. (sale.time < TIME_LIMIT) × (sale.place < 2 ^ 48)) (own_priced_sales messages)
+    → AreRowsByPlace (partition_of n (rows_of messages) b)
+partition_by_place n b messages up few executions_fit own_priced_fit =
     let executed_are = part_of_given n b (λ (row : Execution). row.order_no) execution_at execution_number messages in
     let own_are = part_of_given n b (λ (sale : Sale). sale.place) own_priced_at own_number messages in
     record {
@@ -82,9 +86,22 @@ partition_by_place n b messages up few =
         fewer_of_filter (λ (m : Placed). execution_at m.place m.message) (goes_to n b) messages,
         fewer_of_filter (λ (m : Placed). own_priced_at m.place m.message) (goes_to n b) messages,
       );
+      executions_fit = All-filter (λ (row : Execution). row.order_no % n == b)
+          (λ (row : Execution). (row.time < TIME_LIMIT) × (row.place < 2 ^ 48)) (executions messages) executions_fit;
+      own_priced_fit = All-filter (λ (sale : Sale). sale.place % n == b)
+          (λ (sale : Sale). (sale.time < TIME_LIMIT) × (sale.place < 2 ^ 48)) (own_priced_sales messages) own_priced_fit;
     }
 
 -- and so has no row at all
 pub no_rows_by_place : AreRowsByPlace no_rows_in
 unfolding IsStrictlySortedBy
-no_rows_by_place = record { messages = []; by_place = tt; orders = refl; executions = refl; own_priced = refl; few = omega arith }
+no_rows_by_place = record {
+  messages = [];
+  by_place = tt;
+  orders = refl;
+  executions = refl;
+  own_priced = refl;
+  few = omega arith;
+  executions_fit = All-nil _;
+  own_priced_fit = All-nil _;
+}

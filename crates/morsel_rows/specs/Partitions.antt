@@ -1,9 +1,9 @@
 -- The rows of messages in partitions: by order references, and sales that have a price of their own by places.
 -- To be believed of a crate used by itself: the answer isn't defined by partitions.
-use Rattle.std.specs.Prelude.{◌≡◌, ℕ, ◌<◌, ◌+◌, List, [], map, length, slice_index_or}
+use Rattle.std.specs.Prelude.{◌≡◌, ℕ, ◌<◌, ◌+◌, ◌^◌, List, [], All, map, length, slice_index_or}
 use Rattle.std.specs.List.{flat_map}
 use Rattle.base.specs.Least.{numbers_below, part}
-use Rattle.base.specs.declared.limits.TheConstants.{TRADE_LIMIT}
+use Rattle.base.specs.declared.limits.TheConstants.{TIME_LIMIT, TRADE_LIMIT}
 use Rattle.row_types.specs.declared.order.OrderRow.{OrderRow}
 use Rattle.row_types.specs.declared.trade.Execution.{Execution}
 use Rattle.row_types.specs.declared.trade.Sale.{Sale}
@@ -55,8 +55,12 @@ joined_partitions partitions = record {
   own_priced = flat_map (λ rows. rows.own_priced) partitions;
 }
 
--- they are the rows of some messages, by place: no place occurs twice in a list, and there are fewer trades than a
--- file has room for
+-- a time and a place that fit six bytes each
+abbrev pub FitSixBytes : ℕ → ℕ → Type 0
+FitSixBytes time place = (time < TIME_LIMIT) × (place < 2 ^ 48)
+
+-- they are the rows of some messages, by place: no place occurs twice in a list, there are fewer trades than a file has
+-- room for, and the time and the place of each trade fit six bytes
 pub record AreRowsByPlace (rows : PartitionView) : Type 0 where
   pub messages : List Placed
   pub by_place : AreByPlace messages
@@ -64,3 +68,5 @@ pub record AreRowsByPlace (rows : PartitionView) : Type 0 where
   pub executions : rows.executions ≡ executions messages
   pub own_priced : rows.own_priced ≡ own_priced_sales messages
   pub few : length rows.executions + length rows.own_priced < TRADE_LIMIT
+  pub executions_fit : All (λ execution. FitSixBytes execution.time execution.place) rows.executions
+  pub own_priced_fit : All (λ sale. FitSixBytes sale.time sale.place) rows.own_priced

@@ -1,6 +1,6 @@
-//! Pipelines of work on threads: one (`run_pipeline`), or two, of which the second works on what a link makes of the
-//! first one's total (`run_pair`), and each of the two alone (`run_first`, `run_second`). `run_alone` runs both on the
-//! caller's thread, needs no handle and is proved to return.
+//! Pipelines of work on threads: two, of which the second works on what a link makes of the first one's total
+//! (`run_pair`), and each of the two alone (`run_first`, `run_second`). `run_alone` runs both on the caller's thread,
+//! needs no handle and is proved to return.
 //!
 //! Workers claim tasks of a dispatcher, run them and send the pieces to gatherers, of which the caller's thread is the
 //! first; the caller runs what no worker brought. The outcome is that of both works on their whole lists of inputs,
@@ -30,5 +30,4 @@ pub use gathering::{Gathering, Inputs, Link, Linked, OutOfMemory, Piece, Work};
 pub use outcome::Outcome;
 pub use outcomes::Crew;
 pub use pair::{run_first, run_pair, run_second};
-pub use pipeline::run_pipeline;
 pub use workers::{FreeGate, Gate, Port, run_missing, run_task, work};

@@ -13,8 +13,8 @@ use std::sync::{Arc, Wait};
 use std::thread::{self, Scope, Threads};
 use workers::Gate;
 
-/// Runs the first pipeline, links its total, and runs the second pipeline, each as `run_pipeline` does. It waits for
-/// the pieces, and at the end for all workers. It is refused if memory was refused to the caller's thread.
+/// Runs the first pipeline, links its total, and runs the second pipeline, each with the crew. It waits for the pieces,
+/// and at the end for all workers. It is refused if memory was refused to the caller's thread.
 pub fn run_pair<A: Work, B: Work, L: Link<A, B>, G: Gate, R: Threads + Wait + Sync>(
     rt: &R,
     alloc: Global,

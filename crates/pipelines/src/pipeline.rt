@@ -13,37 +13,15 @@ use std::sync::{Arc, Wait};
 use std::thread::{self, Scope, Threads};
 use workers::{Gate, run_missing};
 
-/// The total of all inputs of one pipeline. If there is a task, it starts the crew's workers on threads of their
-/// own. The crew's gatherers gather: the caller's thread, and if there are more each on a thread of its own. A
-/// worker sends its pieces to the gatherer of its number modulo theirs. The caller's thread runs itself the tasks
-/// whose pieces no worker brought: one that couldn't be made or sent is among them.
+/// A pipeline of this number, who works on it, and what all of its threads are given.
+///
+/// If there is a task, it starts the crew's workers on threads of their own. The crew's gatherers gather: the caller's
+/// thread, and if there are more each on a thread of its own. A worker sends its pieces to the gatherer of its number
+/// modulo theirs. The caller's thread runs itself the tasks whose pieces no worker brought: one that couldn't be made
+/// or sent is among them. A thread, a seat or a channel that can't be had is done without.
 ///
 /// It waits for the pieces: with one gatherer until all tasks are covered, whatever a slow worker still holds,
-/// with several until all workers have ended, and then merges what was gathered. A thread, a seat or a channel
-/// that can't be had is done without. It is refused if memory was refused to the caller's thread.
-pub fn run_pipeline<'s, E, W: Work + 's, G: Gate, R: Threads + Wait + Sync>(
-    scope: &Scope<'s, E>,
-    rt: &'s R,
-    alloc: Global,
-    inputs: Arc<Inputs<W>, Global>,
-    crew: Crew,
-    gate: &'s G,
-    number: u8,
-) -> Result<W::Total, OutOfMemory>
-    ensures total { IfOk result (λ total. W.IsTotalOf (arc_value inputs) total) }
-    ensures admissible { OnOk result (W.IsAdmissible (arc_value inputs)) }
-{
-    let pipeline = Pipeline {
-        rt,
-        alloc,
-        crew,
-        gate,
-        number,
-    };
-    pipeline.total_in(scope, &inputs)
-}
-
-/// A pipeline of this number, who works on it, and what all of its threads are given.
+/// with several until all workers have ended, and then merges what was gathered.
 #[derive(Drop)]
 pub(crate) struct Pipeline<'s, G: Gate, R> {
     pub(crate) rt: &'s R,
@@ -54,7 +32,8 @@ pub(crate) struct Pipeline<'s, G: Gate, R> {
 }
 
 impl<'s, G: Gate, R: Threads + Wait + Sync> Pipeline<'s, G, R> {
-    /// The total of all inputs. It waits at the end for all workers.
+    /// The total of all inputs. It waits at the end for all workers. It is refused if memory was refused to the
+    /// caller's thread.
     pub(crate) fn total<W: Work>(&self, inputs: &Inputs<W>) -> Result<W::Total, OutOfMemory>
         ensures total { IfOk result (λ total. W.IsTotalOf inputs.now total) }
         ensures admissible { OnOk result (W.IsAdmissible inputs.now) }
@@ -93,9 +72,21 @@ impl<'s, G: Gate, R: Threads + Wait + Sync> Pipeline<'s, G, R> {
         ensures admissible { OnOk result (W.IsAdmissible inputs.now) }
     {
         let inputs = numbered::<W, K>(self.alloc, inputs)?;
-        let mut gathering = Gathering::new(self.alloc, Arc::try_clone(&inputs)?)?;
-        self.gather(scope, &inputs, &mut gathering);
-        self.complete(&inputs, gathering)
+        self.total_of_shared(scope, &inputs)
+    }
+
+    /// The total of inputs that threads may share.
+    fn total_of_shared<E, W: Work + 's>(
+        &self,
+        scope: &Scope<'s, E>,
+        inputs: &Arc<Inputs<W>, Global>,
+    ) -> Result<W::Total, OutOfMemory>
+        ensures total { IfOk result (λ total. W.IsTotalOf (arc_value inputs.now) total) }
+        ensures admissible { OnOk result (W.IsAdmissible (arc_value inputs.now)) }
+    {
+        let mut gathering = Gathering::new(self.alloc, Arc::try_clone(inputs)?)?;
+        self.gather(scope, inputs, &mut gathering);
+        self.complete(inputs, gathering)
     }
 
     /// Runs the tasks that are not covered, and gives the total of all inputs.

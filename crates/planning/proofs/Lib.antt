@@ -1,4 +1,5 @@
 pub mod MorselsOfCuts
+pub mod FittingRows
 pub mod LinkedBuckets
 pub mod PlannedLists
 pub mod AnswerOfBuckets

@@ -26,6 +26,7 @@ use Rattle.morsel_rows.specs.Partitions.{AreRowsByPlace, MorselRowsView, joined_
 use Rattle.morsel_rows.proofs.JoinedPartitions.{partition_past}
 use Rattle.morsel_rows.proofs.MessagesOfPartition.{no_rows_by_place, partition_by_place}
 use Rattle.scanning.specs.Scans.{AreConsecutive, ScanTotalView, total_of}
+use Rattle.scanning.proofs.JoinedRuns.{bytes_of_runs}
 use Rattle.scanning.specs.declared.wrong.WrongLength.{WrongLength}
 use Rattle.gathering.specs.Totals.{IsTotal}
 use Rattle.gathering.specs.declared.linked.Linked.TheVariants.{Next, Halt}
@@ -34,6 +35,7 @@ use Rattle.buckets.specs.Buckets.{AreNumbered}
 use Rattle.buckets.specs.declared.plan.Plan.{Plan}
 use Rattle.planning.specs.Planned.{LinkView, ToBuckets, all_breaks, all_directory, linked_to, planned_bucket, planned_buckets}
 use Rattle.buckets.specs.Plans.{rising, selection_of}
+use Rattle.planning.proofs.FittingRows.{trades_fit}
 use Rattle.planning.proofs.MorselsOfCuts.{counted_in, input_of, partition_is, partitions_are}
 
 -- ---- a plan's buckets
@@ -81,10 +83,11 @@ rows_by_place total (inputs, cut, is) number =
     let stands : StandsFrom cut.start frames (concat cut.runs) = frames_of_runs cut.first cut.start cut.runs cut.each in
     let by_place = counted_by_place cut.as_of (messages_of frames) (messages_by_place frames (places_rise cut.start frames stands.places)) in
     let few = few_trades cut.as_of (concat cut.runs) frames stands (omega (arith, cut.within)) in
+    let fit = trades_fit cut.as_of (concat cut.runs) frames (bytes_of_runs cut.runs cut.bytes) stands cut.within in
     subst (λ (t : ScanTotalView). AreRowsByPlace (joined_partitions (map (partition_at number) t.morsels))) (sym (is ∙ ap total_of cut.are))
     (⊎_elim
     (λ below. subst AreRowsByPlace (sym (partition_is cut.as_of n number below morsels))
-    (partition_by_place n number (counted_in cut.as_of n morsels) by_place few))
+    (partition_by_place n number (counted_in cut.as_of n morsels) by_place few fit.0 fit.1))
     (λ past. subst AreRowsByPlace (sym (no_rows cut.as_of n number past morsels)) no_rows_by_place) (cases_lt number n))
 
 -- ---- what is linked

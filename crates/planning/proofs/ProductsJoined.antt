@@ -8,9 +8,9 @@ use Rattle.row_types.specs.declared.trade.Sale.{Sale}
 use Rattle.bars.specs.Bars.{AreBarsOfEach, FitIfTraded, IsUnionOf, all_bars}
 use Rattle.bar.specs.declared.bar.Bar.{Bar}
 use Rattle.bars.specs.Steps.{bars_of, united}
-use Rattle.bars.proofs.BarsOfSales.{AreBarsOf-union, bars_of_are, count_of_each, each_alike, union_of_bars}
+use Rattle.bars.proofs.BarsOfSales.{AreBarsOf-union, bars_of_are, count_of_each, union_of_bars}
 use Rattle.bars.proofs.JoinedTables.{count_of_united, united_is}
-use Rattle.bars.proofs.SumsAreBounded.{all_sums_fit, starts_of_sales}
+use Rattle.bars.proofs.SumsAreBounded.{all_sums_fit}
 use Rattle.time_and_sales.proofs.SortedByPlace.{differ_in_order}
 pub use Rattle.answers.proofs.SelectedSales.{times_fit}
 use Rattle.meaning.specs.Meaning.{Meaning}
@@ -49,10 +49,6 @@ module _ (width : ℕ) (lists : List (List Sale)) (products : List Product) (tab
 
   pub tables_sums : FitIfTraded (all_bars tables)
   tables_sums traded = all_sums_fit width lists tables tables_are traded (omega (arith, of.few))
-
-  pub tables_starts : All (λ bar. bar.start < TIME_LIMIT) (all_bars tables)
-  tables_starts =
-      starts_of_sales width (all_sales lists) (all_bars tables) (each_alike width lists tables tables_are) (times_fit (all_sales lists) of.stamped)
 
   -- the table of all sales is the union of the tables of each list
   pub tables_union : IsUnionOf (all_bars tables) (bars_of width (all_sales lists))
@@ -113,10 +109,10 @@ can_list what lists products listings of same is =
 
 pub can_tabulate : (what : What) (lists : List (List Sale)) (products : List Product) (tables : List (List Bar)) → AreProductsOf what lists products
     → tables ≡ filter_map table_of products → (width : ℕ) → what ≡ Bars width
-    → FitIfTraded (all_bars tables) × All (λ bar. bar.start < TIME_LIMIT) (all_bars tables) × (length (united (all_bars tables)) < TRADE_LIMIT)
+    → FitIfTraded (all_bars tables) × (length (united (all_bars tables)) < TRADE_LIMIT)
 can_tabulate what lists products tables of same width is =
     let bars = subst (λ w. AreProductsOf w lists products) is of in
-    (tables_sums width lists products tables bars same, tables_starts width lists products tables bars same, few_bars width lists products tables bars same)
+    (tables_sums width lists products tables bars same, few_bars width lists products tables bars same)
 
 -- the text is that of all sales
 pub text_is_of_all : (what : What) (names : ℕ → List ℕ) (lists : List (List Sale)) (products : List Product) → AreProductsOf what lists products

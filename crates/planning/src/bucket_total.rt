@@ -67,12 +67,4 @@ impl BucketTotal {
     {
         self.products.as_slice()
     }
-
-    /// Gives what is listed of each bucket, in the order of their numbers, and takes no memory.
-    pub fn into_products(self) -> Vec<Arc<Product, Global>>
-        ensures { map arc_value result.items ≡ self.products }
-    {
-        let BucketTotal { products, .. } = self;
-        products
-    }
 }

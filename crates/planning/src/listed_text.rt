@@ -141,7 +141,6 @@ fn lines_of<'a, J: AllSales + AllBars>(
         × All (λ sale. sale.time < TIME_LIMIT) (all_sales (lent listings.now))
         × (length (by_place (all_sales (lent listings.now))) < TRADE_LIMIT) }
     requires bars { (width : ℕ) → what ≡ Bars width → FitIfTraded (all_bars (lent tables.now))
-        × All (λ bar. bar.start < TIME_LIMIT) (all_bars (lent tables.now))
         × (length (united (all_bars (lent tables.now))) < TRADE_LIMIT) }
     ensures { IfOk result (λ lines. header_of what ++ together (texts_of lines)
         ≡ text_of_lists what (names_by names.now) (lent listings.now) (lent tables.now)) }

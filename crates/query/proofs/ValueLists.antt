@@ -8,7 +8,6 @@ use Rattle.std.proofs.lemmas.Bool.{and_parts}
 use Rattle.std.proofs.lemmas.Option.{cond_some}
 use Rattle.query.specs.Values.{is_kind, letters_of, kinds_of}
 use Rattle.meaning.specs.Meaning.{Kinds, has_some}
-use Rattle.query.proofs.WordByWord.{reading}
 
 -- a text has a part
 pub has_part : (separator : ℕ) (text : List ℕ) → nat_lt 0 (length (split_by separator text)) ≡ true
@@ -36,5 +35,3 @@ pub some_kind : (bytes : List ℕ) (some : Kinds) → kinds_of bytes ≡ Some so
 unfolding kinds_of
 some_kind bytes some e =
     let h = cond_some _ (letters_of bytes) some e in subst (λ k. has_some k ≡ true) h.1 (list_has_letter bytes h.0)
-
-pub ruleset reading_kinds = (reading, some_kind)

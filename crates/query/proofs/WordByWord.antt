@@ -32,4 +32,6 @@ pub refused_later : (next then_next : Next) (ws rest : List Word) (fault : Query
     → IsLater ws rest → IsRefused then_next rest fault → IsRefused next ws fault
 refused_later next then_next ws rest fault e later h = record { first = λ other. e ∙ h.first other; memory = λ is. later.listed (h.memory is) }
 
-pub ruleset reading = (reads, read_end, stays, later_word, later_twice, refused_here, refused_later)
+pub ruleset reading = (reads, read_end, stays, later_word, later_twice)
+
+pub ruleset refusing = (later_twice, refused_here, refused_later)

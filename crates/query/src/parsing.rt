@@ -20,7 +20,7 @@ use std::marker::Model;
 
 /// Reads the query that a text spells, in time linear in its length. Of several faults it reports the first from the
 /// left. It takes memory only for the list of symbols, so it runs out of memory only if the text has one.
-#[tactic(auto, using(crate::proofs::WordByWord::reading, crate::proofs::MeaningOrFault::told))]
+#[tactic(auto, using(crate::proofs::MeaningOrFault::told))]
 pub fn parse<A: Allocator + Clone>(alloc: A, text: &str) -> Result<Query<A>, QueryFault>
     ensures meaning { IfOk result (λ query. Means (words_of text.now) query) }
     ensures sound { IfOk result CanBeSpelled }
@@ -31,9 +31,23 @@ pub fn parse<A: Allocator + Clone>(alloc: A, text: &str) -> Result<Query<A>, Que
     ensures exactly { (meaning : Meaning) → Means (words_of text.now) meaning →
         MatchResult result (λ query. query ≡ meaning) (λ fault. fault ≡ QueryFault.OutOfMemory) }
 {
-    let mut words = Words::of(text.as_bytes());
-    let mut builder = QueryBuilder::new(read_what(&mut words)?, words.moment()?);
-    builder.read_filter(&alloc, &mut words)?;
+    read_query(&alloc, &mut Words::of(text.as_bytes()))
+}
+
+/// Reads to the end of the text.
+#[tactic(auto, using(crate::proofs::WordByWord::refusing))]
+fn read_query<A: Allocator + Clone>(
+    alloc: &A,
+    words: &mut Words<'_>,
+) -> Result<Query<A>, QueryFault>
+    ensures ok { IfOk result (λ read. read_from query words.old ≡ Ok read) }
+    ensures sound { IfOk result CanBeSpelled }
+    ensures err { IfErr result (IsRefused query words.old) }
+{
+    let what = read_what(words)?;
+    let as_of = words.moment()?;
+    let mut builder = QueryBuilder::new(what, as_of);
+    builder.read_filter(alloc, words)?;
     Ok(builder.into_query())
 }
 
@@ -137,6 +151,7 @@ impl<A: Allocator + Clone> QueryBuilder<A> {
     }
 
     /// Reads to the end of the text: nothing, or `where` and conditions with `and` between each two.
+    #[tactic(auto, using(crate::proofs::WordByWord::refusing))]
     pub(crate) fn read_filter(&mut self, alloc: &A, words: &mut Words<'_>) -> Result<(), QueryFault>
         ensures ok { OnOk result (read_from (linked (codes "where") self.old) words.old ≡ Ok (meaning_of self.new)) }
         ensures err { IfErr result (IsRefused (linked (codes "where") self.old) words.old) }
@@ -179,6 +194,7 @@ impl<A: Allocator + Clone> QueryBuilder<A> {
     }
 
     /// Reads `in` and a list of symbols.
+    #[tactic(auto, using(crate::proofs::WordByWord::stays))]
     fn read_symbols(&mut self, alloc: &A, words: &mut Words<'_>) -> Result<(), QueryFault>
         ensures ok { OnOk result (read_from (symbol_list self.old) words.old
             ≡ read_from (linked (codes "and") self.new) words.new) }
@@ -195,6 +211,7 @@ impl<A: Allocator + Clone> QueryBuilder<A> {
     }
 
     /// Reads `from`, a time, `until` and a time.
+    #[tactic(auto, using(crate::proofs::WordByWord::stays))]
     fn read_span(&mut self, words: &mut Words<'_>) -> Result<(), QueryFault>
         ensures ok { OnOk result (read_from (time_span self.old) words.old
             ≡ read_from (linked (codes "and") self.new) words.new) }
@@ -213,7 +230,7 @@ impl<A: Allocator + Clone> QueryBuilder<A> {
     }
 
     /// Reads `in` and a list of kinds.
-    #[tactic(auto, using(crate::proofs::ValueLists::reading_kinds), unfolding(crate::specs::Faults::step))]
+    #[tactic(auto, using(crate::proofs::ValueLists::some_kind, crate::proofs::WordByWord::stays))]
     fn read_kinds(&mut self, words: &mut Words<'_>) -> Result<(), QueryFault>
         ensures ok { OnOk result (read_from (kind_list self.old) words.old
             ≡ read_from (linked (codes "and") self.new) words.new) }

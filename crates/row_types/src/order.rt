@@ -2,7 +2,7 @@
 
 /// An order reference and its price, as Add Order and Order Replace messages give them
 /// (TotalView-ITCH 5.0, sections 1.3 and 1.4.5).
-#[derive(Clone, Copy, PartialEq, Eq, Debug)]
+#[derive(Clone, Copy, PartialEq, Eq)]
 pub struct OrderRow {
     /// The offset of the message's length prefix, in bytes from the file's start.
     pub place: u64,

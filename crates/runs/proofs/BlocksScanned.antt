@@ -27,7 +27,18 @@ pub of_cut : (as_of : Option ℕ) {parts : ℕ} {runs : List (List ℕ)} {total 
     → total ≡ total_of (inputs_of as_of parts runs) → IsTotal (λ inputs t. t ≡ total_of inputs) AreConsecutive total
 of_cut as_of {parts} {runs} some runs_are is = (
   inputs_of as_of parts runs,
-  record { first = 0; start = 0; runs = runs; each = runs_are.each; within = runs_are.within; as_of = as_of; parts = parts; some = some; are = refl },
+  record {
+    first = 0;
+    start = 0;
+    runs = runs;
+    each = runs_are.each;
+    bytes = runs_are.bytes;
+    within = runs_are.within;
+    as_of = as_of;
+    parts = parts;
+    some = some;
+    are = refl;
+  },
   is,
 )
 

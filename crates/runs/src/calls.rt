@@ -4,4 +4,5 @@ pub(crate) mod alone;
 pub(crate) mod block_link;
 pub(crate) mod ends;
 pub(crate) mod made;
+pub(crate) mod run;
 pub(crate) mod run_blocks;

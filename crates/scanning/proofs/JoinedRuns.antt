@@ -34,7 +34,8 @@ run_of_runs (run ∷ runs) some each = record {
   whole = (_, frames_of_cut (run ∷ runs) each);
 }
 
-bytes_of_runs : (runs : List (List ℕ)) → All AreBytes runs → AreBytes (concat runs)
+-- their bytes are bytes
+pub bytes_of_runs : (runs : List (List ℕ)) → All AreBytes runs → AreBytes (concat runs)
 bytes_of_runs [] each = All-nil _
 bytes_of_runs (run ∷ runs) each = All-append (λ byte. byte < 256) run (concat runs) (each 0 run (omega arith)) (bytes_of_runs runs (All-tail AreBytes run runs each))
 
@@ -144,6 +145,7 @@ of_one_cut {first = first} {start = start} {as_of = as_of} {parts = parts} t som
       start = start;
       runs = t.joined;
       each = joined.each;
+      bytes = joined.bytes;
       within = joined.within;
       as_of = as_of;
       parts = parts;

@@ -143,6 +143,7 @@ pub record AreConsecutive (inputs : List ScanInputView) : Type 0 where
   pub start : ℕ
   pub runs : List (List ℕ)
   pub each : All IsRun runs
+  pub bytes : All AreBytes runs
   pub within : start + length (concat runs) ≤ LONGEST_FILE
   pub as_of : Option ℕ
   pub parts : ℕ

@@ -13,7 +13,7 @@ use workers::run_task;
 
 /// One event of a schedule. Gatherers and tasks are numbered from 0. An event changes nothing if it names one that
 /// doesn't exist.
-#[derive(Clone, Copy, Debug, PartialEq, Eq)]
+#[derive(Clone, Copy)]
 pub enum Event {
     /// The task is run, and its piece is filed by the gatherer.
     Arrive { gatherer: u32, task: u32 },

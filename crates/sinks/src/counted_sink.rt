@@ -9,7 +9,7 @@ use std::io::Write;
 /// The sink over any writer. Any error of the writer, an interruption too, and a write of no byte of a slice that is
 /// not empty are failures. Each call of the sink calls the writer once, and none is made after an error: no clause of a
 /// writer lets that be said, so tests count the calls. No clause says that a writer passes on what it keeps back.
-#[derive(Debug, Drop)]
+#[derive(Drop)]
 pub struct CountedSink<W: Write> {
     writer: W,
     failed: bool,

@@ -7,7 +7,7 @@ use sources::DeviceFailed;
 use std::alloc::Allocator;
 
 /// A sink failed, and had taken the first `written` bytes of the text.
-#[derive(Clone, Copy, Debug, PartialEq, Eq)]
+#[derive(Clone, Copy, PartialEq, Eq)]
 pub struct WriteFailed {
     pub written: u64,
 }

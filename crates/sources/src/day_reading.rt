@@ -9,7 +9,7 @@ use std::alloc::Allocator;
 const LARGEST_PIECE: u64 = 65_536;
 
 /// Why a day file could not be read from a source.
-#[derive(Clone, Copy, Debug, PartialEq, Eq)]
+#[derive(Clone, Copy, PartialEq, Eq)]
 pub enum ReadFault {
     /// A call of the source failed.
     ReadFailed,

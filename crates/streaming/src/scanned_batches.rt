@@ -69,7 +69,8 @@ pub fn scan_source<R: Threads + Wait + Sync, S: Source>(
     while !scanned.batch.is_last {
         scanned.go_on(rt, alloc, source, as_of, settings)?;
     }
-    Ok(WholeSource::Long(scanned.with_last(rt, alloc, as_of, settings)?))
+    scanned.add_last(rt, alloc, as_of, settings)?;
+    Ok(WholeSource::Long(scanned.total))
 }
 
 /// What the scans of a source's batches add up to so far, its reader, and the batch behind them.
@@ -109,21 +110,19 @@ impl ScannedSoFar {
         Ok(take_in(&mut self.total, scans)?)
     }
 
-    /// The total with the scans of the batch, which is the last one.
-    fn with_last<R: Threads + Wait + Sync>(
-        mut self,
+    /// Adds the scans of the batch, which is the last one, to the total.
+    fn add_last<R: Threads + Wait + Sync>(
+        &mut self,
         rt: &R,
         alloc: Global,
         as_of: Option<u32>,
         settings: Settings,
-    ) -> Result<ScanTotal, OutOfMemory>
-        ensures { IfOk result (λ total. (last : ScanTotalView) × IsScanOfBatch self.batch as_of settings.parts last
-            × (total ≡ with_scans self.total last)) }
+    ) -> Result<(), OutOfMemory>
+        ensures { OnOk result ((last : ScanTotalView) × IsScanOfBatch self.old.batch as_of settings.parts last
+            × (self.new.total ≡ with_scans self.old.total last)) }
     {
         let scans = scan(rt, alloc, &self.batch, as_of, settings);
-        take_in(&mut self.total, scans)?;
-        let ScannedSoFar { total, .. } = self;
-        Ok(total)
+        take_in(&mut self.total, scans)
     }
 }
 

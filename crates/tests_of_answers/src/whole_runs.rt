@@ -1,6 +1,6 @@
 //! What runs over devices do, and what they answer.
 use crate::answering::settings_of;
-use executor::{Counted, CountedSink, DeviceFailed, RunFault, Sink, run};
+use executor::{Counted, CountedSink, RunFault, Sink, run};
 use std::alloc::Global;
 use std::sync::Wait;
 use std::test::Fail;
@@ -63,35 +63,25 @@ fn a_run_ends_at_a_writers_first_error(rt: HostRuntime) -> Result<(), Fail> {
 }
 
 /// How many bytes a writer takes a call, which call of it is interrupted, what it is given, or nothing if it is
-/// flushed, and what is answered.
-type Calling = (
-    usize,
-    u32,
-    Option<&'static [u8]>,
-    Result<usize, DeviceFailed>,
-);
+/// flushed, and what `told_of` says.
+type Calling = (usize, u32, Option<&'static [u8]>, Option<usize>);
 
 static CALLINGS: [Calling; 6] = [
-    (1, 0, Some(b"ab"), Err(DeviceFailed)),
-    (0, 1, Some(b"ab"), Err(DeviceFailed)),
-    (0, 1, Some(b""), Ok(0)),
-    (1, 1, Some(b"ab"), Ok(1)),
-    (1, 0, None, Err(DeviceFailed)),
-    (1, 1, None, Ok(0)),
+    (1, 0, Some(b"ab"), None),
+    (0, 1, Some(b"ab"), None),
+    (0, 1, Some(b""), Some(0)),
+    (1, 1, Some(b"ab"), Some(1)),
+    (1, 0, None, None),
+    (1, 1, None, Some(0)),
 ];
 
-/// What a sink over such a writer answers, and whether it has failed then.
-fn told_of(
-    writer: &mut InterruptedWriter,
-    text: Option<&[u8]>,
-) -> (Result<usize, DeviceFailed>, bool) {
+/// How many bytes a sink over such a writer takes, none if it answers that the device failed; and whether it has failed
+/// then.
+fn told_of(writer: &mut InterruptedWriter, text: Option<&[u8]>) -> (Option<usize>, bool) {
     let mut sink = CountedSink::of(writer);
     let told = match text {
-        Some(text) => sink.put(text),
-        None => match sink.flush() {
-            Ok(()) => Ok(0),
-            Err(failed) => Err(failed),
-        },
+        Some(text) => sink.put(text).ok(),
+        None => sink.flush().ok().map(|()| 0),
     };
     (told, sink.failed())
 }
@@ -101,7 +91,7 @@ fn an_error_of_a_writer_is_a_failure(rt: HostRuntime) {
     for (step, interrupted, text, want) in &CALLINGS {
         let mut writer = InterruptedWriter::of(rt.alloc(), *step, *interrupted);
         let told = told_of(&mut writer, *text);
-        assert!(rt; told == (*want, want.is_err()));
+        assert!(rt; told == (*want, want.is_none()));
     }
 }
 

@@ -1,15 +1,16 @@
-//! Bars that buckets make or keep as ticks, and their lines in parts.
-ghost use Rattle.std.specs.Prelude.{◌≡◌, ℕ, ◌<◌, All, IfOk, IsTrue, List, [], ◌∷◌, length};
-ghost use Rattle.base.specs.declared.limits.TheConstants.{TIME_LIMIT, TRADE_LIMIT};
+//! Bars that buckets keep as ticks, and their lines in parts.
+ghost use Rattle.std.specs.Prelude.{◌<◌, All, IfOk, IsTrue, List, [], ◌∷◌, length};
+ghost use Rattle.base.specs.declared.limits.TheConstants.{TRADE_LIMIT};
 ghost use Rattle.row_types.specs.declared.trade.Sale.{Sale as TheSale};
 ghost use Rattle.time_and_sales.specs.Lent.{AreApart, lent};
 ghost use Rattle.bar.specs.OneBar.{IsTraded};
 ghost use Rattle.bars.specs.Bars.{AllSumsFit, AreBarsOf, FitIfTraded, IsUnionOf, all_bars};
+ghost use Rattle.bars.specs.Steps.{HasTick};
 
 use crate::parts::{Trial, pass};
 use crate::rows::{named_row, pass_told};
 use bar_lines::{AllBars, BarLines};
-use bars::{BarTable, BucketBars, Form, OutOfMemory, Sale, TickList};
+use bars::{BarTable, BucketBars, OutOfMemory, Sale, TickList};
 use probe::Kind;
 use sinks::Parts;
 use std::alloc::{AllocError, Global};
@@ -19,24 +20,24 @@ use std::test::Fail;
 use std::thread::Threads;
 use time_and_sales::Names;
 
-/// A sale of five shares: its place, its locate, seconds after half past nine, and its price.
-type Row = (u64, u16, u8, u32);
+/// A sale: its place, its locate, seconds after half past nine, its price, and its shares, one at least.
+type Row = (u32, u16, u8, u32, u64);
 
 /// The sales of a table, but those of the locate 12 are of `last`.
 fn sales_of(alloc: Global, rows: &[Row], last: u16) -> Result<Vec<Sale>, OutOfMemory>
     ensures shares { IfOk result (λ sales. All (λ sale. 0 < sale.shares) sales.items) }
-    ensures times { IfOk result (λ sales. All (λ sale. sale.time < TIME_LIMIT) sales.items) }
+    ensures fit { IfOk result (λ sales. All HasTick sales.items) }
 {
     let mut sales = Vec::new(alloc);
-    for (place, locate, seconds, price) in rows {
+    for (place, locate, seconds, price, shares) in rows {
         sales.push(Sale {
-            place: *place,
+            place: u64::from(*place),
             time: 34_200_000_000_000 + u64::from(*seconds) * 1_000_000_000,
             locate: if *locate == 12 { last } else { *locate },
             kind: Kind::P,
             price: *price,
-            shares: 5,
-            trade_no: *place,
+            shares: (*shares).max(1),
+            trade_no: u64::from(*place),
         })?;
     }
     Ok(sales)
@@ -54,7 +55,7 @@ fn rising_sales(alloc: Global, rows: &[Row], last: u16) -> Result<Vec<Sale>, Out
     ensures places { IfOk result (λ sales. AreApart sales.items) }
     ensures count { IfOk result (λ sales. length sales.items < 100) }
     ensures shares { IfOk result (λ sales. All (λ sale. 0 < sale.shares) sales.items) }
-    ensures times { IfOk result (λ sales. All (λ sale. sale.time < TIME_LIMIT) sales.items) }
+    ensures fit { IfOk result (λ sales. All HasTick sales.items) }
 {
     let sales = sales_of(alloc, rows, last)?;
     if sales.len() < 100 && places_rise(sales.as_slice()) {
@@ -64,91 +65,42 @@ fn rising_sales(alloc: Global, rows: &[Row], last: u16) -> Result<Vec<Sale>, Out
     }
 }
 
-/// The bars of these sales by minutes, made or not.
+/// The bars of these sales by minutes.
 fn minutes(alloc: Global, rows: &[Row], last: u16) -> Result<BucketBars, OutOfMemory>
     ensures bars { IfOk result (λ table. (sales : List TheSale) × AreBarsOf 60 sales table × (length sales < 100)) }
     ensures traded { IfOk result (λ table. All IsTraded table) }
-    ensures starts { IfOk result (λ table. All (λ bar. bar.start < TIME_LIMIT) table) }
 {
     let sales = rising_sales(alloc, rows, last)?;
     let mut ticks = TickList::new(alloc);
     ticks.take_in(sales.as_slice())?;
-    let Some(table) = BucketBars::of_ticks(ticks, 60) else {
-        return Err(AllocError);
-    };
-    Ok(table)
+    Ok(BucketBars::of_ticks(ticks, 60))
 }
 
-/// Sales of five bars, which are kept as ticks.
-const FEW: [Row; 7] = [
-    (10, 7, 1, 20_000),
-    (20, 7, 3, 26_000),
-    (40, 9, 2, 30_000),
-    (50, 8, 4, 40_000),
-    (70, 7, 62, 21_000),
-    (80, 9, 5, 31_000),
-    (81, 12, 6, 10_000),
+/// Sales of five bars.
+const SALES: [Row; 7] = [
+    (10, 7, 1, 20_000, 5),
+    (20, 7, 3, 26_000, 5),
+    (40, 9, 2, 30_000, 5),
+    (50, 8, 4, 40_000, 5),
+    (70, 7, 62, 21_000, 5),
+    (80, 9, 5, 31_000, 5),
+    (81, 12, 6, 10_000, 5),
 ];
 
-/// Sixteen sales of one bar, which is made.
-const MANY: [Row; 16] = [
-    (5, 7, 10, 15_000),
-    (6, 7, 0, 22_000),
-    (7, 7, 12, 20_000),
-    (200, 7, 20, 26_000),
-    (201, 7, 21, 26_000),
-    (202, 7, 22, 26_000),
-    (203, 7, 23, 26_000),
-    (204, 7, 24, 26_000),
-    (205, 7, 25, 26_000),
-    (206, 7, 26, 26_000),
-    (207, 7, 27, 26_000),
-    (208, 7, 28, 26_000),
-    (209, 7, 29, 26_000),
-    (210, 7, 30, 26_000),
-    (211, 7, 31, 26_000),
-    (212, 7, 32, 26_000),
+/// Sales of two of these bars. The last one is a cross of more shares than 32 bits hold.
+const MORE: [Row; 5] = [
+    (5, 7, 10, 15_000, 5),
+    (6, 7, 0, 22_000, 5),
+    (7, 7, 12, 20_000, 5),
+    (200, 7, 20, 26_000, 5),
+    (201, 8, 30, 40_003, 8_589_934_592),
 ];
 
-/// The bars of both, of which the locate 7 has one in common.
+/// The bars of both.
 fn tables(alloc: Global, last: u16) -> Result<(BucketBars, BucketBars), OutOfMemory>
-    ensures sums { IfOk result (λ two. AllSumsFit (all_bars (two.0 ∷ two.1 ∷ []))) }
-    ensures starts { IfOk result (λ two. All (λ bar. bar.start < TIME_LIMIT) (all_bars (two.0 ∷ two.1 ∷ []))) }
+    ensures { IfOk result (λ two. AllSumsFit (all_bars (two.0 ∷ two.1 ∷ []))) }
 {
-    Ok((minutes(alloc, &FEW, last)?, minutes(alloc, &MANY, last)?))
-}
-
-/// How many bars there are, if there is memory for them.
-fn count_bars(alloc: Global, bars: &BucketBars) -> usize {
-    match bars.table(alloc) {
-        Ok(table) => table.items().len(),
-        Err(_) => 0,
-    }
-}
-
-/// Whether the bars of these sales are made or not, and are this many.
-fn are(alloc: Global, rows: &[Row], are_made: bool, count: usize) -> Result<bool, OutOfMemory> {
-    let bars = minutes(alloc, rows, 12)?;
-    let is_form = match bars.form() {
-        Form::Ticks { .. } => !are_made,
-        Form::Sales { .. } => false,
-        Form::Bars(_) => are_made,
-    };
-    Ok(is_form && count_bars(alloc, &bars) == count)
-}
-
-/// Whether the bars are made of all sixteen sales of a bar, of fewer not, and not of few sales of many bars.
-fn are_of_sixteen(alloc: Global) -> Result<bool, OutOfMemory> {
-    Ok(
-        are(alloc, &MANY, true, 1)?
-            && are(alloc, &MANY[..15], false, 1)?
-            && are(alloc, &FEW, false, 5)?,
-    )
-}
-
-#[test]
-fn bars_are_made_of_sixteen_sales_each(rt: HostRuntime) -> Result<(), Fail> {
-    pass_told(are_of_sixteen(rt.alloc()))
+    Ok((minutes(alloc, &SALES, last)?, minutes(alloc, &MORE, last)?))
 }
 
 /// The names of three locates.
@@ -174,7 +126,6 @@ fn lines_pass<J: AllBars + Sync, R: Threads + Wait + Sync>(
 ) -> Result<bool, OutOfMemory>
     requires union { IsUnionOf (all_bars (lent tables.now)) J.bars }
     requires sums { FitIfTraded (all_bars (lent tables.now)) }
-    requires starts { All (λ bar. bar.start < TIME_LIMIT) (all_bars (lent tables.now)) }
     requires few { length J.bars < TRADE_LIMIT }
 {
     let names = names(alloc)?;
@@ -191,15 +142,15 @@ fn both_pass<R: Threads + Wait + Sync>(
     (text, threads): (&str, u32),
     trial: Trial,
 ) -> Result<bool, OutOfMemory> {
-    let (few, many) = tables(alloc, last)?;
-    let all = BarTable::merge_all(alloc, &[&few.table(alloc)?, &many.table(alloc)?])?;
+    let (bars, more) = tables(alloc, last)?;
+    let all = BarTable::merge_all(alloc, &[&bars.table(alloc)?, &more.table(alloc)?])?;
     if all.items().len() > 5 {
         return Ok(false);
     }
     lines_pass::<Brand, R>(
         rt,
         alloc,
-        &[&few, &many],
+        &[&bars, &more],
         &all,
         text.as_bytes(),
         threads,
@@ -227,9 +178,9 @@ fn pass_by_each<R: Threads + Wait + Sync>(
 const LINES: (u16, &str) = (
     12,
     "header
-MSFT,09:30:00,1.5000,2.6000,1.5000,2.6000,90,18,2.4500+0/90
+MSFT,09:30:00,1.5000,2.6000,1.5000,2.6000,30,6,2.1500+0/30
 MSFT,09:31:00,2.1000,2.1000,2.1000,2.1000,5,1,2.1000+0/5
-#8,09:30:00,4.0000,4.0000,4.0000,4.0000,5,1,4.0000+0/5
+#8,09:30:00,4.0000,4.0003,4.0000,4.0003,8589934597,2,4.0002+8589934582/8589934597
 #9,09:30:00,3.0000,3.1000,3.0000,3.1000,10,2,3.0500+0/10
 A,09:30:00,1.0000,1.0000,1.0000,1.0000,5,1,1.0000+0/5
 ",
@@ -244,9 +195,9 @@ fn lines_of_bars_in_parts_are_those_of_one_table(rt: HostRuntime) -> Result<(), 
 const LINES_OF_FAR_LOCATES: (u16, &str) = (
     60_000,
     "header
-MSFT,09:30:00,1.5000,2.6000,1.5000,2.6000,90,18,2.4500+0/90
+MSFT,09:30:00,1.5000,2.6000,1.5000,2.6000,30,6,2.1500+0/30
 MSFT,09:31:00,2.1000,2.1000,2.1000,2.1000,5,1,2.1000+0/5
-#8,09:30:00,4.0000,4.0000,4.0000,4.0000,5,1,4.0000+0/5
+#8,09:30:00,4.0000,4.0003,4.0000,4.0003,8589934597,2,4.0002+8589934582/8589934597
 #9,09:30:00,3.0000,3.1000,3.0000,3.1000,10,2,3.0500+0/10
 #60000,09:30:00,1.0000,1.0000,1.0000,1.0000,5,1,1.0000+0/5
 ",

@@ -10,7 +10,7 @@ use crate::rule::{CLAIMS_WORD, ClaimStep, CountStep};
 use std::alloc::Allocator;
 
 /// The answer to a claim. Each claim of a dispatcher has a number of its own, from 0 on.
-#[derive(Clone, Copy, Debug, PartialEq, Eq)]
+#[derive(Clone, Copy, PartialEq, Eq)]
 pub enum Claim {
     /// The claim gives the task to the seat: for the first time if the claim is below the number of tasks, and
     /// otherwise for the second time.

@@ -1,33 +1,30 @@
-use Rattle.std.proofs.Common.{◌+◌, ◌++◌, ◌∷◌, ◌∙◌, [], ap, arith, refl, sym, take, take_all, List, Bor, map}
-use Rattle.std.proofs.lemmas.List.{take_more}
-use Rattle.std.proofs.lemmas.List.Elements.{All-nil}
+use Rattle.std.proofs.Common.{refl, take_all, List, Bor, map}
+use Rattle.std.proofs.lemmas.List.Elements.{All-append, All-nil}
 use Rattle.std.proofs.lemmas.List.Folds.{flat_map-map}
 use Rattle.time_and_sales.specs.Lent.{lent}
-use Rattle.bar.specs.declared.bar.Bar.{Bar}
-use Rattle.bar.specs.OneBar.{IsTraded}
-use Rattle.bars.specs.Bars.{all_bars}
-use Rattle.bar_lines.specs.AtKeys.{bar_at}
 use Rattle.time_and_sales.specs.Ranges.{is_in_first}
-use Rattle.bar_lines.proofs.BarsInRanges.{first_as_locate, gathering, locate_of, sums_within}
-use Rattle.bar_lines.proofs.BarsBehind.{traded_more}
+use Rattle.bar.specs.declared.bar.Bar.{Bar}
+use Rattle.bars.specs.Bars.{all_bars}
+use Rattle.bars.specs.Steps.{bar_at}
+use Rattle.bars.proofs.JoinedTables.{alike_parts}
+use Rattle.bar_lines.specs.Told.{IsTold}
+use Rattle.bar_lines.proofs.BarsInRanges.{first_as_locate, locate_of, sums_within}
+use Rattle.bar_lines.proofs.NextBar.{range_of_more}
 use Rattle.bar_lines.proofs.bars_in_ranges.gathered.Goals as goal
 
 pub loop-table-preserved : goal.loop-table-preserved
 loop-table-preserved c =
-    let i = c.loop-table.table-index in
-    let tables = c.args.tables.now in
+    let more = range_of_more c.args.bounds.now c.args.tables.now c.loop-table.table-index c.table-item.result c.loop-table-test.true c.table-item.is in
+    let h = c.loop-table.invariant in
     record {
-      alike = grind (arith, gathering);
-      traded = c.in_ok-append_within.ensures.traded c.loop-table.invariant.traded;
-      tables = traded_more (take i tables) (take (i + 1) tables) c.table-item.result c.loop-table.invariant.tables c.form.ensures.traded
-          (take_more tables i c.table-item.result c.loop-table-test.true ∙ ap (λ t. take i tables ++ t ∷ []) (sym c.table-item.is));
+      alike = rw (more, c.in_ok-append_ticks.ensures) (alike_parts _ _ _ _ h.alike c.ticks_within-width.ensures.alike);
+      told = rw c.in_ok-append_ticks.ensures (All-append IsTold _ _ h.told c.ticks_within-width.ensures.told);
     }
 
 pub loop-table-init : goal.loop-table-init
 loop-table-init c = record {
-  alike = rw c.in_ok-keyed.ensures.items (λ key. refl);
-  traded = rw c.in_ok-keyed.ensures.items (All-nil IsTraded);
-  tables = All-nil IsTraded;
+  alike = rw c.in_ok-gathered.ensures.items (λ key. refl);
+  told = rw c.in_ok-gathered.ensures.items (All-nil IsTold);
 }
 
 pub returns-clause-alike : goal.returns-clause-alike
@@ -36,12 +33,7 @@ returns-clause-alike c =
     let all = take_all c.loop-table.table-index tables c.loop-table-test.false in
     rw (flat_map-map (λ (l : List Bar). l) (λ (t : Bor (List Bar)). t.now) tables) (rw all at c.loop-table.invariant.alike)
 
-pub returns-clause-traded : goal.returns-clause-traded
-returns-clause-traded c = c.loop-table.invariant.traded
-
 pub returns-clause-sums : goal.returns-clause-sums
 returns-clause-sums c =
-    let tables = c.args.tables.now in
-    let all = take_all c.loop-table.table-index tables c.loop-table-test.false in
-    sums_within (is_in_first locate_of c.args.bounds.now) (first_as_locate c.args.bounds.now) (map bar_at c.loop-table.keyed.items)
-    (all_bars (lent tables)) (returns-clause-alike c) (c.requires (rw all at c.loop-table.invariant.tables))
+    sums_within (is_in_first locate_of c.args.bounds.now) (first_as_locate c.args.bounds.now) (map bar_at c.loop-table.gathered.items)
+    (all_bars (lent c.args.tables.now)) (returns-clause-alike c) c.requires

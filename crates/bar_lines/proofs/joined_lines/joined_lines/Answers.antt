@@ -1,23 +1,21 @@
-use Rattle.std.proofs.Common.{◌≡◌, ◌<◌, false, All, List, map, take, ℕ, [], ◌∷◌, ◌++◌, sym, ap, ◌∙◌, arith, is_gt}
+use Rattle.std.proofs.Common.{◌≡◌, false, All, List, map, take, ℕ, [], ◌∷◌, ◌++◌, sym, ap, ◌∙◌, arith, is_gt}
 use Rattle.std.proofs.lemmas.Bool.{eqb-false, eqb-true}
 use Rattle.std.proofs.lemmas.List.{length-map, nil_from_length, take_all}
 use Rattle.std.proofs.lemmas.List.Elements.{All-contains, All-take, Contains-push}
-use Rattle.base.specs.declared.limits.TheConstants.{TIME_LIMIT}
 use Rattle.base.proofs.Lists.{flat_map_push}
 use Rattle.time_and_sales.specs.Names.{names_by}
 use Rattle.bar.specs.declared.bar.Bar.{Bar}
-use Rattle.bar.specs.OneBar.{IsTraded, key_cmp}
+use Rattle.bar.specs.OneBar.{key_cmp}
 use Rattle.bars.specs.Bars.{IsUnionOf}
-use Rattle.bar_lines.specs.AtKeys.{bar_at}
+use Rattle.bars.specs.Steps.{bar_at}
+use Rattle.bar_lines.specs.Told.{IsTold}
 use Rattle.bars.specs.Texts.{IsWritable, bar_line}
 use Rattle.bars.proofs.LastBar.{equal_from, joined_to_last, next_bar, put_behind_last}
+use Rattle.bars.proofs.Ticks.{no_tick}
 use Rattle.bars.proofs.JoinedTables.{union_of_none, joined_traded, one_union, table_has, union_of_one}
 use Rattle.bar.proofs.OneBar.{average_fits}
 use Rattle.bar_lines.proofs.joined_lines.joined_lines.Goals.{then-has_key_of, else-has_key_of+in_ok-write_bar}
 use Rattle.bar_lines.proofs.joined_lines.joined_lines.Goals as goal
-
-abbrev IsTold : Bar → Type 0
-IsTold bar = IsTraded bar × (bar.start < TIME_LIMIT)
 
 -- what a line asks of the current bar
 can_write : (bars done : List Bar) (i : ℕ) (bar : Bar) → All IsTold bars → IsUnionOf (take i bars) (done ++ bar ∷ []) → IsWritable bar
@@ -29,8 +27,8 @@ can_write bars done i bar told union =
 pub join-current-requires : goal.join-current-requires
 join-current-requires c =
     let h = c.loop-i.invariant in
-    let next = next_bar bar_at c.args.sorted.now c.loop-i.i c.index-sorted-i.result c.bar-bar.result (h.done ++ c.loop-i.current ∷ []) c.requires.rise
-    c.requires.sums (omega arith) (c.bar-bar.ensures ∙ ap bar_at c.index-sorted-i.is) h.union in
+    let next = next_bar bar_at c.args.sorted.now c.loop-i.i no_tick c.bar_at-bar.result (h.done ++ c.loop-i.current ∷ []) c.requires.rise
+    c.requires.sums (omega arith) c.bar_at-bar.ensures h.union in
     next.0.sums c.loop-i.current (Contains-push h.done c.loop-i.current) (equal_from _ (sym c.has_key_of.ensures ∙ c.if-has_key_of.true))
 
 pub write_bar-requires : goal.write_bar-requires
@@ -42,11 +40,11 @@ pub loop-i-preserved : goal.loop-i-preserved
 loop-i-preserved c =
     let name : ℕ → List ℕ = names_by c.args.names.now in
     let h = c.loop-i.invariant in
-    let bar = c.bar-bar.result in
+    let bar = c.bar_at-bar.result in
     let table = h.done ++ c.loop-i.current ∷ [] in
-    let next = next_bar bar_at c.args.sorted.now c.loop-i.i c.index-sorted-i.result bar table c.requires.rise
+    let next = next_bar bar_at c.args.sorted.now c.loop-i.i no_tick bar table c.requires.rise
     c.requires.sums (omega arith)
-    (c.bar-bar.ensures ∙ ap bar_at c.index-sorted-i.is) h.union in
+    c.bar_at-bar.ensures h.union in
     elim c.if-has_key_of.branch [
       | then-has_key_of w ↦
           let is = w.current-is ∙ w.join-current.ensures.value in
@@ -70,14 +68,14 @@ loop-i-preserved c =
 
 pub loop-i-init : goal.loop-i-init
 loop-i-init c =
-    let bar = c.bar-current.result in
+    let bar = c.bar_at-current.result in
     let some = eqb-false _ _ (sym c.is_empty.ensures ∙ c.if-is_empty.false) in
     record {
       done = [];
       text = c.in_ok-text.ensures.items;
-      union = (next_bar bar_at c.args.sorted.now 0 c.index-sorted-0.result bar [] c.requires.rise
+      union = (next_bar bar_at c.args.sorted.now 0 no_tick bar [] c.requires.rise
           c.requires.sums (omega (arith, some))
-          (c.bar-current.ensures ∙ ap bar_at c.index-sorted-0.is) union_of_none).1 (bar ∷ []) (union_of_one bar);
+          c.bar_at-current.ensures union_of_none).1 (bar ∷ []) (union_of_one bar);
       name = c.name-name.ensures;
     }
 

@@ -2,7 +2,7 @@ use Rattle.std.proofs.Common.{◌≡◌, List, [], ◌∷◌, ◌++◌, map, tak
 use Rattle.time_and_sales.specs.Names.{names_by}
 use Rattle.bar.specs.declared.bar.Bar.{Bar}
 use Rattle.bars.specs.Bars.{IsUnionOf}
-use Rattle.bar_lines.specs.AtKeys.{bar_at}
+use Rattle.bars.specs.Steps.{bar_at}
 use Rattle.bars.specs.Texts.{lines_text}
 use Rattle.bar_lines.proofs.joined_lines.joined_lines.Given as goal
 

@@ -1,4 +1,4 @@
-use Rattle.std.proofs.Common.{map-id, None, rules, refl, sym, ap}
+use Rattle.std.proofs.Common.{map-id, None, rules, sym, ap}
 use Rattle.std.proofs.lemmas.Result.{IfOk-weaker}
 use Rattle.bar.specs.declared.bar.Bar.{Bar}
 use Rattle.bars.specs.Bars.{joined_all}
@@ -10,14 +10,14 @@ use Rattle.bars.proofs.bar_table.unite.Goals as goal
 
 pub join_all-requires : goal.join_all-requires
 join_all-requires g c =
-    let order = rw (map-id, map-id) at (ordered (λ (b : Bar). b) (λ key. record no_bar { locate = key.locate; start = key.start }) (λ key. refl)
+    let order = rw (map-id, map-id) at (ordered (λ (b : Bar). b) no_bar
     c.args.bars.items c.sort_by_key.new.self.items c.in_ok-sort_by_key.ensures.permutation c.in_ok-sort_by_key.ensures.sorted
     c.in_ok-sort_by_key.ensures.stable (λ f a r q k. search rules)) in
     rw c.as_slice.ensures.value (record { rise = order.rise; sums = fits_in_order _ _ order c.requires })
 
 pub returns : goal.returns
 returns g c =
-    let order = rw (map-id, map-id) at (ordered (λ (b : Bar). b) (λ key. record no_bar { locate = key.locate; start = key.start }) (λ key. refl)
+    let order = rw (map-id, map-id) at (ordered (λ (b : Bar). b) no_bar
     c.args.bars.items c.sort_by_key.new.self.items c.in_ok-sort_by_key.ensures.permutation c.in_ok-sort_by_key.ensures.sorted
     c.in_ok-sort_by_key.ensures.stable (λ f a r q k. search rules)) in
     let alike : AreJoinedAlike c.args.bars.items c.sort_by_key.new.self.items = λ key. ap (joined_all None) (sym (order.each key)) in

@@ -1,7 +1,7 @@
 use Rattle.std.proofs.Common.{◌≡◌, ◌++◌, ◌∙◌, IsPermutation, ap, arith, drop, length, rules, subst, take}
-use Rattle.std.proofs.lemmas.List.Sorted.{IsPermutation-trans, length_permutation}
+use Rattle.std.proofs.lemmas.List.Sorted.{IsNonDecreasingBy-from_sort_by_key, IsPermutation-trans, length_permutation}
 use Rattle.std.proofs.Math.Seq.{take-append_seam}
-use Rattle.bars.proofs.Ticks.{ticks_rise}
+use Rattle.bars.specs.declared.tick.Tick.{Tick}
 use Rattle.bars.proofs.tick.put_ticks_in_order.Goals as goal
 
 pub returns-clause-permutation : goal.returns-clause-permutation
@@ -17,6 +17,7 @@ returns-clause-permutation c =
     IsPermutation-trans ticks moved sorted (subst (λ l. IsPermutation l moved) c.as_mut_slice.ensures.value c.put_by_keys.ensures)
     (subst (λ l. IsPermutation l sorted) all c.sort_unstable_by_key.ensures.permutation)
 
-pub returns-clause-rise : goal.returns-clause-rise
-returns-clause-rise c =
-    ticks_rise c.args.width c.sort_unstable_by_key.new.self.items c.requires c.sort_unstable_by_key.ensures.sorted (λ f a r q k. search rules)
+pub returns-clause-locates : goal.returns-clause-locates
+returns-clause-locates c =
+    IsNonDecreasingBy-from_sort_by_key (λ (t : Tick). t.locate) c.sort_unstable_by_key.new.self.items c.sort_unstable_by_key.ensures.sorted
+    (λ a r f' k. search rules)

@@ -2,12 +2,20 @@ use Rattle.std.proofs.Common.{[], ◌++◌, ◌∙◌, ap, ap₂, refl, subst}
 use Rattle.probe.specs.Pricing.{priced}
 use Rattle.probe.specs.Selection.{admits, kept}
 use Rattle.probe.proofs.KeptSales.{kept_have_shares}
+use Rattle.buckets.proofs.PricedParts.{kept_fit, priced_fit}
 use Rattle.buckets.proofs.trading.take_executions.Goals as goal
 
-pub take-requires : goal.take-requires
-take-requires g c =
+pub take-requires-clause-shares : goal.take-requires-clause-shares
+take-requires-clause-shares g c =
     rw (c.as_slice.ensures.value, c.keep.ensures)
     (kept_have_shares c.breaks.result.now (admits c.selection.result.now) c.price_into.new.priced.sales.items)
+
+pub take-requires-clause-fit : goal.take-requires-clause-fit
+take-requires-clause-fit g c =
+    let rows = c.requires.priced.0 in
+    let pricing = c.in_ok-price_into.ensures.priced rows [] c.requires.priced.1 (record { sales = c.clear.ensures.items; unknown = refl }) in
+    rw (c.as_slice.ensures.value, c.keep.ensures, pricing.sales)
+    (kept_fit c.breaks.result.now (admits c.selection.result.now) (priced rows c.args.executions.now) (priced_fit rows c.args.executions.now c.requires.fit))
 
 pub returns-clause-unknown : goal.returns-clause-unknown
 returns-clause-unknown g c = λ rows is. (c.in_ok-price_into.ensures.priced rows [] is (record { sales = c.clear.ensures.items; unknown = refl })).unknown

@@ -1,5 +1,6 @@
-use Rattle.std.proofs.Common.{◌≡◌, ℕ, ◌+◌, List, [], ◌∷◌, ◌++◌, Some, take, drop, slice_get, take-append-drop, ap, subst, sym, ◌∙◌}
-use Rattle.std.proofs.lemmas.List.{take_more}
+use Rattle.std.proofs.Common.{◌≡◌, ℕ, ◌+◌, List, [], ◌∷◌, ◌++◌, Some, take, drop, length, slice_get, take-append-drop, ap, subst, sym, ◌∙◌, arith}
+use Rattle.std.proofs.lemmas.List.{length-map, take_all, take_more}
+use Rattle.std.specs.Arc.{arc_value}
 use Rattle.std.proofs.lemmas.Option.{get_or_from_slice_get, slice_get_within}
 use Rattle.pipelines.proofs.alone.total_of.Goals as goal
 
@@ -28,3 +29,10 @@ loop-task-preserved g c =
     subst (λ l. g.W.Work.IsTotalOf l c.add.new.total) (sym (one_more c.args.inputs.now c.loop-task.task c.deref.result.now at))
     (c.in_ok-add.ensures.ok (take c.loop-task.task c.args.inputs.now) c.deref.result.now c.loop-task.invariant c.in_ok-output.ensures
     (starts g.W.Work.IsAdmissible c.args.inputs.now c.loop-task.task c.deref.result.now at c.all.ensures.admissible))
+
+pub returns-clause-total : goal.returns-clause-total
+returns-clause-total g c =
+    let counted = length-map c.all.result.now arc_value in
+    subst (λ l. g.W.Work.IsTotalOf l c.loop-task.total)
+    (take_all c.loop-task.task c.args.inputs.now (omega (arith, counted, ap length c.all.ensures.inputs, c.all.ensures.few, c.loop-task-test.false)))
+    c.loop-task.invariant

@@ -40,15 +40,15 @@ returns-in_err-go_on-clause-fault g c =
     let p = err_from_is_err_and c.from_residual-in_err-go_on.result c.from_residual-in_err-go_on.ensures.1 in
     rw (p.1, p.2) (c.in_err-go_on.ensures.fault c.args.source.now c.loop-scanned.invariant.to)
 
-pub returns-in_err-with_last-clause-fault : goal.returns-in_err-with_last-clause-fault
-returns-in_err-with_last-clause-fault g c =
-    let p = err_from_is_err_and c.from_residual-in_err-with_last.result c.from_residual-in_err-with_last.ensures.1 in
+pub returns-in_err-add_last-clause-fault : goal.returns-in_err-add_last-clause-fault
+returns-in_err-add_last-clause-fault g c =
+    let p = err_from_is_err_and c.from_residual-in_err-add_last.result c.from_residual-in_err-add_last.ensures.1 in
     rw (p.1, p.2) (gave_some c.loop-scanned.invariant.to.ahead)
 
 pub returns-clause-scanned : goal.returns-clause-scanned
 returns-clause-scanned g c =
     let is_last : c.loop-scanned.scanned.batch.is_last ≡ true = search rules in
-    let last = c.in_ok-with_last.ensures in
+    let last = c.in_ok-add_last.ensures in
     rw last.2 (ended c.args.settings.limit_in_range c.loop-scanned.invariant.to is_last last.1)
 
 pub returns-then-of-eq1-clause-scanned : goal.returns-then-of-eq1-clause-scanned

@@ -1,4 +1,4 @@
-use Rattle.std.proofs.Common.{◌≡◌, ℕ, ◌+◌, ◌≤◌, List, ◌++◌, length, take, drop, arith, ap, sym, ◌∙◌, append_assoc}
+use Rattle.std.proofs.Common.{◌≡◌, ℕ, ◌+◌, ◌≤◌, List, ◌++◌, length, take, drop, take_at, arith, ap, sym, ◌∙◌, append_assoc, Result, Ok, Err, OnErr}
 use Rattle.std.proofs.Math.Seq.{take-append-add}
 use Rattle.std.proofs.lemmas.List.{drop-append-le, length-take-le, take-append-le, take-take}
 use Rattle.sources.proofs.Given.{more_given}
@@ -44,3 +44,43 @@ returns-clause-piece g c =
           ∙ ap (λ l. l ++ take taken into) (c.self.view_is ∙ c.to_front.ensures),
       length-take-le taken into count,
     )
+
+-- ---- what is left of the bytes after a refusal
+
+-- the vector was made longer
+longer_kept : (old longer : List ℕ) (start end : ℕ) → take (length old) longer ≡ old → end ≤ length old
+    → drop start (take end longer) ≡ drop start (take end old)
+longer_kept old longer start end begins within =
+    ap (drop start) (sym (take-take end (length old) longer within) ∙ ap (take end) begins)
+
+-- and others were written behind the first `end` bytes
+written_kept : (old longer into post tail : List ℕ) (start end total : ℕ) → take (length old) longer ≡ old → end ≤ length old → end ≤ total
+    → drop start (take end (take total ((take end longer ++ (into ++ post)) ++ tail))) ≡ drop start (take end old)
+written_kept old longer into post tail start end total begins within fits =
+    let front = take end longer in
+    let same : front ≡ take end old = sym (take-take end (length old) longer within) ∙ ap (take end) begins in
+    ap (drop start) (take-take end total _ fits ∙ ap (take end) (append_assoc front (into ++ post) tail)
+    ∙ take_at front ((into ++ post) ++ tail) end (ap length same ∙ length-take-le end old within) ∙ same)
+
+on_err : {T E : Type 0} (r : Result T E) (P : Type 0) → P → OnErr r P
+on_err (Ok x) P p = tt
+on_err (Err y) P p = p
+
+pub returns-in_err-lengthen-clause-same : goal.returns-in_err-lengthen-clause-same
+returns-in_err-lengthen-clause-same g c =
+    let s = c.self.inside in
+    on_err c.from_residual.result _ (longer_kept s.bytes.items c.lengthen.new.bytes.items s.start s.end c.lengthen.ensures.front
+    (omega (arith, c.self.invariant, s.bytes.ok.0)) ∙ (c.self.view_is ∙ c.to_front.ensures))
+
+pub returns-in_err-taken-clause-same : goal.returns-in_err-taken-clause-same
+returns-in_err-taken-clause-same g c =
+    let s = c.self.inside in
+    on_err c.from_residual-in_err-taken.result _ (written_kept s.bytes.items c.deref_mut.result.now c.take.new.into _ _ s.start s.end _
+    (rw c.deref_mut.ensures.value c.lengthen.ensures.front) (omega (arith, c.self.invariant, s.bytes.ok.0))
+    (omega (arith, c.in_ok-lengthen.ensures.long)) ∙ (c.self.view_is ∙ c.to_front.ensures))
+
+pub returns-then-taken-left-clause-same : goal.returns-then-taken-left-clause-same
+returns-then-taken-left-clause-same g c =
+    let s = c.self.inside in
+    written_kept s.bytes.items c.deref_mut.result.now c.take.new.into _ _ s.start s.end _ (rw c.deref_mut.ensures.value c.lengthen.ensures.front)
+    (omega (arith, c.self.invariant, s.bytes.ok.0)) (omega (arith, c.in_ok-lengthen.ensures.long)) ∙ (c.self.view_is ∙ c.to_front.ensures)

@@ -11,5 +11,5 @@ returns-clause-total g c =
     let count = length (arc_value c.in_ok-inputs.inputs) in
     let counted = ap length c.in_ok-inputs.ensures ∙ length-range_with_len 0 (length inputs) in
     let all : take count inputs ≡ c.args.inputs.now = take_all count inputs (omega (arith, counted)) ∙ sym c.requires.known in
-    IfOk-weaker c.complete.result (λ total. g.W.Work.IsTotalOf (take count inputs) total) (λ total. g.W.Work.IsTotalOf (c.args.inputs.now) total)
-    (λ total is. subst (λ l. g.W.Work.IsTotalOf l total) all is) c.complete.ensures.total
+    IfOk-weaker c.total_of_shared.result (λ total. g.W.Work.IsTotalOf (take count inputs) total) (λ total. g.W.Work.IsTotalOf (c.args.inputs.now) total)
+    (λ total is. subst (λ l. g.W.Work.IsTotalOf l total) all is) c.total_of_shared.ensures.total
