@@ -20,7 +20,7 @@ use std::io;
 
 /// What `--version` says after the program's name: the version, its date as in `CHANGELOG.md`, and
 /// the logic that it was proved in, which `rt version` names.
-const VERSION: &str = "0.2.15 (2026-12-01, proved in Rattle's logic dac8208d650f15bf)";
+const VERSION: &str = "0.2.16 (2026-12-01, proved in Rattle's logic dac8208d650f15bf)";
 
 /// How the program is called: the query is one word, which a shell takes in quotes.
 const USAGE: &str = "itch_bars [OPTIONS] <FILE> \"<QUERY>\"";
