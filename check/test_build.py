@@ -56,11 +56,11 @@ class Builds(Tree):
             self.files(changes)
             running = self.script("-", "shows")
             status, out, _ = self.ends(running)
-            self.assertEqual((status, out.split()[3]), (0, str(running.pid)), "the program isn't the process that was started")
-            self.assertEqual(out.split()[4], (self.top / "bin/tunables").read_text().strip())
+            wanted = (0, str(running.pid), (self.top / "bin/tunables").read_text().strip())
+            self.assertEqual((status, *out.split()[3:5]), wanted, "the program isn't the process that was started")
             self.assertEqual(int(out.split()[-1], 16) & 0x1001000, 0, "it ignores signals that Python does")
-        for call in (lambda *words, **more: self.build("--run", *words, **more), self.script):  # (the latter by the quick look)
-            self.assertEqual(self.ends(call("-", "shows", GLIBC_TUNABLES="mine"))[1].split()[4], "mine")
+        for call, *words in ((self.build, "--run"), (self.script,)):  # (the latter by the quick look)
+            self.assertEqual(self.ends(call(*words, "-", "shows", GLIBC_TUNABLES="mine"))[1].split()[4], "mine")
         self.assertEqual(self.ends(self.script("day", "fault"))[::2], (1, "fault: as asked\n"))
 
     def test_what_stops_a_build_is_named_at_once(self):

@@ -108,8 +108,7 @@ class OfProgram(Case):
         fronts = [self.of("-", "sales", input=it) for it in itertools.accumulate(frames_of(example), initial=b"")]
         for way, (gives, change, may_come) in itertools.product(WAYS, (
             (1_000, "truncate -s 466 changing", fronts), (1_000, "cp longer new; mv new changing", may_come[:1]),
-            (1_000, "cat sale >>changing", may_come), (100_000, "cat sale >>changing", may_come),
-        )):
+            (1_000, "cat sale >>changing", may_come), (100_000, "cat sale >>changing", may_come))):
             for reading in itertools.count(1):
                 changing = self.file("changing", example)
                 ran, _ = self.over(way, changing, GIVES=gives, AT=reading, COMMAND=change)
@@ -128,8 +127,7 @@ class OfProgram(Case):
         for words, status, out, errors in (
             ("precious sales <&-", 0, SALE, ""), ("precious sales --morsel 1 <&- 2>&-", 0, SALE, ""), ("- sales <&-", 4, "", READING),
             ("precious bars <&- 2>&-", 2, "", ""), ("day 2>/dev/full", 2, "", ""), ("cut_off sales 2>/dev/full", 1, "", ""),
-            ("no_such_file sales <&- >&- 2>&-", 4, "", ""),
-            *((f"{words} {closed}", 5, "", errors) for closed, errors in outputs
+            ("no_such_file sales <&- >&- 2>&-", 4, "", ""), *((f"{words} {closed}", 5, "", errors) for closed, errors in outputs
               for words in ("precious sales", "precious sales --morsel 1", "--help", "--version")),
         ):
             precious = self.file("precious", DAY)

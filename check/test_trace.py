@@ -37,8 +37,7 @@ EDGES = [
     trade(128, 1, after(61), 30_000), trade(128, 3, after(61), 30_100), broken(128, 1, after(62)), broken(128, 1, after(90)),
     broken(101, 1, after(62)), executed_at(1, 129, 30_200, 1, after(50)), broken(129, 1, after(3_600)),
     named(2, "AB", after(31)), named(3, "NEW", after(31)), named(9, "BACK"), named(9, "GONE"), named(9, "BACK"),
-    frame(b"Z" * 36), frame(b"Y"), trade(130, 1, 2**48 - 1, 30_300), message("S", 0, 2**48 - 1, "C"), frame(b""),
-]  # fmt: skip
+    frame(b"Z" * 36), frame(b"Y"), trade(130, 1, 2**48 - 1, 30_300), message("S", 0, 2**48 - 1, "C"), frame(b"")]  # fmt: skip
 SYMBOLS = "AB OLD NEW #2 A?B?C LONGNAME LONG ab #0 #1 #4 #04 #65535 #65536".split()
 SPANS = [(f"09:{since}", f"09:{until}") for since, until in (("29:59", "30:00"), ("30:00", "30:01"), ("30:59", "31:01"))]
 MOMENTS = "00:00:00 09:30:02 09:30:08 09:30:09 09:30:31 09:31:02 10:29:59 10:30:00 24:00:00".split()
