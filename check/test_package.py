@@ -32,7 +32,7 @@ class Package(Case):
         held = {str(it.relative_to(tree)) for it in tree.rglob("*") if it.is_file()}
         wanted = {f"{DOC}/{it}" for it in [*FILES, *(str(it.relative_to(TOP)) for it in TOP.glob("recipes/*.*"))]}
         self.assertEqual(held, wanted | {"bin/itch_bars", "libexec/itch_bars", "bin/trace_sales", "share/man/man1/itch_bars.1"})
-        self.assertIn((TOP / "bin/tunables").read_text()[:-1], (tree / "bin/itch_bars").read_text())
+        self.assertIn(f'\nexport GLIBC_TUNABLES="${{GLIBC_TUNABLES-{(TOP / "bin/tunables").read_text()[:-1]}}}"\n', (tree / "bin/itch_bars").read_text())
         self.gives(run("sha256sum", "--quiet", "-c", f"{DOC}/SHA256SUMS", cwd=tree))
         self.assertEqual(len((tree / DOC / "SHA256SUMS").read_text().splitlines()), len(held) - 1)
         self.folder.chmod(0o755)

@@ -127,7 +127,8 @@ class OfProgram(Case):
         for words, status, out, errors in (
             ("precious sales <&-", 0, SALE, ""), ("precious sales --morsel 1 <&- 2>&-", 0, SALE, ""), ("- sales <&-", 4, "", READING),
             ("precious bars <&- 2>&-", 2, "", ""), ("day 2>/dev/full", 2, "", ""), ("cut_off sales 2>/dev/full", 1, "", ""),
-            ("no_such_file sales <&- >&- 2>&-", 4, "", ""), *((f"{words} {closed}", 5, "", errors) for closed, errors in outputs
+            ("no_such_file sales <&- >&- 2>&-", 4, "", ""),
+            *((f"{words} {closed}", 5, "", errors) for closed, errors in outputs
               for words in ("precious sales", "precious sales --morsel 1", "--help", "--version")),
         ):
             precious = self.file("precious", DAY)
